@@ -1,0 +1,357 @@
+//! Rows of cells: the plain body of the tree's nested value.
+ghost use Rattle.std.specs.Prelude.{◌≡◌, ◌-◌, ◌*◌, ◌≤◌, ◌^◌, false, true, if◌then◌else◌, IfOk, MatchOption, is_some, min};
+ghost use Rattle.wm_tree.specs.Change.{append, put_after, put_last, with_layout, without};
+ghost use Rattle.wm_tree.specs.Forest.{end, con};
+ghost use Rattle.wm_tree.specs.Look.{same, has, only, parent_in, newcomer_share, row_length, share_sum, first_alone, rest_of};
+ghost use Rattle.wm_tree.specs.Row.{alone, row_of};
+
+use crate::part::{NodeKind, Part, SpacePart};
+use std::alloc::{AllocError, Global};
+use std::marker::Model;
+use std::mem;
+use wm_base::{ConId, Layout};
+
+/// The share of the first node in a row.
+const FIRST_SHARE: u32 = 65_536;
+
+/// A row of nodes, from its first cell on.
+#[cycle(row)]
+#[derive(Drop)]
+pub struct Row {
+    pub first: Option<Box<Cell>>,
+}
+
+/// A node with the rows of its children and of its floating windows, and the rest of its own row.
+#[cycle(row)]
+#[derive(Drop)]
+pub struct Cell {
+    pub part: Part,
+    pub kids: Row,
+    pub floats: Row,
+    pub rest: Row,
+}
+
+impl Model for Row {
+    ghost use Rattle.wm_tree.specs.Forest.{Forest, node_count};
+    ghost use Rattle.wm_tree.specs.ForestCode.{forest_code};
+
+    ghost Value = { Forest };
+
+    ghost coded = { forest_code };
+
+    ghost use Rattle.wm_tree.specs.Row.{row_from};
+
+    ghost view = { λ row. row_from row.first };
+
+    ghost size = { node_count };
+
+    ghost use Rattle.wm_tree.specs.ForestFalls.{depth_le-node_count};
+
+    ghost size_decreases = { λ a h. depth_le-node_count a };
+}
+
+impl Cell {
+    /// Whether the node is this one, or is below it at any depth.
+    pub fn holds(&self, id: ConId) -> bool
+        ensures { result ≡ has id (alone self.now) }
+    {
+        self.part.id == id || self.kids.has(id) || self.floats.has(id)
+    }
+
+    #[cycle(set_layout)]
+    #[tactic(auto, using(crate::proofs::ForestLemmas::at_absent))]
+    fn set_layout(&mut self, id: ConId, layout: Layout) -> bool
+        ensures found { result ≡ has id (row_of self.old) }
+        ensures set { row_of self.new ≡ with_layout id layout (row_of self.old) }
+    {
+        let Cell {
+            part,
+            kids,
+            floats,
+            rest,
+        } = self;
+        if part.id == id {
+            part.kind = part.kind.laid_out(layout);
+            true
+        } else {
+            kids.set_layout(id, layout)
+                || floats.set_layout(id, layout)
+                || rest.set_layout(id, layout)
+        }
+    }
+
+    /// Takes a node other than this one out of the rows below it and behind it.
+    #[cycle(take_out)]
+    #[tactic(auto, using(crate::proofs::ForestLemmas::at_absent))]
+    fn take_out_below(&mut self, id: ConId) -> Option<Row>
+        requires { same self.old.part.id id ≡ false }
+        ensures taken { MatchOption result (has id (row_of self.old) ≡ false)
+            (λ row. (has id (row_of self.old) ≡ true) × (row ≡ only id (row_of self.old))) }
+        ensures rest { row_of self.new ≡ without id (row_of self.old) }
+    {
+        let Cell {
+            part: _,
+            kids,
+            floats,
+            rest,
+        } = self;
+        if let Some(row) = kids.take_out(id) {
+            return Some(row);
+        }
+        if let Some(row) = floats.take_out(id) {
+            return Some(row);
+        }
+        rest.take_out(id)
+    }
+
+    #[cycle(put_after)]
+    #[tactic(auto, using(crate::proofs::ForestLemmas::at_absent))]
+    fn put_after(&mut self, id: ConId, row: &mut Row) -> bool
+        ensures found { result ≡ has id (row_of self.old) }
+        ensures put { row_of self.new ≡ put_after id row.old (row_of self.old) }
+        ensures left { row.new ≡ (if has id (row_of self.old) then end else row.old) }
+    {
+        let Cell {
+            part,
+            kids,
+            floats,
+            rest,
+        } = self;
+        if part.id == id {
+            let behind = mem::replace(rest, Row::new());
+            row.append(behind);
+            mem::swap(rest, row);
+            true
+        } else {
+            kids.put_after(id, row) || floats.put_after(id, row) || rest.put_after(id, row)
+        }
+    }
+
+    #[cycle(put_last)]
+    #[tactic(auto, using(crate::proofs::ForestLemmas::at_absent))]
+    fn put_last(&mut self, id: ConId, row: &mut Row) -> bool
+        ensures found { result ≡ has id (row_of self.old) }
+        ensures put { row_of self.new ≡ put_last id row.old (row_of self.old) }
+        ensures left { row.new ≡ (if has id (row_of self.old) then end else row.old) }
+    {
+        let Cell {
+            part,
+            kids,
+            floats,
+            rest,
+        } = self;
+        if part.id == id {
+            kids.append(mem::replace(row, Row::new()));
+            true
+        } else {
+            kids.put_last(id, row) || floats.put_last(id, row) || rest.put_last(id, row)
+        }
+    }
+}
+
+impl Row {
+    pub fn new() -> Row
+        ensures { result ≡ end }
+    {
+        Row { first: None }
+    }
+
+    /// A row of one node with nothing below it.
+    pub fn of(alloc: Global, part: Part) -> Result<Row, AllocError>
+        ensures { IfOk result (λ row. row ≡ con part end end end) }
+    {
+        let cell = Cell {
+            part,
+            kids: Row::new(),
+            floats: Row::new(),
+            rest: Row::new(),
+        };
+        let cell = Box::new(alloc, cell)?;
+        Ok(Row { first: Some(cell) })
+    }
+
+    /// Whether the node is here, at any depth.
+    pub fn has(&self, id: ConId) -> bool
+        ensures { result ≡ has id self.now }
+    {
+        match &self.first {
+            None => false,
+            Some(cell) => {
+                cell.part.id == id || cell.kids.has(id) || cell.floats.has(id) || cell.rest.has(id)
+            }
+        }
+    }
+
+    /// The cell of the node.
+    pub fn find(&self, id: ConId) -> Option<&Cell>
+        ensures { MatchOption result
+            ((has id self.now ≡ false) × (only id self.now ≡ end))
+            (λ cell. (has id self.now ≡ true) × (only id self.now ≡ alone cell.now)) }
+    {
+        let cell = match &self.first {
+            None => return None,
+            Some(cell) => cell,
+        };
+        if cell.part.id == id {
+            return Some(cell);
+        }
+        if let Some(found) = cell.kids.find(id) {
+            return Some(found);
+        }
+        if let Some(found) = cell.floats.find(id) {
+            return Some(found);
+        }
+        cell.rest.find(id)
+    }
+
+    /// The node that holds this one; `above` holds the row itself.
+    pub fn parent(&self, above: ConId, id: ConId) -> Option<ConId>
+        ensures value { result ≡ parent_in above id self.now }
+        ensures found { is_some result ≡ has id self.now }
+    {
+        let cell = match &self.first {
+            None => return None,
+            Some(cell) => cell,
+        };
+        if cell.part.id == id {
+            return Some(above);
+        }
+        if let Some(parent) = cell.kids.parent(cell.part.id, id) {
+            return Some(parent);
+        }
+        if let Some(parent) = cell.floats.parent(cell.part.id, id) {
+            return Some(parent);
+        }
+        cell.rest.parent(above, id)
+    }
+
+    /// Adds the nodes of a row at the end.
+    pub fn append(&mut self, row: Row)
+        ensures { self.new ≡ append self.old row }
+    {
+        match &mut self.first {
+            None => *self = row,
+            Some(cell) => cell.rest.append(row),
+        }
+    }
+
+    /// Takes out the first node with all that is below it. Nothing where the row is at its end.
+    pub fn take_first(&mut self) -> Row
+        ensures taken { result ≡ first_alone self.old }
+        ensures rest { self.new ≡ rest_of self.old }
+    {
+        match self.first.take() {
+            None => Row::new(),
+            Some(mut cell) => {
+                mem::swap(self, &mut cell.rest);
+                Row { first: Some(cell) }
+            }
+        }
+    }
+
+    /// Takes the node out with all that is below it. `None` exactly where it is not here.
+    #[cycle(take_out)]
+    pub fn take_out(&mut self, id: ConId) -> Option<Row>
+        ensures taken { MatchOption result (has id self.old ≡ false)
+            (λ row. (has id self.old ≡ true) × (row ≡ only id self.old)) }
+        ensures rest { self.new ≡ without id self.old }
+    {
+        match &mut self.first {
+            None => None,
+            Some(cell) if cell.part.id == id => Some(self.take_first()),
+            Some(cell) => cell.take_out_below(id),
+        }
+    }
+
+    /// Moves the nodes of a row behind the node, where it is here. Says whether it is.
+    #[cycle(put_after)]
+    pub fn put_after(&mut self, id: ConId, row: &mut Row) -> bool
+        ensures found { result ≡ has id self.old }
+        ensures put { self.new ≡ put_after id row.old self.old }
+        ensures left { row.new ≡ (if has id self.old then end else row.old) }
+    {
+        match &mut self.first {
+            None => false,
+            Some(cell) => cell.put_after(id, row),
+        }
+    }
+
+    /// Moves the nodes of a row behind the last child of the node, where it is here. Says whether it is.
+    #[cycle(put_last)]
+    pub fn put_last(&mut self, id: ConId, row: &mut Row) -> bool
+        ensures found { result ≡ has id self.old }
+        ensures put { self.new ≡ put_last id row.old self.old }
+        ensures left { row.new ≡ (if has id self.old then end else row.old) }
+    {
+        match &mut self.first {
+            None => false,
+            Some(cell) => cell.put_last(id, row),
+        }
+    }
+
+    /// Gives the workspace another layout, where it is here. Says whether the node is.
+    #[cycle(set_layout)]
+    pub fn set_layout(&mut self, id: ConId, layout: Layout) -> bool
+        ensures found { result ≡ has id self.old }
+        ensures set { self.new ≡ with_layout id layout self.old }
+    {
+        match &mut self.first {
+            None => false,
+            Some(cell) => cell.set_layout(id, layout),
+        }
+    }
+
+    /// How many nodes the row has, but no more than are counted here: `most`.
+    pub fn len_up_to(&self, most: usize) -> usize
+        ensures { result ≡ min most (row_length self.now) }
+    {
+        match &self.first {
+            None => 0,
+            Some(_) if most == 0 => 0,
+            Some(cell) => 1 + cell.rest.len_up_to(most - 1),
+        }
+    }
+
+    /// The sum of the shares of the row's nodes.
+    pub fn share_sum(&self) -> u64
+        requires { row_length self.now ≤ 2 ^ 32 }
+        ensures sum { result ≡ share_sum self.now }
+        ensures bound { result ≤ row_length self.now * (2 ^ 32 - 1) }
+    {
+        match &self.first {
+            None => 0,
+            Some(cell) => u64::from(cell.part.kind.share()) + cell.rest.share_sum(),
+        }
+    }
+
+    /// The share that a newcomer to the row gets: the mean of its nodes' shares, or 65,536 in an empty row.
+    pub fn newcomer_share(&self) -> u32
+        requires { row_length self.now ≤ 256 }
+        ensures { result ≡ newcomer_share self.now }
+    {
+        let count = self.len_up_to(256);
+        if count == 0 {
+            FIRST_SHARE
+        } else {
+            (self.share_sum() / count as u64) as u32
+        }
+    }
+
+    /// An equal row.
+    pub fn copy(&self, alloc: Global) -> Result<Row, AllocError>
+        ensures { IfOk result (λ row. row ≡ self.now) }
+    {
+        let cell = match &self.first {
+            None => return Ok(Row::new()),
+            Some(cell) => cell,
+        };
+        let copy = Cell {
+            part: cell.part,
+            kids: cell.kids.copy(alloc)?,
+            floats: cell.floats.copy(alloc)?,
+            rest: cell.rest.copy(alloc)?,
+        };
+        let copy = Box::new(alloc, copy)?;
+        Ok(Row { first: Some(copy) })
+    }
+}

@@ -1,0 +1,280 @@
+//! The tree: the nodes, the order of recency, the current output and the next id.
+ghost use Rattle.std.specs.Prelude.{◌≡◌, ◌≢◌, false, true, Err, None, IfOk, IfErr, OnOk, OnErr, IsOk, is_some, IfSome, MatchOption};
+ghost use Rattle.std.specs.Option.{option_copied};
+ghost use Rattle.wm_tree.specs.Look.{con_kind, has, kind_of, newcomer_share, output_kind, same, space_kind};
+ghost use Rattle.wm_tree.specs.TreeValue.{attached, children, detached, focused, id, named, opening, parent, passed_limit, with_raised, with_space_layout, root, siblings, IsAttachCause, IsPlace};
+ghost use Rattle.wm_tree.specs.declared.place.TreeRefusal.TheVariants.{Full, Missing};
+ghost use Rattle.wm_tree.specs.declared.place.TreeRefusal.TheVariants as refusals;
+
+use crate::cursor::Cursor;
+use crate::part::{ConPart, NodeKind, OutputPart, Part, SpacePart};
+use crate::place::{NewCon, Place, TreeRefusal};
+use crate::recency;
+use crate::row::Row;
+use std::alloc::{AllocError, Global};
+use std::marker::Model;
+use wm_base::{ConId, Layout, Limit, NoMemory, Rect};
+
+/// How many tiled children a container has at most.
+const MAX_CHILDREN: usize = 256;
+
+/// The greatest id that is given.
+const MAX_ID: u32 = 4_000_000_000;
+
+/// The id of the node that holds the outputs.
+const ROOT: ConId = ConId(1);
+
+/// The container tree of a desktop.
+#[derive(Drop)]
+pub struct Tree {
+    alloc: Global,
+    outputs: Row,
+    recency: Vec<ConId>,
+    current: ConId,
+    next_id: u32,
+}
+
+impl Model for Tree {
+    ghost use Rattle.wm_tree.specs.TreeValue.{TreeValue, tree_code};
+
+    ghost Value = { TreeValue };
+
+    ghost coded = { tree_code };
+
+    ghost view = { λ t. record { outputs = t.outputs; recency = t.recency.items; current = t.current; next_id = t.next_id } };
+}
+
+impl Tree {
+    /// The opening tree of one output with this rectangle: root 1, output 2, and the workspace 3 that it shows.
+    pub fn start(alloc: Global, rect: Rect) -> Result<Tree, NoMemory>
+        ensures { IfOk result (λ tree. tree ≡ opening rect) }
+    {
+        let output = OutputPart {
+            rect,
+            shown: ConId(3),
+        };
+        let space = SpacePart {
+            layout: Layout::SplitH,
+        };
+        let mut outputs = Row::of(
+            alloc,
+            Part {
+                id: ConId(2),
+                kind: NodeKind::Output(output),
+            },
+        )?;
+        let mut spaces = Row::of(
+            alloc,
+            Part {
+                id: ConId(3),
+                kind: NodeKind::Space(space),
+            },
+        )?;
+        outputs.put_last(ConId(2), &mut spaces);
+        let mut recency = Vec::new(alloc);
+        recency.push(ConId(3))?;
+        Ok(Tree {
+            alloc,
+            outputs,
+            recency,
+            current: ConId(2),
+            next_id: 4,
+        })
+    }
+
+    /// An equal tree.
+    pub fn copy(&self) -> Result<Tree, NoMemory>
+        ensures { IfOk result (λ tree. tree ≡ self.now) }
+    {
+        let outputs = self.outputs.copy(self.alloc)?;
+        let recency = Vec::from_slice(self.alloc, &self.recency)?;
+        Ok(Tree {
+            alloc: self.alloc,
+            outputs,
+            recency,
+            current: self.current,
+            next_id: self.next_id,
+        })
+    }
+
+    /// The output with this id. `None` exactly where the id names no output.
+    pub fn output(&self, id: ConId) -> Option<&OutputPart>
+        ensures { option_copied result ≡ kind_of output_kind id self.now.outputs }
+    {
+        match self.outputs.find(id)?.part.kind {
+            NodeKind::Output(ref part) => Some(part),
+            NodeKind::Space(_) | NodeKind::Con(_) => None,
+        }
+    }
+
+    /// The workspace with this id. `None` exactly where the id names no workspace.
+    pub fn space(&self, id: ConId) -> Option<&SpacePart>
+        ensures { option_copied result ≡ kind_of space_kind id self.now.outputs }
+    {
+        match self.outputs.find(id)?.part.kind {
+            NodeKind::Space(ref part) => Some(part),
+            NodeKind::Output(_) | NodeKind::Con(_) => None,
+        }
+    }
+
+    /// The container with this id. `None` exactly where the id names no container.
+    pub fn container(&self, id: ConId) -> Option<&ConPart>
+        ensures { option_copied result ≡ kind_of con_kind id self.now.outputs }
+    {
+        match self.outputs.find(id)?.part.kind {
+            NodeKind::Con(ref part) => Some(part),
+            NodeKind::Output(_) | NodeKind::Space(_) => None,
+        }
+    }
+
+    /// The node that holds this one. `None` exactly where the id is not in the tree below its root.
+    pub fn parent(&self, id: ConId) -> Option<ConId>
+        ensures value { result ≡ parent self.now id }
+        ensures there { is_some result ≡ has id self.now.outputs }
+    {
+        self.outputs.parent(ROOT, id)
+    }
+
+    /// The row of outputs.
+    pub fn outputs(&self) -> Cursor<'_>
+        ensures { result ≡ self.now.outputs }
+    {
+        Cursor::at(&self.outputs)
+    }
+
+    /// The next id that a node gets.
+    pub fn next_id(&self) -> u32
+        ensures { result ≡ self.now.next_id }
+    {
+        self.next_id
+    }
+
+    /// The focused container: the most recent node within the workspace that the current output shows,
+    /// the workspace included.
+    #[tactic(auto, using(crate::proofs::ForestLemmas::first_in_end))]
+    pub fn focused(&self) -> ConId
+        ensures { result ≡ focused self.now }
+    {
+        let shown = match self.output(self.current) {
+            Some(output) => output.shown,
+            None => self.current,
+        };
+        match self.outputs.find(shown) {
+            Some(space) => recency::first_in(&self.recency, space, shown),
+            None => shown,
+        }
+    }
+
+    /// Puts the container first in the order of recency.
+    pub fn raise(&mut self, id: ConId)
+        ensures { self.new ≡ with_raised id self.old }
+    {
+        recency::raise(&mut self.recency, id);
+    }
+
+    /// Gives the workspace another layout.
+    pub fn set_layout(&mut self, id: ConId, layout: Layout)
+        ensures { self.new ≡ with_space_layout id layout self.old }
+    {
+        self.outputs.set_layout(id, layout);
+    }
+
+    /// Takes the container out with all that is below it.
+    #[tactic(auto, using(crate::proofs::ForestLemmas::at_absent, crate::proofs::ForestLemmas::outside_end, crate::proofs::ForestLemmas::only_absent))]
+    pub fn detach(&mut self, id: ConId) -> Result<(), TreeRefusal>
+        ensures missing { has id self.old.outputs ≡ false → result ≡ Err (Missing id) }
+        ensures there { has id self.old.outputs ≡ true → IsOk result }
+        ensures tree { self.new ≡ detached id self.old }
+    {
+        match self.outputs.take_out(id) {
+            None => Err(TreeRefusal::Missing(id)),
+            Some(gone) => {
+                recency::remove_all(&mut self.recency, &gone);
+                Ok(())
+            }
+        }
+    }
+
+    /// Puts a container at a place, under the next id and the least recent of all, and gives its id.
+    pub fn attach(&mut self, at: Place, new: NewCon) -> Result<ConId, TreeRefusal>
+        requires { IsPlace self.old at }
+        ensures ok { OnOk result (self.new ≡ attached at new self.old) }
+        ensures id { IfOk result (λ new_id. new_id ≡ id self.old.next_id) }
+        ensures err { OnErr result (self.new ≡ self.old) }
+
+        // A missing node is reported before a limit, and a limit before want of memory.
+        ensures missing { has (named at) self.old.outputs ≡ false → result ≡ Err (Missing (named at)) }
+        ensures full { has (named at) self.old.outputs ≡ true →
+            IfSome (passed_limit self.old at) (λ limit. result ≡ Err (Full limit)) }
+        ensures cause { IfErr result (IsAttachCause self.old at) }
+    {
+        let share = self.share_at(at)?;
+        self.recency.reserve(1)?;
+        let id = ConId(self.next_id);
+        let mut row = Row::of(self.alloc, new.part(id, share))?;
+        match at {
+            Place::After(con) => self.outputs.put_after(con, &mut row),
+            Place::Last(con) => self.outputs.put_last(con, &mut row),
+        };
+        self.recency.push_reserved(id);
+        self.next_id += 1;
+        Ok(id)
+    }
+
+    /// The share of a newcomer at this place, where it is there and no limit is passed.
+    fn share_at(&self, at: Place) -> Result<u32, TreeRefusal>
+        ensures share { IfOk result (λ share. share ≡ newcomer_share (siblings self.now at)) }
+        ensures ok { OnOk result ((has (named at) self.now.outputs ≡ true) × (passed_limit self.now at ≡ None)) }
+        ensures cause { IfErr result (λ e. (e ≢ TreeRefusal.NoMemory) × IsAttachCause self.now at e) }
+    {
+        let Some(siblings) = self.siblings(at) else {
+            return Err(TreeRefusal::Missing(at.named()));
+        };
+        if siblings.len_up_to(MAX_CHILDREN) == MAX_CHILDREN {
+            return Err(TreeRefusal::Full {
+                limit: Limit::Children,
+            });
+        }
+        if self.next_id > MAX_ID {
+            return Err(TreeRefusal::Full { limit: Limit::Ids });
+        }
+        Ok(siblings.newcomer_share())
+    }
+
+    /// The row in which a newcomer at this place stands. `None` exactly where the node is missing.
+    fn siblings(&self, at: Place) -> Option<&Row>
+        ensures { MatchOption result (has (named at) self.now.outputs ≡ false)
+            (λ row. (has (named at) self.now.outputs ≡ true) × (row.now ≡ siblings self.now at)) }
+    {
+        match at {
+            Place::After(con) => match self.parent(con) {
+                Some(parent) => self.row_below(parent),
+                None => None,
+            },
+            Place::Last(con) => match self.outputs.find(con) {
+                Some(cell) => Some(&cell.kids),
+                None => None,
+            },
+        }
+    }
+
+    /// The row of the node's children: of the root the outputs.
+    fn row_below(&self, id: ConId) -> Option<&Row>
+        ensures { MatchOption result ((same id root ≡ false) × (has id self.now.outputs ≡ false))
+            (λ row. row.now ≡ children self.now id) }
+    {
+        if id == ROOT {
+            Some(&self.outputs)
+        } else {
+            Some(&self.outputs.find(id)?.kids)
+        }
+    }
+}
+
+impl From<AllocError> for TreeRefusal {
+    ghost from_gives = { λ _ e. e ≡ refusals.NoMemory };
+
+    fn from(_error: AllocError) -> TreeRefusal {
+        TreeRefusal::NoMemory
+    }
+}
