@@ -1,2 +1,4 @@
+pub mod ChangeLemmas
 pub mod ForestLemmas
 pub mod RecencyLemmas
+pub mod SoundLemmas

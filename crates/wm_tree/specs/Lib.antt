@@ -2,6 +2,7 @@ pub mod Change
 pub mod Forest
 pub mod ForestCode
 pub mod ForestFalls
+pub mod Limits
 pub mod Look
 pub mod Recency
 pub mod Row

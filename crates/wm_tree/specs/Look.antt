@@ -86,6 +86,15 @@ parent_in above c (con part kids floats rest) =
 
 -- ---- rows
 
+-- the row in which the node c stands; `whole` is the row that the forest ends. Nothing where it is not there
+abbrev pub row_with : ConId → Forest → Forest → Forest
+row_with c whole end = end
+row_with c whole (con part kids floats rest) =
+    if same part.id c then whole
+    else if has c kids then row_with c kids kids
+    else if has c floats then row_with c floats floats
+    else row_with c whole rest
+
 abbrev pub row_length : Forest → ℕ
 row_length end = 0
 row_length (con part kids floats rest) = 1 + row_length rest

@@ -22,7 +22,7 @@ use Rattle.wm_tree.specs.declared.place.TreeRefusal.{TreeRefusal}
 use Rattle.wm_tree.specs.declared.place.TreeRefusal.TheVariants as refusals
 use Rattle.wm_tree.specs.Forest.{Forest, end, con}
 use Rattle.wm_tree.specs.ForestCode.{forest_code}
-use Rattle.wm_tree.specs.Look.{same, has, only, first_kids, kind_of, output_kind, space_kind, con_kind, parent_in, row_length, newcomer_share}
+use Rattle.wm_tree.specs.Look.{has, only, first_kids, kind_of, output_kind, space_kind, con_kind, parent_in, row_length, row_with, newcomer_share}
 use Rattle.wm_tree.specs.Change.{without, put_after, put_last, with_layout}
 use Rattle.wm_tree.specs.Recency.{raised, first_in, outside}
 
@@ -73,10 +73,6 @@ focused t = first_in (only (shown t) t.outputs) (shown t) t.recency
 abbrev pub parent : TreeValue → ConId → Option ConId
 parent t c = parent_in root c t.outputs
 
--- the row of the children of c: of the root the outputs
-abbrev pub children : TreeValue → ConId → Forest
-children t c = if same c root then t.outputs else first_kids (only c t.outputs)
-
 -- ---- changing
 
 -- the node that a place names
@@ -85,12 +81,8 @@ named (After c) = c
 named (Last c) = c
 
 -- the children among which a newcomer stands
-abbrev pub children_of : TreeValue → Option ConId → Forest
-children_of t None = end
-children_of t (Some c) = children t c
-
 abbrev pub siblings : TreeValue → Place → Forest
-siblings t (After c) = children_of t (parent t c)
+siblings t (After c) = row_with c t.outputs t.outputs
 siblings t (Last c) = first_kids (only c t.outputs)
 
 -- the place is beside a container or in a workspace, where its node is there

@@ -2,10 +2,12 @@
 ghost use Rattle.std.specs.Prelude.{◌≡◌, ◌-◌, ◌*◌, ◌≤◌, ◌^◌, false, true, if◌then◌else◌, IfOk, MatchOption, is_some, min};
 ghost use Rattle.wm_tree.specs.Change.{append, put_after, put_last, with_layout, without};
 ghost use Rattle.wm_tree.specs.Forest.{end, con};
-ghost use Rattle.wm_tree.specs.Look.{same, has, only, parent_in, newcomer_share, row_length, share_sum, first_alone, rest_of};
+ghost use Rattle.wm_tree.specs.Look.{same, has, only, parent_in, newcomer_share, row_length, row_with, share_sum, first_alone, rest_of};
+ghost use Rattle.wm_tree.specs.TreeValue.{put};
 ghost use Rattle.wm_tree.specs.Row.{alone, row_of};
 
-use crate::part::{NodeKind, Part, SpacePart};
+use crate::part::Part;
+use crate::place::Place;
 use std::alloc::{AllocError, Global};
 use std::marker::Model;
 use std::mem;
@@ -39,6 +41,7 @@ impl Model for Row {
 
     ghost coded = { forest_code };
 
+    ghost use Rattle.wm_tree.specs.TreeValue.{put};
     ghost use Rattle.wm_tree.specs.Row.{row_from};
 
     ghost view = { λ row. row_from row.first };
@@ -204,6 +207,27 @@ impl Row {
         cell.rest.find(id)
     }
 
+    /// The row in which the node stands; `whole` is the row that this one ends.
+    pub fn row_with<'a>(&'a self, whole: &'a Row, id: ConId) -> Option<&'a Row>
+        ensures { MatchOption result (has id self.now ≡ false)
+            (λ row. (has id self.now ≡ true) × (row.now ≡ row_with id whole.now self.now)) }
+    {
+        let cell = match &self.first {
+            None => return None,
+            Some(cell) => cell,
+        };
+        if cell.part.id == id {
+            return Some(whole);
+        }
+        if let Some(row) = cell.kids.row_with(&cell.kids, id) {
+            return Some(row);
+        }
+        if let Some(row) = cell.floats.row_with(&cell.floats, id) {
+            return Some(row);
+        }
+        cell.rest.row_with(whole, id)
+    }
+
     /// The node that holds this one; `above` holds the row itself.
     pub fn parent(&self, above: ConId, id: ConId) -> Option<ConId>
         ensures value { result ≡ parent_in above id self.now }
@@ -287,6 +311,16 @@ impl Row {
             None => false,
             Some(cell) => cell.put_last(id, row),
         }
+    }
+
+    /// Moves the nodes of a row to a place, where its node is here.
+    pub fn put(&mut self, at: Place, mut row: Row)
+        ensures { self.new ≡ put at row self.old }
+    {
+        match at {
+            Place::After(con) => self.put_after(con, &mut row),
+            Place::Last(con) => self.put_last(con, &mut row),
+        };
     }
 
     /// Gives the workspace another layout, where it is here. Says whether the node is.

@@ -1,8 +1,9 @@
 //! The tree: the nodes, the order of recency, the current output and the next id.
-ghost use Rattle.std.specs.Prelude.{◌≡◌, ◌≢◌, false, true, Err, None, IfOk, IfErr, OnOk, OnErr, IsOk, is_some, IfSome, MatchOption};
+ghost use Rattle.std.specs.Prelude.{◌≡◌, ◌≢◌, false, true, Err, None, IfOk, IfErr, OnOk, OnErr, IsOk, IfSome, MatchOption};
 ghost use Rattle.std.specs.Option.{option_copied};
-ghost use Rattle.wm_tree.specs.Look.{con_kind, has, kind_of, newcomer_share, output_kind, same, space_kind};
-ghost use Rattle.wm_tree.specs.TreeValue.{attached, children, detached, focused, id, named, opening, parent, passed_limit, with_raised, with_space_layout, root, siblings, IsAttachCause, IsPlace};
+ghost use Rattle.wm_tree.specs.Limits.{IsOutputRect, IsWithinLimits};
+ghost use Rattle.wm_tree.specs.Look.{con_kind, has, kind_of, newcomer_share, output_kind, space_kind};
+ghost use Rattle.wm_tree.specs.TreeValue.{attached, detached, focused, id, named, opening, parent, passed_limit, with_raised, with_space_layout, siblings, IsAttachCause, IsPlace};
 ghost use Rattle.wm_tree.specs.declared.place.TreeRefusal.TheVariants.{Full, Missing};
 ghost use Rattle.wm_tree.specs.declared.place.TreeRefusal.TheVariants as refusals;
 
@@ -42,11 +43,16 @@ impl Model for Tree {
     ghost coded = { tree_code };
 
     ghost view = { λ t. record { outputs = t.outputs; recency = t.recency.items; current = t.current; next_id = t.next_id } };
+
+    ghost use Rattle.wm_tree.specs.Limits.{IsSound};
+
+    ghost invariant = { λ t. IsSound t.outputs t.next_id };
 }
 
 impl Tree {
     /// The opening tree of one output with this rectangle: root 1, output 2, and the workspace 3 that it shows.
     pub fn start(alloc: Global, rect: Rect) -> Result<Tree, NoMemory>
+        requires { IsOutputRect rect }
         ensures { IfOk result (λ tree. tree ≡ opening rect) }
     {
         let output = OutputPart {
@@ -129,15 +135,15 @@ impl Tree {
 
     /// The node that holds this one. `None` exactly where the id is not in the tree below its root.
     pub fn parent(&self, id: ConId) -> Option<ConId>
-        ensures value { result ≡ parent self.now id }
-        ensures there { is_some result ≡ has id self.now.outputs }
+        ensures { result ≡ parent self.now id }
     {
         self.outputs.parent(ROOT, id)
     }
 
     /// The row of outputs.
     pub fn outputs(&self) -> Cursor<'_>
-        ensures { result ≡ self.now.outputs }
+        ensures value { result ≡ self.now.outputs }
+        ensures within { IsWithinLimits self.now.outputs }
     {
         Cursor::at(&self.outputs)
     }
@@ -185,14 +191,13 @@ impl Tree {
         ensures missing { has id self.old.outputs ≡ false → result ≡ Err (Missing id) }
         ensures there { has id self.old.outputs ≡ true → IsOk result }
         ensures tree { self.new ≡ detached id self.old }
+        ensures gone { has id self.new.outputs ≡ false }
     {
-        match self.outputs.take_out(id) {
-            None => Err(TreeRefusal::Missing(id)),
-            Some(gone) => {
-                recency::remove_all(&mut self.recency, &gone);
-                Ok(())
-            }
-        }
+        let Some(gone) = self.outputs.take_out(id) else {
+            return Err(TreeRefusal::Missing(id));
+        };
+        recency::remove_all(&mut self.recency, &gone);
+        Ok(())
     }
 
     /// Puts a container at a place, under the next id and the least recent of all, and gives its id.
@@ -211,11 +216,8 @@ impl Tree {
         let share = self.share_at(at)?;
         self.recency.reserve(1)?;
         let id = ConId(self.next_id);
-        let mut row = Row::of(self.alloc, new.part(id, share))?;
-        match at {
-            Place::After(con) => self.outputs.put_after(con, &mut row),
-            Place::Last(con) => self.outputs.put_last(con, &mut row),
-        };
+        let row = Row::of(self.alloc, new.part(id, share))?;
+        self.outputs.put(at, row);
         self.recency.push_reserved(id);
         self.next_id += 1;
         Ok(id)
@@ -247,26 +249,11 @@ impl Tree {
             (λ row. (has (named at) self.now.outputs ≡ true) × (row.now ≡ siblings self.now at)) }
     {
         match at {
-            Place::After(con) => match self.parent(con) {
-                Some(parent) => self.row_below(parent),
-                None => None,
-            },
+            Place::After(con) => self.outputs.row_with(&self.outputs, con),
             Place::Last(con) => match self.outputs.find(con) {
                 Some(cell) => Some(&cell.kids),
                 None => None,
             },
-        }
-    }
-
-    /// The row of the node's children: of the root the outputs.
-    fn row_below(&self, id: ConId) -> Option<&Row>
-        ensures { MatchOption result ((same id root ≡ false) × (has id self.now.outputs ≡ false))
-            (λ row. row.now ≡ children self.now id) }
-    {
-        if id == ROOT {
-            Some(&self.outputs)
-        } else {
-            Some(&self.outputs.find(id)?.kids)
         }
     }
 }
