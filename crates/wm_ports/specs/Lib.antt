@@ -1,1 +1,2 @@
+pub mod ReadFault
 pub mod Told

@@ -2,5 +2,7 @@
 #![tactic(auto)]
 
 mod port;
+mod whole;
 
 pub use port::{Failed, Sink, Source};
+pub use whole::{ReadFault, read_to_limit, write_all};
