@@ -1,6 +1,6 @@
 -- How told bytes change over several readings or writings.
-use Rattle.std.proofs.Common.{◌≡◌, ℕ, ◌+◌, ◌-◌, ◌≤◌, List, [], ◌++◌, length, take, drop, min, Option, None, Some, Ok, Err, refl, sym, ◌∙◌, ap, subst, arith, length-append, length-take, length-drop, append_assoc}
-use Rattle.std.proofs.lemmas.List.{append-nil, take-append-drop, take-take, drop-take, drop-drop, take_all, length-take-le}
+use Rattle.std.proofs.Common.{◌≡◌, ℕ, ◌+◌, ◌-◌, ◌<◌, ◌≤◌, List, [], ◌++◌, length, take, drop, min, Option, None, Some, Ok, Err, refl, sym, ◌∙◌, ap, subst, arith, length-append, length-take, length-drop, append_assoc}
+use Rattle.std.proofs.lemmas.List.{drop_all, take-append-le, append-nil, take-append-drop, take-take, drop-take, drop-drop, take_all, length-take-le}
 use Rattle.wm_ports.specs.Told.{Reads, ReadsFrom, Takes, TakesAll, TakesPart, ReadsFirst, ReadsAll, ReadsCount}
 
 -- ---- lists
@@ -95,3 +95,17 @@ reads-count (Some xs) new bytes first = (first-within xs bytes first.0, first.1)
 -- the bytes read before, and n more from the front of room
 pub joined_length : (all room : List ℕ) (n : ℕ) → n ≤ length room → length (all ++ take n room) ≡ length all + n
 joined_length all room n within = rw (length-append all (take n room), length-take-le n room within)
+
+-- a copy of the bytes from a place on, as many as there are and as there is room for
+pub reads-slice :
+    (bytes room copy : List ℕ) (at n : ℕ) → at ≤ length bytes → 0 < length room → n ≡ min (length room) (length bytes - at)
+    → copy ≡ take n (drop at bytes)
+    → ReadsFrom (drop at bytes) (Some (drop (at + n) bytes)) n (copy ++ drop n room)
+reads-slice bytes room copy at n within some count copied =
+    let long : length copy ≡ n = ap length copied ∙ length-take-le n (drop at bytes) (omega (arith, length-drop at bytes)) in
+    let front : take n (copy ++ drop n room) ≡ take n copy = take-append-le n copy (drop n room) (omega arith) in
+    record {
+      end = λ none. drop_all at bytes (omega arith);
+      bytes = front ∙ ap (λ l. take n l) copied ∙ take-take n n (drop at bytes) (omega arith);
+      left = ap Some (sym (drop-drop n at bytes));
+    }
