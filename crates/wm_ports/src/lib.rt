@@ -3,8 +3,10 @@
 
 mod memory;
 mod port;
+mod stream;
 mod whole;
 
 pub use memory::{MemSink, MemSource};
 pub use port::{Failed, Sink, Source};
+pub use stream::{StdSink, StdSource};
 pub use whole::{ReadFault, read_to_limit, write_all};
