@@ -1,7 +1,7 @@
 -- How told bytes change over several readings or writings.
 use Rattle.std.proofs.Common.{◌≡◌, ℕ, ◌+◌, ◌-◌, ◌<◌, ◌≤◌, List, [], ◌++◌, length, take, drop, min, Option, None, Some, Ok, Err, refl, sym, ◌∙◌, ap, subst, arith, length-append, length-take, length-drop, append_assoc}
 use Rattle.std.proofs.lemmas.List.{drop_all, take-append-le, append-nil, take-append-drop, take-take, drop-take, drop-drop, take_all, length-take-le}
-use Rattle.wm_ports.specs.Told.{Reads, ReadsFrom, Takes, TakesAll, TakesPart, ReadsFirst, ReadsAll, ReadsCount}
+use Rattle.wm_ports.specs.Told.{Reads, ReadsFrom, Takes, TakesAll, TakesPart, ReadsFirst, ReadsAll, ReadsCount, ReadsPart}
 
 -- ---- lists
 
@@ -91,6 +91,17 @@ reads-end E (Some xs) mid new bytes room n none before step =
 pub reads-count : (old new : Option (List ℕ)) (bytes : List ℕ) → ReadsFirst old new bytes → ReadsCount old new (length bytes)
 reads-count None new bytes first = tt
 reads-count (Some xs) new bytes first = (first-within xs bytes first.0, first.1)
+
+pub reads-part : (old new : Option (List ℕ)) (bytes : List ℕ) → ReadsFirst old new bytes → ReadsPart old new
+reads-part None new bytes first = tt
+reads-part (Some xs) new bytes first = (length bytes, (first-within xs bytes first.0, first.1))
+
+pub reads-failed :
+    (E : Type 0) (old mid new : Option (List ℕ)) (bytes room : List ℕ) (e : E)
+    → ReadsFirst old mid bytes → Reads {E = E} mid new (Err e) room → ReadsFirst old new bytes
+reads-failed E None mid new bytes room e before step = tt
+reads-failed E (Some xs) mid new bytes room e before step =
+    (before.0, subst (λ m. Reads {E = E} m new (Err e) room) before.1 step)
 
 -- the bytes read before, and n more from the front of room
 pub joined_length : (all room : List ℕ) (n : ℕ) → n ≤ length room → length (all ++ take n room) ≡ length all + n

@@ -46,3 +46,8 @@ ReadsAll (Some xs) new bytes = (bytes ≡ xs) × (new ≡ Some [])
 abbrev pub ReadsCount : Option (List ℕ) → Option (List ℕ) → ℕ → Type 0
 ReadsCount None new count = ⊤
 ReadsCount (Some xs) new count = (count ≤ length xs) × (new ≡ Some (drop count xs))
+
+-- a first part of what was told was read, and new tells what is left
+abbrev pub ReadsPart : Option (List ℕ) → Option (List ℕ) → Type 0
+ReadsPart None new = ⊤
+ReadsPart (Some xs) new = (count : ℕ) × ReadsCount (Some xs) new count

@@ -2,7 +2,7 @@
 ghost use Rattle.std.specs.Prelude.{◌≡◌, ◌<◌, ◌≤◌, length, IfErr, IfOk, OnErr, OnOk, vec_len};
 ghost use Rattle.wm_defs.specs.Counts.{Rose};
 ghost use Rattle.wm_ports.specs.ReadFault.{HasCause};
-ghost use Rattle.wm_ports.specs.Told.{ReadsAll, TakesAll, TakesPart};
+ghost use Rattle.wm_ports.specs.Told.{ReadsAll, ReadsPart, TakesAll, TakesPart};
 
 use crate::port::{Failed, Sink, Source};
 use std::alloc::{AllocError, Global};
@@ -73,6 +73,7 @@ fn read_through<R: Source>(
     ensures ok { IfOk result (λ v. ReadsAll (R.rest source.old) (R.rest source.new) v.items) }
     ensures err { IfErr result (λ e. HasCause e limit (R.rest source.old) (R.rest source.new)
         (R.faults source.old) (R.faults source.new)) }
+    ensures part { OnErr result (ReadsPart (R.rest source.old) (R.rest source.new)) }
     ensures counted { R.faults source.old ≤ R.faults source.new }
 {
     let mut all = Vec::new(alloc);
@@ -100,6 +101,7 @@ pub fn read_to_limit<R: Source>(
     ensures ok { IfOk result (λ v. ReadsAll (R.rest source.old) (R.rest source.new) v.items) }
     ensures err { IfErr result (λ e. HasCause e limit (R.rest source.old) (R.rest source.new)
         (R.faults source.old) (R.faults source.new)) }
+    ensures part { OnErr result (ReadsPart (R.rest source.old) (R.rest source.new)) }
     ensures counted { R.faults source.old ≤ R.faults source.new }
 {
     let mut room = zeros(alloc, PIECE)?;
