@@ -1,7 +1,8 @@
 -- How told bytes change over several readings or writings.
 use Rattle.std.proofs.Common.{◌≡◌, ℕ, ◌+◌, ◌-◌, ◌<◌, ◌≤◌, List, [], ◌++◌, length, take, drop, min, Option, None, Some, Ok, Err, refl, sym, ◌∙◌, ap, subst, arith, length-append, length-take, length-drop, append_assoc}
 use Rattle.std.proofs.lemmas.List.{drop_all, take-append-le, append-nil, take-append-drop, take-take, drop-take, drop-drop, take_all, length-take-le}
-use Rattle.wm_ports.specs.Told.{Reads, ReadsFrom, Takes, TakesAll, TakesPart, ReadsFirst, ReadsAll, ReadsCount, ReadsPart}
+use Rattle.std.specs.Prelude.{⊤}
+use Rattle.wm_ports.specs.Told.{Reads, ReadsFrom, Takes, TakesAll, TakesPart, ReadsAll, ReadsCount, ReadsPart}
 
 -- ---- lists
 
@@ -61,6 +62,11 @@ takes-part E (Some t) mid new bytes at e within before step = (
 )
 
 -- ---- reading
+
+-- these bytes were read, the first of what was told, and new tells what is left
+abbrev pub ReadsFirst : Option (List ℕ) → Option (List ℕ) → List ℕ → Type 0
+ReadsFirst None new bytes = ⊤
+ReadsFirst (Some xs) new bytes = (take (length bytes) xs ≡ bytes) × (new ≡ Some (drop (length bytes) xs))
 
 pub reads-start : (old : Option (List ℕ)) → ReadsFirst old old []
 reads-start None = tt

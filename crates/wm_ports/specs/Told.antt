@@ -32,11 +32,6 @@ abbrev pub TakesPart : Option (List ℕ) → Option (List ℕ) → List ℕ → 
 TakesPart None new bytes = ⊤
 TakesPart (Some t) new bytes = (n : ℕ) × GrowsBy t new bytes n
 
--- these bytes were read, the first of what was told, and new tells what is left
-abbrev pub ReadsFirst : Option (List ℕ) → Option (List ℕ) → List ℕ → Type 0
-ReadsFirst None new bytes = ⊤
-ReadsFirst (Some xs) new bytes = (take (length bytes) xs ≡ bytes) × (new ≡ Some (drop (length bytes) xs))
-
 -- these bytes were read, and they are all that was told
 abbrev pub ReadsAll : Option (List ℕ) → Option (List ℕ) → List ℕ → Type 0
 ReadsAll None new bytes = ⊤

@@ -1,5 +1,5 @@
 use Rattle.std.proofs.Common.{◌-◌, ◌<◌, ◌≤◌, length, vec_len}
-use Rattle.wm_ports.specs.Told.{ReadsFirst}
+use Rattle.wm_ports.proofs.ToldLemmas.{ReadsFirst}
 use Rattle.wm_ports.proofs.whole.read_through.Given as goal
 
 abbrev pub invariant-pieces : goal.invariant-pieces
