@@ -1,0 +1,15 @@
+//! Sources and sinks of bytes: their contracts, ones in memory that fail where they are told, and real ones.
+#![tactic(auto)]
+
+mod memory;
+mod port;
+mod stream;
+mod whole;
+
+pub use memory::{MemSink, MemSource};
+pub use port::{Failed, Sink, Source};
+pub use stream::{StdSink, StdSource};
+pub use whole::{ReadFault, read_to_limit, write_all};
+
+#[cfg(test)]
+mod tests;
