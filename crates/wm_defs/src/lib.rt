@@ -8,14 +8,12 @@ ghost use Rattle.wm_defs.specs.Cut.{cut_at};
 /// A count that rose did so for good: a later count, which is no lower, rose too.
 pub fn rising_lasts()
     ensures { (old mid new : ℕ) → Rose old mid → mid ≤ new → Rose old new }
-{
-}
+{}
 
 /// Below its last value a count rose exactly where it is greater.
 pub fn rising_is_growing()
     ensures { (old new : ℕ) → new < LAST_COUNT → Rose old new → old < new }
-{
-}
+{}
 
 /// The children of a length cover it from 0 to its end, each beginning where the one before ends.
 pub fn cut_covers()
@@ -24,5 +22,4 @@ pub fn cut_covers()
         cut_at width shares (length shares) ≡ width }
     ensures rises { (width i : ℕ) (shares : List ℕ) →
         cut_at width shares i ≤ cut_at width shares (i + 1) }
-{
-}
+{}

@@ -6,4 +6,5 @@ pub mod Limits
 pub mod Look
 pub mod Recency
 pub mod Row
+pub mod Shape
 pub mod TreeValue

@@ -1,11 +1,12 @@
 -- What holds of every tree: its limits, and that each id is there once.
-use Rattle.std.specs.Prelude.{◌≡◌, ℕ, ◌+◌, ◌≤◌, ℤ, pos, negsuc, ◌≤ℤ◌, if◌then◌else◌}
+use Rattle.std.specs.Prelude.{◌≡◌, true, ℕ, ◌+◌, ◌≤◌, ℤ, pos, negsuc, ◌≤ℤ◌, if◌then◌else◌}
 use Rattle.wm_base.specs.declared.geometry.Rect.{Rect}
 use Rattle.wm_base.specs.declared.ids.ConId.{ConId}
 use Rattle.wm_tree.specs.declared.part.NodeKind.{NodeKind}
 use Rattle.wm_tree.specs.declared.part.NodeKind.TheVariants.{Output, Space, Con}
 use Rattle.wm_tree.specs.Forest.{Forest, end, con}
-use Rattle.wm_tree.specs.Look.{same, row_length}
+use Rattle.wm_tree.specs.Look.{same, in_row, row_length}
+use Rattle.wm_tree.specs.Shape.{IsShaped, outputs}
 
 -- the rectangle of an output: places from -131,072 to 131,071, and sides of at most 16,384
 pub record IsOutputRect (r : Rect) : Type 0 where
@@ -32,9 +33,11 @@ abbrev pub tally : ConId → Forest → ℕ
 tally c end = 0
 tally c (con part kids floats rest) = (if same part.id c then 1 else 0) + tally c kids + tally c floats + tally c rest
 
--- what holds of the nodes of every tree with this next id
-pub record IsSound (outputs : Forest) (next_id : ℕ) : Type 0 where
-  pub short : row_length outputs ≤ 256
-  pub within : IsWithinLimits outputs
-  pub once : (c : ConId) → tally c outputs ≤ 1
-  pub fresh : (c : ConId) → next_id ≤ c.0 → tally c outputs ≡ 0
+-- what holds of the nodes of every tree with this current output and this next id
+pub record IsSound (forest : Forest) (current : ConId) (next_id : ℕ) : Type 0 where
+  pub shaped : IsShaped outputs forest
+  pub current_there : in_row current forest ≡ true
+  pub short : row_length forest ≤ 256
+  pub within : IsWithinLimits forest
+  pub once : (c : ConId) → tally c forest ≤ 1
+  pub fresh : (c : ConId) → next_id ≤ c.0 → tally c forest ≡ 0

@@ -50,6 +50,16 @@ abbrev pub rest_of : Forest → Forest
 rest_of end = end
 rest_of (con part kids floats rest) = rest
 
+-- the node c stands in the row itself
+abbrev pub in_row : ConId → Forest → Bool
+in_row c end = false
+in_row c (con part kids floats rest) = same part.id c || in_row c rest
+
+-- the row from the node c on; nothing where it is not in the row itself
+abbrev pub node_in : ConId → Forest → Forest
+node_in c end = end
+node_in c (con part kids floats rest) = if same part.id c then con part kids floats rest else node_in c rest
+
 -- ---- what a node is
 
 abbrev pub output_kind : NodeKind → Option OutputPart

@@ -22,7 +22,7 @@ use Rattle.wm_tree.specs.declared.place.TreeRefusal.{TreeRefusal}
 use Rattle.wm_tree.specs.declared.place.TreeRefusal.TheVariants as refusals
 use Rattle.wm_tree.specs.Forest.{Forest, end, con}
 use Rattle.wm_tree.specs.ForestCode.{forest_code}
-use Rattle.wm_tree.specs.Look.{has, only, first_kids, kind_of, output_kind, space_kind, con_kind, parent_in, row_length, row_with, newcomer_share}
+use Rattle.wm_tree.specs.Look.{same, has, only, node_in, first_alone, first_kids, first_part, kind_by, kind_of, output_kind, space_kind, con_kind, parent_in, row_length, row_with, newcomer_share}
 use Rattle.wm_tree.specs.Change.{without, put_after, put_last, with_layout}
 use Rattle.wm_tree.specs.Recency.{raised, first_in, outside}
 
@@ -57,18 +57,30 @@ opening rect = record {
 
 -- ---- looking
 
--- the workspace that an output shows, or the output itself where it is none
+-- the workspace that an output shows, or `other` where it is no output
 abbrev pub shown_of : ConId → Option OutputPart → ConId
-shown_of output None = output
-shown_of output (Some part) = part.shown
+shown_of other None = other
+shown_of other (Some part) = part.shown
+
+-- the row of outputs from the current one on
+abbrev pub current_row : TreeValue → Forest
+current_row t = node_in t.current t.outputs
 
 -- the workspace that the current output shows
 abbrev pub shown : TreeValue → ConId
-shown t = shown_of t.current (kind_of output_kind t.current t.outputs)
+shown t = shown_of t.current (kind_by output_kind (first_part (current_row t)))
+
+-- that workspace with what is below it, alone
+abbrev pub shown_space : TreeValue → Forest
+shown_space t = first_alone (node_in (shown t) (first_kids (current_row t)))
 
 -- the most recent node within the workspace that the current output shows, itself included
 abbrev pub focused : TreeValue → ConId
-focused t = first_in (only (shown t) t.outputs) (shown t) t.recency
+focused t = first_in (shown_space t) (shown t) t.recency
+
+-- where a new window goes: last into a focused workspace, else after the focused container
+abbrev pub newcomer_place : TreeValue → Place
+newcomer_place t = if same (focused t) (shown t) then Last (focused t) else After (focused t)
 
 abbrev pub parent : TreeValue → ConId → Option ConId
 parent t c = parent_in root c t.outputs
