@@ -51,18 +51,18 @@ KeepsShape old new = (l : Level) → IsShaped l old → IsShaped l new × KeepsR
 
 -- a change that keeps the shape where it is made keeps it everywhere; Allowed is what it needs of the node
 module _ {X : Type 0} (c : ConId) (f : X → Part → Forest → Forest → Forest → Forest) (x : X) (Allowed : Forest → Type 0)
-  (here : (part : Part) (kids floats rest : Forest) → Allowed (con part kids floats end) → KeepsShape (con part kids floats rest) (f x part kids floats rest))
+    (here : (part : Part) (kids floats rest : Forest) → Allowed (con part kids floats end) → KeepsShape (con part kids floats rest) (f x part kids floats rest))
   where
-  pub keeps_shape : (forest : Forest) → Allowed (only c forest) → KeepsShape forest (at c f x forest)
-  keeps_shape =
-      by_change c f x (λ old new found. Allowed found → KeepsShape old new) (λ ok l p. (p, same_row l end)) here
-      (λ part kids floats rest new found h ok l p.
-      let k = h ok (below l) p.2 in
-      ((p.0, shows_own l part.kind kids new p.0 k.1 p.1, k.0, p.3, p.4), behind_row l part part kids floats rest new floats rest refl (same_row l rest)))
-      (λ part kids floats rest new found h ok l p. ((p.0, p.1, p.2, (h ok containers p.3).0, p.4), behind_row l part part kids floats rest kids new rest refl (same_row l rest)))
-      (λ part kids floats rest new found h ok l p.
-      let k = h ok l p.4 in
-      ((p.0, p.1, p.2, p.3, k.0), behind_row l part part kids floats rest kids floats new refl k.1))
+    pub keeps_shape : (forest : Forest) → Allowed (only c forest) → KeepsShape forest (at c f x forest)
+    keeps_shape =
+        by_change c f x (λ old new found. Allowed found → KeepsShape old new) (λ ok l p. (p, same_row l end)) here
+        (λ part kids floats rest new found h ok l p.
+        let k = h ok (below l) p.2 in
+        ((p.0, shows_own l part.kind kids new p.0 k.1 p.1, k.0, p.3, p.4), behind_row l part part kids floats rest new floats rest refl (same_row l rest)))
+        (λ part kids floats rest new found h ok l p. ((p.0, p.1, p.2, (h ok containers p.3).0, p.4), behind_row l part part kids floats rest kids new rest refl (same_row l rest)))
+        (λ part kids floats rest new found h ok l p.
+        let k = h ok l p.4 in
+        ((p.0, p.1, p.2, p.3, k.0), behind_row l part part kids floats rest kids floats new refl k.1))
 
 -- ---- the four changes
 
@@ -92,7 +92,7 @@ space_level containers (Space s) ok at = absurd at
 
 pub shaped-without : (c : ConId) (f : Forest) → IsConFirst (only c f) → KeepsShape f (without c f)
 shaped-without c = keeps_shape c (λ row part kids floats rest. rest) end IsConFirst here
-    where
+  where
     here : (part : Part) (kids floats rest : Forest) → IsConFirst (con part kids floats end) → KeepsShape (con part kids floats rest) rest
     here part kids floats rest ok l p =
         let Keeps : Level → Type 0 = λ l. KeepsRow l (con part kids floats rest) rest in
@@ -100,7 +100,7 @@ shaped-without c = keeps_shape c (λ row part kids floats rest. rest) end IsConF
 
 pub shaped-put_after : (c : ConId) (row : Forest) → IsShaped containers row → (f : Forest) → IsConFirst (only c f) → KeepsShape f (put_after c row f)
 shaped-put_after c row shaped = keeps_shape c (λ row part kids floats rest. con part kids floats (append row rest)) row IsConFirst here
-    where
+  where
     here : (part : Part) (kids floats rest : Forest) → IsConFirst (con part kids floats end) → KeepsShape (con part kids floats rest) (con part kids floats (append row rest))
     here part kids floats rest ok l p =
         let Keeps : Level → Type 0 = λ l. KeepsRow l (con part kids floats rest) (con part kids floats (append row rest)) in
@@ -110,12 +110,13 @@ shaped-put_after c row shaped = keeps_shape c (λ row part kids floats rest. con
 
 pub shaped-put_last : (c : ConId) (row : Forest) → IsShaped containers row → (f : Forest) → IsSpaceFirst (only c f) → KeepsShape f (put_last c row f)
 shaped-put_last c row shaped = keeps_shape c (λ row part kids floats rest. con part (append kids row) floats rest) row IsSpaceFirst here
-    where
+  where
     at_spaces : (part : Part) (kids floats rest : Forest) → IsShaped spaces (con part kids floats rest)
         → IsShaped spaces (con part (append kids row) floats rest) × KeepsRow spaces (con part kids floats rest) (con part (append kids row) floats rest)
-    at_spaces part kids floats rest p =
-        ((p.0, shows_own spaces part.kind kids (append kids row) p.0 tt p.1, shaped-append containers kids row p.2 shaped, p.3, p.4),
-        behind_row spaces part part kids floats rest (append kids row) floats rest refl (same_row spaces rest))
+    at_spaces part kids floats rest p = (
+      (p.0, shows_own spaces part.kind kids (append kids row) p.0 tt p.1, shaped-append containers kids row p.2 shaped, p.3, p.4),
+      behind_row spaces part part kids floats rest (append kids row) floats rest refl (same_row spaces rest),
+    )
 
     here : (part : Part) (kids floats rest : Forest) → IsSpaceFirst (con part kids floats end) → KeepsShape (con part kids floats rest) (con part (append kids row) floats rest)
     here part kids floats rest ok l p =
@@ -124,7 +125,7 @@ shaped-put_last c row shaped = keeps_shape c (λ row part kids floats rest. con 
 
 pub shaped-with_layout : (c : ConId) (layout : Layout) (f : Forest) → KeepsShape f (with_layout c layout f)
 shaped-with_layout c layout f = keeps_shape c (λ l part kids floats rest. con (record part { kind = laid_out l part.kind }) kids floats rest) layout (λ found. Unit {0}) here f tt
-    where
+  where
     laid_at : (l : Level) (kind : NodeKind) → IsAt l kind → IsAt l (laid_out layout kind)
     laid_at l (Output o) at = at
     laid_at outputs (Space s) at = at

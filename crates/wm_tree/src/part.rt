@@ -1,6 +1,7 @@
 //! The parts of the tree's nodes: what an output, a workspace or a container says of itself.
 ghost use Rattle.std.specs.Prelude.{◌≡◌};
-ghost use Rattle.wm_tree.specs.Look.{share_of};
+ghost use Rattle.std.specs.Option.{option_map};
+ghost use Rattle.wm_tree.specs.Look.{output_kind, share_of};
 ghost use Rattle.wm_tree.specs.Change.{laid_out};
 
 use wm_base::{ConId, Layout, Rect};
@@ -64,6 +65,16 @@ impl NodeKind {
         match self {
             NodeKind::Space(_) => NodeKind::Space(SpacePart { layout }),
             NodeKind::Output(_) | NodeKind::Con(_) => self,
+        }
+    }
+
+    /// The workspace that an output shows. `None` exactly where this is no output.
+    pub fn shown(&self) -> Option<ConId>
+        ensures { result ≡ option_map (λ o. o.shown) (output_kind self.now) }
+    {
+        match self {
+            NodeKind::Output(output) => Some(output.shown),
+            NodeKind::Space(_) | NodeKind::Con(_) => None,
         }
     }
 }

@@ -2,7 +2,7 @@
 ghost use Rattle.std.specs.Prelude.{◌≡◌, ◌-◌, ◌*◌, ◌≤◌, ◌^◌, false, true, if◌then◌else◌, IfOk, MatchOption, is_some, min};
 ghost use Rattle.wm_tree.specs.Change.{append, put_after, put_last, with_layout, without};
 ghost use Rattle.wm_tree.specs.Forest.{end, con};
-ghost use Rattle.wm_tree.specs.Look.{same, has, only, parent_in, newcomer_share, row_length, row_with, share_sum, first_alone, rest_of};
+ghost use Rattle.wm_tree.specs.Look.{same, has, node_in, only, parent_in, newcomer_share, row_length, row_with, share_sum, first_alone, rest_of};
 ghost use Rattle.wm_tree.specs.TreeValue.{put};
 ghost use Rattle.wm_tree.specs.Row.{alone, row_of};
 
@@ -205,6 +205,21 @@ impl Row {
             return Some(found);
         }
         cell.rest.find(id)
+    }
+
+    /// The cell of the node in this row itself. `None` exactly where it is not in the row.
+    pub fn node(&self, id: ConId) -> Option<&Cell>
+        ensures { MatchOption result (node_in id self.now ≡ end)
+            (λ cell. node_in id self.now ≡ row_of cell.now) }
+    {
+        let mut row = self;
+        while let Some(cell) = &row.first {
+            if cell.part.id == id {
+                return Some(cell);
+            }
+            row = &cell.rest;
+        }
+        None
     }
 
     /// The row in which the node stands; `whole` is the row that this one ends.

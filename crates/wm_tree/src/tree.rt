@@ -2,8 +2,10 @@
 ghost use Rattle.std.specs.Prelude.{◌≡◌, ◌≢◌, false, true, Err, None, IfOk, IfErr, OnOk, OnErr, IsOk, IfSome, MatchOption};
 ghost use Rattle.std.specs.Option.{option_copied};
 ghost use Rattle.wm_tree.specs.Limits.{IsOutputRect, IsWithinLimits};
+ghost use Rattle.wm_tree.specs.Forest.{end};
+ghost use Rattle.wm_tree.specs.Row.{alone};
 ghost use Rattle.wm_tree.specs.Look.{con_kind, has, kind_of, newcomer_share, output_kind, space_kind};
-ghost use Rattle.wm_tree.specs.TreeValue.{attached, detached, focused, id, named, opening, parent, passed_limit, with_raised, with_space_layout, siblings, IsAttachCause, IsPlace};
+ghost use Rattle.wm_tree.specs.TreeValue.{attached, detached, focused, id, named, opening, parent, passed_limit, newcomer_place, shown, shown_space, with_raised, with_space_layout, siblings, IsAttachCause, IsPlace};
 ghost use Rattle.wm_tree.specs.declared.place.TreeRefusal.TheVariants.{Full, Missing};
 ghost use Rattle.wm_tree.specs.declared.place.TreeRefusal.TheVariants as refusals;
 
@@ -11,7 +13,7 @@ use crate::cursor::Cursor;
 use crate::part::{ConPart, NodeKind, OutputPart, Part, SpacePart};
 use crate::place::{NewCon, Place, TreeRefusal};
 use crate::recency;
-use crate::row::Row;
+use crate::row::{Cell, Row};
 use std::alloc::{AllocError, Global};
 use std::marker::Model;
 use wm_base::{ConId, Layout, Limit, NoMemory, Rect};
@@ -46,7 +48,7 @@ impl Model for Tree {
 
     ghost use Rattle.wm_tree.specs.Limits.{IsSound};
 
-    ghost invariant = { λ t. IsSound t.outputs t.next_id };
+    ghost invariant = { λ t. IsSound t.outputs t.current t.next_id };
 }
 
 impl Tree {
@@ -155,20 +157,55 @@ impl Tree {
         self.next_id
     }
 
+    /// The workspace that the current output shows.
+    pub fn shown(&self) -> ConId
+        ensures { result ≡ shown self.now }
+    {
+        match self.outputs.node(self.current) {
+            Some(cell) => cell.part.kind.shown().unwrap_or(self.current),
+            None => self.current,
+        }
+    }
+
     /// The focused container: the most recent node within the workspace that the current output shows,
     /// the workspace included.
     #[tactic(auto, using(crate::proofs::ForestLemmas::first_in_end))]
     pub fn focused(&self) -> ConId
         ensures { result ≡ focused self.now }
     {
-        let shown = match self.output(self.current) {
-            Some(output) => output.shown,
-            None => self.current,
-        };
-        match self.outputs.find(shown) {
-            Some(space) => recency::first_in(&self.recency, space, shown),
-            None => shown,
+        match self.shown_space() {
+            Some(space) => recency::first_in(&self.recency, space, self.shown()),
+            None => self.shown(),
         }
+    }
+
+    /// Where a new window goes: last into a focused workspace, else after the focused container.
+    pub fn newcomer_place(&self) -> Place
+        ensures place { result ≡ newcomer_place self.now }
+        ensures there { has (named result) self.now.outputs ≡ true }
+        ensures fit { IsPlace self.now result }
+    {
+        let _sound = &self.outputs;
+        self.place_of_newcomer()
+    }
+
+    fn place_of_newcomer(&self) -> Place
+        ensures { result ≡ newcomer_place self.now }
+    {
+        let focused = self.focused();
+        if focused == self.shown() {
+            Place::Last(focused)
+        } else {
+            Place::After(focused)
+        }
+    }
+
+    /// The cell of the workspace that the current output shows.
+    fn shown_space(&self) -> Option<&Cell>
+        ensures { MatchOption result (shown_space self.now ≡ end)
+            (λ cell. shown_space self.now ≡ alone cell.now) }
+    {
+        self.outputs.node(self.current)?.kids.node(self.shown())
     }
 
     /// Puts the container first in the order of recency.
@@ -185,9 +222,10 @@ impl Tree {
         self.outputs.set_layout(id, layout);
     }
 
-    /// Takes the container out with all that is below it.
+    /// Takes the container out with all that is below it. The id, where it is there, is that of a container.
     #[tactic(auto, using(crate::proofs::ForestLemmas::at_absent, crate::proofs::ForestLemmas::outside_end, crate::proofs::ForestLemmas::only_absent))]
     pub fn detach(&mut self, id: ConId) -> Result<(), TreeRefusal>
+        requires { has id self.old.outputs ≡ true → kind_of con_kind id self.old.outputs ≢ None }
         ensures missing { has id self.old.outputs ≡ false → result ≡ Err (Missing id) }
         ensures there { has id self.old.outputs ≡ true → IsOk result }
         ensures tree { self.new ≡ detached id self.old }

@@ -2,7 +2,7 @@ use Rattle.wm_tree.proofs.SoundLemmas.{sound-without, gone-without}
 use Rattle.wm_tree.proofs.tree.Tree.detach.Goals as goal
 
 pub invariant_of-self-2 : goal.invariant_of-self-2
-invariant_of-self-2 c = rw c.take_out.ensures.rest (sound-without _ _ _ c.self.invariant)
+invariant_of-self-2 c = rw c.take_out.ensures.rest (sound-without _ _ _ _ ((rw (← c.self.view_is) at c.requires) c.in-Some.ensures.taken.0) c.self.invariant)
 
 pub returns-clause-gone : goal.returns-clause-gone
-returns-clause-gone c = rw c.take_out.ensures.rest (gone-without _ _ _ c.self.invariant)
+returns-clause-gone c = rw c.take_out.ensures.rest (gone-without _ _ _ _ c.self.invariant)
