@@ -222,7 +222,7 @@ share_bound (Output o) p = omega arith
 share_bound (Space s) p = omega arith
 share_bound (Con c) p = p
 
-share_sum-bound : (row : Forest) → IsWithinLimits row → share_sum row ≤ 1048576 * row_length row
+pub share_sum-bound : (row : Forest) → IsWithinLimits row → share_sum row ≤ 1048576 * row_length row
 share_sum-bound end p = omega arith
 share_sum-bound (con part kids floats rest) p = omega (arith, share_sum-bound rest p.4, share_bound part.kind p.0)
 

@@ -1,13 +1,15 @@
 //! A walk over the nodes of a tree, row by row.
-ghost use Rattle.std.specs.Prelude.{◌≡◌};
+ghost use Rattle.std.specs.Prelude.{◌≡◌, ◌≤◌};
 ghost use Rattle.std.specs.Option.{option_copied};
-ghost use Rattle.wm_tree.specs.Look.{first_part, first_kids, rest_of};
+ghost use Rattle.wm_tree.specs.Limits.{IsWithinLimits};
+ghost use Rattle.wm_tree.specs.Look.{first_part, first_kids, rest_of, row_length, share_sum};
 
 use crate::part::Part;
 use crate::row::Row;
 use std::marker::Model;
 
 /// A row of nodes of a tree, from one of them on. Contracts see it as that row.
+#[derive(Drop)]
 pub struct Cursor<'a> {
     row: &'a Row,
 }
@@ -61,5 +63,16 @@ impl<'a> Cursor<'a> {
             None => Cursor { row },
             Some(cell) => Cursor { row: &cell.rest },
         }
+    }
+
+    /// The sum of the shares of the row's nodes.
+    pub fn share_sum(&self) -> u64
+        requires few { row_length self.now ≤ 256 }
+        requires within { IsWithinLimits self.now }
+        ensures sum { result ≡ share_sum self.now }
+        ensures small { result ≤ 268435456 }
+    {
+        let row = self.row;
+        row.share_sum()
     }
 }

@@ -1,0 +1,2 @@
+pub mod ArrangedLemmas
+pub mod RowLemmas

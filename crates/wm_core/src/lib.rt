@@ -1,0 +1,11 @@
+//! The desk: one history of steps, what each answers, and the frames that are painted.
+#![tactic(auto)]
+
+mod arrange;
+mod frame;
+mod plan;
+mod step;
+
+pub use frame::{Frame, Quad, What};
+pub use plan::Plan;
+pub use step::{Answer, Reply, Step};

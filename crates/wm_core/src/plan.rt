@@ -1,0 +1,100 @@
+//! The plan with which a desk is started.
+ghost use Rattle.std.specs.Prelude.{◌≡◌, ◌↔◌, IsTrue, IfOk};
+ghost use Rattle.wm_core.specs.Plan.{IsSound, IsFitBorder, IsFitOutput, IsFitRect, default_outputs};
+
+use std::alloc::Global;
+use wm_base::{Border, Edges, List, NoMemory, OutputPlan, Rect, Text};
+
+/// The outputs, the default border of containers, and the default gaps of workspaces in pixels.
+#[derive(Debug, Drop)]
+pub struct Plan {
+    pub outputs: List<OutputPlan>,
+    pub border: Border,
+    pub inner: u32,
+    pub outer: u32,
+}
+
+impl Plan {
+    /// The plan of one output DP-1 of 1000x800 at 0,0, with no borders and no gaps.
+    pub fn standard(alloc: Global) -> Result<Plan, NoMemory>
+        ensures outputs { IfOk result (λ plan. plan.outputs ≡ default_outputs) }
+        ensures sound { IfOk result (λ plan. IsSound plan) }
+    {
+        let Ok(name) = Text::new(alloc, "DP-1") else {
+            return Err(NoMemory);
+        };
+        let output = OutputPlan {
+            name,
+            rect: Rect {
+                x: 0,
+                y: 0,
+                w: 1000,
+                h: 800,
+            },
+            reserved: Edges {
+                top: 0,
+                right: 0,
+                bottom: 0,
+                left: 0,
+            },
+        };
+        let outputs = vec![in alloc; output]?;
+        Ok(Plan {
+            outputs: List::of(outputs),
+            border: Border::Bare,
+            inner: 0,
+            outer: 0,
+        })
+    }
+
+    /// Whether the limits hold: one output whose sides are 1 to 16,384 pixels with an area of at most
+    /// 33,554,432, places from -131,072 to 131,071, reserved edges of at most 16,384, a border of at most
+    /// 64 and gaps of at most 1,000.
+    pub fn sound(&self) -> bool
+        ensures { IsTrue result ↔ IsSound self.now }
+    {
+        match self.outputs.items() {
+            [output] => {
+                is_fit_output(output)
+                    && is_fit_border(self.border)
+                    && self.inner <= 1000
+                    && self.outer <= 1000
+            }
+            _ => false,
+        }
+    }
+}
+
+fn is_fit_output(output: &OutputPlan) -> bool
+    ensures { IsTrue result ↔ IsFitOutput output.now }
+{
+    let edges = output.reserved;
+    is_fit_rect(output.rect)
+        && edges.top <= 16384
+        && edges.right <= 16384
+        && edges.bottom <= 16384
+        && edges.left <= 16384
+}
+
+fn is_fit_rect(rect: Rect) -> bool
+    ensures { IsTrue result ↔ IsFitRect rect }
+{
+    -131_072 <= rect.x
+        && rect.x <= 131_071
+        && -131_072 <= rect.y
+        && rect.y <= 131_071
+        && 1 <= rect.w
+        && rect.w <= 16384
+        && 1 <= rect.h
+        && rect.h <= 16384
+        && rect.w * rect.h <= 33_554_432
+}
+
+fn is_fit_border(border: Border) -> bool
+    ensures { IsTrue result ↔ IsFitBorder border }
+{
+    match border {
+        Border::Normal(width) | Border::Pixel(width) => width <= 64,
+        Border::Bare => true,
+    }
+}
