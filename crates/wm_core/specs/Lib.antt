@@ -1,2 +1,5 @@
 pub mod Arranged
+pub mod Frame
+pub mod History
 pub mod Plan
+pub mod Schedule

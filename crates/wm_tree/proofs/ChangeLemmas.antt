@@ -9,6 +9,7 @@ use Rattle.wm_tree.specs.declared.part.NodeKind.TheVariants.{Output, Space, Con}
 use Rattle.wm_tree.specs.Forest.{Forest, end, con}
 use Rattle.wm_tree.specs.Look.{same, has, only, first_kids, row_length, row_with, share_of, share_sum, newcomer_share}
 use Rattle.wm_tree.specs.Change.{at, append, without, put_after, put_last, with_layout, laid_out}
+use Rattle.wm_tree.proofs.ForestLemmas.{or_false}
 use Rattle.wm_tree.specs.Limits.{IsFit, IsWithinLimits, tally}
 
 -- ---- a change at one node, by cases on where the node stands
@@ -84,6 +85,15 @@ counted c (con part kids floats rest) h =
     counts false false true r x y z p q s h = omega (arith, q refl)
     counts false false false true x y z p q s h = omega (arith, s refl)
     counts false false false false x y z p q s h = cc
+
+-- one that is not there is not counted
+pub tally-absent : (c : ConId) (f : Forest) → has c f ≡ false → tally c f ≡ 0
+tally-absent c end h = refl
+tally-absent c (con part kids floats rest) h =
+    let r = or_false (same part.id c || has c kids || has c floats) (has c rest) h in
+    let q = or_false (same part.id c || has c kids) (has c floats) r.0 in
+    let p = or_false (same part.id c) (has c kids) q.0 in
+    rw p.0 (omega (arith, tally-absent c kids p.1, tally-absent c floats q.1, tally-absent c rest r.1))
 
 found_step : (c : ConId) (a k l r : Bool) (part : Part) (kids floats rest : Forest) → same part.id c ≡ a → (k ≡ true → 1 ≤ tally c (only c kids)) → (l ≡ true → 1 ≤ tally c (only c floats))
     → (r ≡ true → 1 ≤ tally c (only c rest)) → (a || k || l || r) ≡ true → 1 ≤ tally c (cond a (con part kids floats end) (cond k (only c kids) (cond l (only c floats) (only c rest))))

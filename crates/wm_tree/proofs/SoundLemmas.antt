@@ -16,7 +16,7 @@ use Rattle.wm_tree.specs.Look.{same, has, only, row_length, newcomer_share}
 use Rattle.wm_tree.specs.Change.{without, put_after, put_last, with_layout}
 use Rattle.wm_tree.specs.Limits.{IsFit, IsWithinLimits, IsOutputRect, IsSound, tally}
 use Rattle.wm_tree.specs.TreeValue.{opening, id, named, put, siblings, attached, new_part, passed_limit, IsPlace, TreeValue}
-use Rattle.wm_tree.proofs.ChangeLemmas.{tally-without, tally-put_after, tally-put_last, tally-with_layout, limits-without, limits-with_layout, limits-put_last, limits-put_after, counted, found_counted, within-first_kids, within-row_with, newcomer_share-bound}
+use Rattle.wm_tree.proofs.ChangeLemmas.{tally-without, tally-put_after, tally-put_last, tally-with_layout, limits-without, limits-with_layout, limits-put_last, limits-put_after, counted, tally-absent, found_counted, within-first_kids, within-row_with, newcomer_share-bound}
 use Rattle.wm_tree.specs.Shape.{IsShaped, IsAt, ShowsOwn, outputs, containers}
 use Rattle.wm_tree.proofs.ForestLemmas.{at_absent}
 use Rattle.wm_tree.proofs.ShapeLemmas.{IsConFirst, KeepsRow, shaped-without, shaped-with_layout, shaped-put_last, shaped-put_after}
@@ -121,3 +121,30 @@ pub sound-attached : (t : TreeValue) (at : Place) (new : NewCon) → IsSound t.o
 sound-attached t at (Window owner) s there ok room =
     sound-put t at (new_part (id t.next_id) (newcomer_share (siblings t at)) (Window owner)) s refl (newcomer_share-bound (siblings t at) (siblings_within t at s.within)) tt tt there ok
     (room_left (row_length (siblings t at)) t.next_id room)
+
+-- ---- which ids are there after a change
+
+absent_zero : (c : ConId) (f : Forest) (b : Bool) → has c f ≡ b → 1 ≤ tally c f → has c f ≡ true
+absent_zero c f true e h = e
+absent_zero c f false e h = absurd (omega (arith, tally-absent c f e))
+
+counted_there : (c : ConId) (f : Forest) → 1 ≤ tally c f → has c f ≡ true
+counted_there c f h = absent_zero c f (has c f) refl h
+
+pub has-without : (c : ConId) (f : Forest) (v : ConId) → has v (without c f) ≡ true → has v f ≡ true
+has-without c f v h = counted_there v f (omega (arith, counted v (without c f) h, tally-without v c f))
+
+pub has-with_layout : (c : ConId) (layout : Layout) (f : Forest) (v : ConId) → has v (with_layout c layout f) ≡ true → has v f ≡ true
+has-with_layout c layout f v h = counted_there v f (omega (arith, counted v (with_layout c layout f) h, tally-with_layout v c layout f))
+
+tally-put : (at : Place) (row f : Forest) (v : ConId) → tally v (put at row f) ≤ tally v f + tally v row
+tally-put (After c) row f v = tally-put_after v c row f
+tally-put (Last c) row f v = tally-put_last v c row f
+
+pub has-put : (at : Place) (part : Part) (f : Forest) (v : ConId) → has v (put at (newcomer part) f) ≡ true → same part.id v ≡ false → has v f ≡ true
+has-put at part f v h other =
+    let one : tally v (newcomer part) ≡ 0 = rw other refl in
+    counted_there v f (omega (arith, counted v (put at (newcomer part) f) h, tally-put at (newcomer part) f v))
+
+pub new_part-id : (c : ConId) (share : ℕ) (new : NewCon) → (new_part c share new).id ≡ c
+new_part-id c share (Window owner) = refl

@@ -4,7 +4,7 @@ ghost use Rattle.std.specs.Option.{option_copied};
 ghost use Rattle.wm_tree.specs.Limits.{IsOutputRect, IsWithinLimits};
 ghost use Rattle.wm_tree.specs.Forest.{end};
 ghost use Rattle.wm_tree.specs.Row.{alone};
-ghost use Rattle.wm_tree.specs.Look.{con_kind, has, kind_of, newcomer_share, output_kind, space_kind};
+ghost use Rattle.wm_tree.specs.Look.{con_kind, has, kind_of, newcomer_share, output_kind, same, space_kind};
 ghost use Rattle.wm_tree.specs.TreeValue.{attached, detached, focused, id, named, opening, parent, passed_limit, newcomer_place, shown, shown_space, with_raised, with_space_layout, siblings, IsAttachCause, IsPlace};
 ghost use Rattle.wm_tree.specs.declared.place.TreeRefusal.TheVariants.{Full, Missing};
 ghost use Rattle.wm_tree.specs.declared.place.TreeRefusal.TheVariants as refusals;
@@ -217,7 +217,8 @@ impl Tree {
 
     /// Gives the workspace another layout.
     pub fn set_layout(&mut self, id: ConId, layout: Layout)
-        ensures { self.new ≡ with_space_layout id layout self.old }
+        ensures tree { self.new ≡ with_space_layout id layout self.old }
+        ensures none_new { (v : ConId) → has v self.new.outputs ≡ true → has v self.old.outputs ≡ true }
     {
         self.outputs.set_layout(id, layout);
     }
@@ -230,6 +231,7 @@ impl Tree {
         ensures there { has id self.old.outputs ≡ true → IsOk result }
         ensures tree { self.new ≡ detached id self.old }
         ensures gone { has id self.new.outputs ≡ false }
+        ensures none_new { (v : ConId) → has v self.new.outputs ≡ true → has v self.old.outputs ≡ true }
     {
         let Some(gone) = self.outputs.take_out(id) else {
             return Err(TreeRefusal::Missing(id));
@@ -243,6 +245,7 @@ impl Tree {
         requires { IsPlace self.old at }
         ensures ok { OnOk result (self.new ≡ attached at new self.old) }
         ensures id { IfOk result (λ new_id. new_id ≡ id self.old.next_id) }
+        ensures one_new { OnOk result ((v : ConId) → has v self.new.outputs ≡ true → same (id self.old.next_id) v ≡ false → has v self.old.outputs ≡ true) }
         ensures err { OnErr result (self.new ≡ self.old) }
 
         // A missing node is reported before a limit, and a limit before want of memory.

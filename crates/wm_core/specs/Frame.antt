@@ -1,0 +1,58 @@
+-- The frame of a history: the arrangement of its last ended transaction, each window with its last buffer.
+use Rattle.std.specs.Prelude.{ℕ, ◌==◌, ◌++◌, Bool, if◌then◌else◌, List, [], ◌∷◌, Option, None, Some, flat_map}
+use Rattle.wm_base.specs.declared.ids.Buffer.{Buffer}
+use Rattle.wm_base.specs.declared.ids.ConId.{ConId}
+use Rattle.wm_base.specs.declared.errors.Limit.{Limit}
+use Rattle.wm_tree.specs.TreeValue.{TreeValue, id}
+use Rattle.wm_tree.specs.Look.{same}
+use Rattle.wm_core.specs.declared.arrange.Placed.{Placed}
+use Rattle.wm_core.specs.declared.arrange.PartKind.{PartKind}
+use Rattle.wm_core.specs.declared.arrange.PartKind.TheVariants.{Back, Area, Content}
+use Rattle.wm_core.specs.declared.frame.Frame.{Frame}
+use Rattle.wm_core.specs.declared.frame.Quad.{Quad}
+use Rattle.wm_core.specs.declared.frame.What.TheVariants as shows
+use Rattle.wm_core.specs.declared.step.Step.{Step}
+use Rattle.wm_core.specs.declared.step.Step.TheVariants.{Map, Close, SetLayout}
+use Rattle.wm_core.specs.History.{Entry, tree, has_no_pixels, limit_of}
+use Rattle.wm_core.specs.Schedule.{Turn, turn, done}
+
+-- ---- the buffer that a window shows
+
+abbrev pub given_by : TreeValue → Buffer → Option Limit → ConId → Option Buffer → Option Buffer
+given_by t buffer (Some limit) v before = before
+given_by t buffer None v before = if same (id t.next_id) v then Some buffer else before
+
+-- the buffer of v after a step on a tree: that of an accepted map of v, else the one before
+abbrev pub buffer_after : TreeValue → Step → ConId → Option Buffer → Option Buffer
+buffer_after t (Map buffer) v before = if has_no_pixels buffer.size then before else given_by t buffer (limit_of t) v before
+buffer_after t (Close c) v before = before
+buffer_after t (SetLayout layout) v before = before
+
+-- the last buffer that v was mapped with in the history
+abbrev pub shown : TreeValue → List Entry → ConId → Option Buffer
+shown start [] v = None
+shown start (entry ∷ history) v = buffer_after (tree start history) entry.step v (shown start history v)
+
+-- ---- the frame
+
+abbrev pub content_quad : Placed → Option Buffer → List Quad
+content_quad p None = []
+content_quad p (Some buffer) = record { con = p.con; rect = p.rect; what = shows.Window buffer } ∷ []
+
+abbrev pub part_quad : Placed → PartKind → Option Buffer → List Quad
+part_quad p Back buffer = record { con = p.con; rect = p.rect; what = shows.Back } ∷ []
+part_quad p Area buffer = []
+part_quad p Content buffer = content_quad p buffer
+
+-- the quads of an arrangement, in order: all parts but areas, each window's content with its buffer
+abbrev pub quads : (ConId → Option Buffer) → List Placed → List Quad
+quads buffers [] = []
+quads buffers (p ∷ parts) = part_quad p p.part (buffers p.con) ++ quads buffers parts
+
+abbrev pub frame_at : ℕ → (ConId → Option Buffer) → Option Turn → Frame
+frame_at number buffers None = record { number = number; prefix = 0; quads = [] }
+frame_at number buffers (Some t) = record { number = number; prefix = t.prefix; quads = quads buffers t.parts }
+
+-- the frame of a history
+abbrev pub frame : TreeValue → List Entry → Frame
+frame start history = frame_at (done start history) (shown start history) (turn start (done start history) history)

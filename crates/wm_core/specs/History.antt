@@ -1,0 +1,98 @@
+-- The history of a desk: the steps of its callers, the newest first, and the tree that they leave.
+use Rattle.std.specs.Prelude.{ℕ, ◌==◌, ◌||◌, ◌&&◌, Bool, true, false, if◌then◌else◌, List, [], ◌∷◌, Option, None, Some, is_some, pos}
+use Rattle.wm_base.specs.declared.errors.Limit.{Limit}
+use Rattle.wm_base.specs.declared.geometry.Rect.{Rect}
+use Rattle.wm_base.specs.declared.geometry.Size.{Size}
+use Rattle.wm_base.specs.declared.ids.Buffer.{Buffer}
+use Rattle.wm_base.specs.declared.ids.ConId.{ConId}
+use Rattle.wm_base.specs.declared.plan.OutputPlan.{OutputPlan}
+use Rattle.wm_tree.specs.declared.part.ConPart.{ConPart}
+use Rattle.wm_tree.specs.declared.part.ConKind.{ConKind}
+use Rattle.wm_tree.specs.declared.part.ConKind.TheVariants.{Window}
+use Rattle.wm_tree.specs.declared.place.NewCon.TheVariants as new
+use Rattle.wm_tree.specs.Look.{kind_of, con_kind, space_kind}
+use Rattle.wm_tree.specs.TreeValue.{TreeValue, opening, id, focused, parent, newcomer_place, passed_limit, attached, detached, with_raised, with_space_layout}
+use Rattle.wm_core.specs.declared.plan.Plan.{Plan}
+use Rattle.wm_core.specs.declared.step.Answer.{Answer}
+use Rattle.wm_core.specs.declared.step.Answer.TheVariants.{Done, Mapped, Replies, NoView, Empty, Full}
+use Rattle.wm_core.specs.declared.step.Reply.TheVariants as reply
+use Rattle.wm_core.specs.declared.step.Step.{Step}
+use Rattle.wm_core.specs.declared.step.Step.TheVariants.{Map, Close, SetLayout}
+
+-- a step and the number of its caller
+pub record Entry : Type 0 where
+  pub who : ℕ
+  pub step : Step
+
+-- ---- the opening
+
+abbrev pub first_rect : Rect → List OutputPlan → Rect
+first_rect other [] = other
+first_rect other (output ∷ outputs) = output.rect
+
+-- the opening tree of a plan
+abbrev pub opening_of : Plan → TreeValue
+opening_of plan = opening (first_rect (record { x = pos 0; y = pos 0; w = 0; h = 0 }) plan.outputs)
+
+-- ---- what a step does to a tree
+
+abbrev pub has_no_pixels : Size → Bool
+has_no_pixels size = size.w == 0 || size.h == 0
+
+abbrev pub is_owned : ℕ → ConKind → Bool
+is_owned who (Window owner) = owner == who
+
+abbrev pub owned_by : ℕ → Option ConPart → Bool
+owned_by who None = false
+owned_by who (Some con) = is_owned who con.kind
+
+-- v is an open window of the caller
+abbrev pub is_window : TreeValue → ℕ → ConId → Bool
+is_window t who v = owned_by who (kind_of con_kind v t.outputs)
+
+-- the tree with a new window of the caller, raised, under the next id
+abbrev pub mapped : TreeValue → ℕ → TreeValue
+mapped t who = with_raised (id t.next_id) (attached (newcomer_place t) (new.Window who) t)
+
+-- the first limit that a new window would pass
+abbrev pub limit_of : TreeValue → Option Limit
+limit_of t = passed_limit t (newcomer_place t)
+
+abbrev pub or_id : Option ConId → ConId → ConId
+or_id None other = other
+or_id (Some c) other = c
+
+-- the node whose layout is set: a focused workspace, else the parent of the focused container
+abbrev pub layout_target : TreeValue → ConId
+layout_target t = if is_some (kind_of space_kind (focused t) t.outputs) then focused t else or_id (parent t (focused t)) (focused t)
+
+abbrev pub map_answer : TreeValue → Option Limit → Answer
+map_answer t (Some limit) = Full limit
+map_answer t None = Mapped (id t.next_id)
+
+abbrev pub map_tree : TreeValue → ℕ → Option Limit → TreeValue
+map_tree t who (Some limit) = t
+map_tree t who None = mapped t who
+
+-- what the step is answered
+abbrev pub answer_to : TreeValue → ℕ → Step → Answer
+answer_to t who (Map buffer) = if has_no_pixels buffer.size then Empty else map_answer t (limit_of t)
+answer_to t who (Close v) = if is_window t who v then Done else NoView
+answer_to t who (SetLayout layout) = Replies (reply.Ok ∷ [])
+
+-- the tree that the step leaves; a refused step leaves it as it was
+abbrev pub tree_after : TreeValue → ℕ → Step → TreeValue
+tree_after t who (Map buffer) = if has_no_pixels buffer.size then t else map_tree t who (limit_of t)
+tree_after t who (Close v) = if is_window t who v then detached v t else t
+tree_after t who (SetLayout layout) = with_space_layout (layout_target t) layout t
+
+-- ---- the tree and the answers of a history
+
+-- the tree after a history, from an opening tree
+abbrev pub tree : TreeValue → List Entry → TreeValue
+tree start [] = start
+tree start (entry ∷ history) = tree_after (tree start history) entry.who entry.step
+
+-- what an entry is answered after a history
+abbrev pub answer : TreeValue → List Entry → Entry → Answer
+answer start history entry = answer_to (tree start history) entry.who entry.step
