@@ -1,6 +1,8 @@
 //! Rectangles and sizes in pixels, directions and axes.
-ghost use Rattle.std.specs.Prelude.{◌≡◌, IfSome, IfNone};
-ghost use Rattle.wm_base.specs.Rect.{inset, IsNear, IsNearSpan, IsSmallEdges, IsCommon, IsApart, IsOverlap};
+ghost use Rattle.std.specs.Prelude.{◌≡◌, ◌↔◌, ℤ, IfSome, IfNone};
+ghost use Rattle.wm_base.specs.declared.geometry.Edges.{Edges};
+ghost use Rattle.wm_base.specs.declared.geometry.Rect.{Rect};
+ghost use Rattle.wm_base.specs.Rect.{inset, HasPixel, IsWithinEdges, IsNear, IsNearSpan, IsSmallEdges, IsCommon, IsApart, IsOverlap};
 
 /// A place in pixels from the upper left corner, and a width and a height in pixels.
 #[derive(Clone, Copy, Debug, PartialEq, Eq, Hash)]
@@ -98,3 +100,9 @@ fn common(start: i32, length: u32, other: i32, other_length: u32) -> Option<(i32
         None
     }
 }
+
+/// Moving the sides inwards keeps exactly the pixels that are as far from each side as its edge is wide.
+pub fn inset_pixels()
+    ensures { (r : Rect) (e : Edges) (x y : ℤ) →
+        HasPixel (inset r e) x y ↔ IsWithinEdges r e x y }
+{}

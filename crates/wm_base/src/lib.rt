@@ -12,7 +12,7 @@ mod tests;
 mod text;
 
 pub use errors::{ErrorText, Limit, NoMemory, Refusal};
-pub use geometry::{Axis, Dir, Edges, Rect, Size};
+pub use geometry::{Axis, Dir, Edges, Rect, Size, inset_pixels};
 pub use ids::{Buffer, ConId, Ink};
 pub use list::{List, Str};
 pub use plan::{Border, Layout, OutputPlan};
