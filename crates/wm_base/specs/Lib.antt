@@ -1,2 +1,3 @@
 pub mod ErrorText
 pub mod Rect
+pub mod formers

@@ -1,5 +1,5 @@
 -- Rectangles in whole pixels.
-use Rattle.std.specs.Prelude.{◌≡◌, ℕ, ◌+◌, ◌-◌, ◌<◌, ◌≤◌, ◌↔◌, ℤ, pos, negsuc, ◌+ℤ◌, ◌≤ℤ◌, ◌<ℤ◌}
+use Rattle.std.specs.Prelude.{◌≡◌, ℕ, ◌+◌, ◌-◌, ◌<◌, ◌≤◌, ℤ, pos, negsuc, ◌+ℤ◌, ◌≤ℤ◌, ◌<ℤ◌}
 use Rattle.wm_base.specs.declared.geometry.Rect.{Rect}
 use Rattle.wm_base.specs.declared.geometry.Edges.{Edges}
 
@@ -45,6 +45,12 @@ inset r e = record { x = r.x +ℤ pos e.left; y = r.y +ℤ pos e.top; w = r.w - 
 -- the pixel at this place is in the rectangle
 abbrev pub HasPixel : Rect → ℤ → ℤ → Type 0
 HasPixel r x y = InSpan r.x r.w x × InSpan r.y r.h y
+
+-- the pixel at this place is in the rectangle, and at least as far from each side as its edge is wide
+abbrev pub IsWithinEdges : Rect → Edges → ℤ → ℤ → Type 0
+IsWithinEdges r e x y =
+    ((r.x +ℤ pos e.left) ≤ℤ x) × ((x +ℤ pos e.right) <ℤ (r.x +ℤ pos r.w)) ×
+    ((r.y +ℤ pos e.top) ≤ℤ y) × ((y +ℤ pos e.bottom) <ℤ (r.y +ℤ pos r.h))
 
 -- no pixels, at the place of the rectangle
 abbrev pub empty_at : Rect → Rect

@@ -7,10 +7,12 @@ mod ids;
 mod list;
 mod plan;
 mod properties;
+#[cfg(test)]
+mod tests;
 mod text;
 
 pub use errors::{ErrorText, Limit, NoMemory, Refusal};
-pub use geometry::{Axis, Dir, Edges, Rect, Size};
+pub use geometry::{Axis, Dir, Edges, Rect, Size, inset_pixels};
 pub use ids::{Buffer, ConId, Ink};
 pub use list::{List, Str};
 pub use plan::{Border, Layout, OutputPlan};

@@ -1,5 +1,5 @@
 -- Lemmas on the cut of a length by shares.
-use Rattle.std.proofs.Common.{◌≡◌, ℕ, zero, suc, ◌+◌, ◌*◌, ◌/◌, ◌≤◌, ◌<◌, List, [], ◌∷◌, sum, take, length, inl, inr, refl, arith}
+use Rattle.std.proofs.Common.{◌≡◌, ℕ, zero, suc, ◌+◌, ◌-◌, ◌/◌, ◌≤◌, List, sum, take, length, inl, inr, arith}
 use Rattle.std.proofs.Math.Nat.{div-zero, div-mul-le_self, mul-le-mul_left}
 use Rattle.std.proofs.lemmas.Nat.{le-div}
 use Rattle.std.proofs.lemmas.Bool.{cases_lt}
@@ -12,6 +12,9 @@ pub div_rises : (a b s : ℕ) → a ≤ b → a / s ≤ b / s
 div_rises a b zero h = omega (arith, div-zero a, div-zero b)
 div_rises a b (suc s) h = le-div (a / suc s) b (suc s) (omega arith) (omega (arith, div-mul-le_self a (suc s)))
 
+from_to : (a b : ℕ) → a ≤ b → a + (b - a) ≡ b
+from_to a b h = omega arith
+
 -- the shares before a later child make no less
 pub sum-take-rises : (xs : List ℕ) (i : ℕ) → sum (take i xs) ≤ sum (take (i + 1) xs)
 sum-take-rises xs i =
@@ -22,3 +25,7 @@ sum-take-rises xs i =
 
 pub cut_at-rises : (width i : ℕ) (shares : List ℕ) → cut_at width shares i ≤ cut_at width shares (i + 1)
 cut_at-rises width i shares = div_rises _ _ (sum shares) (mul-le-mul_left width (sum-take-rises shares i))
+
+-- each child ends where the next one begins
+pub cut-joins : (width i : ℕ) (shares : List ℕ) → cut_at width shares i + (cut_at width shares (i + 1) - cut_at width shares i) ≡ cut_at width shares (i + 1)
+cut-joins width i shares = from_to _ _ (cut_at-rises width i shares)

@@ -3,7 +3,7 @@
 
 ghost use Rattle.std.specs.Prelude.{◌≡◌, ℕ, ◌+◌, ◌<◌, ◌≤◌, List, sum, length};
 ghost use Rattle.wm_defs.specs.Counts.{LAST_COUNT, Rose};
-ghost use Rattle.wm_defs.specs.Cut.{cut_at};
+ghost use Rattle.wm_defs.specs.Cut.{cut, cut_at};
 
 /// A count that rose did so for good: a later count, which is no lower, rose too.
 pub fn rising_lasts()
@@ -22,4 +22,6 @@ pub fn cut_covers()
         cut_at width shares (length shares) ≡ width }
     ensures rises { (width i : ℕ) (shares : List ℕ) →
         cut_at width shares i ≤ cut_at width shares (i + 1) }
+    ensures joins { (width i : ℕ) (shares : List ℕ) →
+        let child = cut width shares i in child.0 + child.1 ≡ (cut width shares (i + 1)).0 }
 {}
