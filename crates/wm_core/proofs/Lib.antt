@@ -1,2 +1,5 @@
 pub mod ArrangedLemmas
+pub mod ContentLemmas
 pub mod RowLemmas
+pub mod ScheduleLemmas
+pub mod StandsLemmas

@@ -10,6 +10,7 @@ use Rattle.wm_core.specs.declared.arrange.PartKind.{PartKind}
 use Rattle.wm_core.specs.declared.arrange.PartKind.TheVariants.{Back, Area, Content}
 use Rattle.wm_core.specs.declared.frame.Frame.{Frame}
 use Rattle.wm_core.specs.declared.frame.Quad.{Quad}
+use Rattle.wm_core.specs.declared.frame.What.{What}
 use Rattle.wm_core.specs.declared.frame.What.TheVariants as shows
 use Rattle.wm_core.specs.declared.step.Step.{Step}
 use Rattle.wm_core.specs.declared.step.Step.TheVariants.{Map, Close, SetLayout}
@@ -35,19 +36,24 @@ shown start (entry ∷ history) v = buffer_after (tree start history) entry.step
 
 -- ---- the frame
 
-abbrev pub content_quad : Placed → Option Buffer → List Quad
-content_quad p None = []
-content_quad p (Some buffer) = record { con = p.con; rect = p.rect; what = shows.Window buffer } ∷ []
+abbrev pub window_of : Option Buffer → Option What
+window_of None = None
+window_of (Some buffer) = Some (shows.Window buffer)
 
-abbrev pub part_quad : Placed → PartKind → Option Buffer → List Quad
-part_quad p Back buffer = record { con = p.con; rect = p.rect; what = shows.Back } ∷ []
-part_quad p Area buffer = []
-part_quad p Content buffer = content_quad p buffer
+-- what a part shows: the ground of a workspace, or a window's content with its buffer; areas are not painted
+abbrev pub what_of : PartKind → Option Buffer → Option What
+what_of Back buffer = Some shows.Back
+what_of Area buffer = None
+what_of Content buffer = window_of buffer
 
--- the quads of an arrangement, in order: all parts but areas, each window's content with its buffer
+abbrev pub quad_of : Placed → Option What → List Quad
+quad_of p None = []
+quad_of p (Some what) = record { con = p.con; rect = p.rect; what = what } ∷ []
+
+-- the quads of an arrangement, in order: what its parts show
 abbrev pub quads : (ConId → Option Buffer) → List Placed → List Quad
 quads buffers [] = []
-quads buffers (p ∷ parts) = part_quad p p.part (buffers p.con) ++ quads buffers parts
+quads buffers (p ∷ parts) = quad_of p (what_of p.part (buffers p.con)) ++ quads buffers parts
 
 abbrev pub frame_at : ℕ → (ConId → Option Buffer) → Option Turn → Frame
 frame_at number buffers None = record { number = number; prefix = 0; quads = [] }

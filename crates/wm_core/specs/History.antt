@@ -24,6 +24,10 @@ pub record Entry : Type 0 where
   pub who : ℕ
   pub step : Step
 
+-- the steps that were taken, the newest first
+abbrev pub History : Type 0
+History = List Entry
+
 -- ---- the opening
 
 abbrev pub first_rect : Rect → List OutputPlan → Rect

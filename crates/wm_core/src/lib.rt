@@ -2,10 +2,12 @@
 #![tactic(auto)]
 
 mod arrange;
+mod desk;
 mod frame;
 mod plan;
 mod step;
 
+pub use desk::Desk;
 pub use frame::{Frame, Quad, What};
 pub use plan::Plan;
 pub use step::{Answer, Reply, Step};

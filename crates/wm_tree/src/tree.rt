@@ -1,5 +1,5 @@
 //! The tree: the nodes, the order of recency, the current output and the next id.
-ghost use Rattle.std.specs.Prelude.{◌≡◌, ◌≢◌, false, true, Err, None, IfOk, IfErr, OnOk, OnErr, IsOk, IfSome, MatchOption};
+ghost use Rattle.std.specs.Prelude.{◌≡◌, ◌≢◌, false, true, Err, None, IfOk, IfErr, OnOk, OnErr, IsOk, IfSome, OnSome, MatchOption};
 ghost use Rattle.std.specs.Option.{option_copied};
 ghost use Rattle.wm_tree.specs.Limits.{IsOutputRect, IsWithinLimits};
 ghost use Rattle.wm_tree.specs.Forest.{end};
@@ -127,7 +127,8 @@ impl Tree {
 
     /// The container with this id. `None` exactly where the id names no container.
     pub fn container(&self, id: ConId) -> Option<&ConPart>
-        ensures { option_copied result ≡ kind_of con_kind id self.now.outputs }
+        ensures part { option_copied result ≡ kind_of con_kind id self.now.outputs }
+        ensures there { OnSome result (has id self.now.outputs ≡ true) }
     {
         match self.outputs.find(id)?.part.kind {
             NodeKind::Con(ref part) => Some(part),
@@ -245,6 +246,7 @@ impl Tree {
         requires { IsPlace self.old at }
         ensures ok { OnOk result (self.new ≡ attached at new self.old) }
         ensures id { IfOk result (λ new_id. new_id ≡ id self.old.next_id) }
+        ensures room { OnOk result (passed_limit self.old at ≡ None) }
         ensures one_new { OnOk result ((v : ConId) → has v self.new.outputs ≡ true → same (id self.old.next_id) v ≡ false → has v self.old.outputs ≡ true) }
         ensures err { OnErr result (self.new ≡ self.old) }
 
