@@ -37,44 +37,44 @@ abbrev turn_at : ℕ → List Placed → Turn
 turn_at prefix parts = record { prefix = prefix; parts = parts }
 
 module _ (d : DeskValue) (history : List Entry) (entry : Entry) (t : TreeValue) (buffers : List (ℕ × Buffer)) (s : Stands d history) (early : d.prefix ≤ d.steps)
-  (after : t ≡ tree_after d.tree entry.who entry.step)
-  (given : (v : ConId) → has v t.outputs ≡ true → buffer_in buffers v ≡ buffer_after d.tree entry.step v (shown (opening_of d.plan) history v))
+    (after : t ≡ tree_after d.tree entry.who entry.step)
+    (given : (v : ConId) → has v t.outputs ≡ true → buffer_in buffers v ≡ buffer_after d.tree entry.step v (shown (opening_of d.plan) history v))
   where
-  next_tree : t ≡ tree (opening_of d.plan) (entry ∷ history)
-  next_tree = after ∙ ap (λ z. tree_after z entry.who entry.step) s.tree_is
+    next_tree : t ≡ tree (opening_of d.plan) (entry ∷ history)
+    next_tree = after ∙ ap (λ z. tree_after z entry.who entry.step) s.tree_is
 
-  next_parts : arranged t.outputs ≡ arrangement (opening_of d.plan) (entry ∷ history)
-  next_parts = ap (λ (z : TreeValue). arranged z.outputs) next_tree
+    next_parts : arranged t.outputs ≡ arrangement (opening_of d.plan) (entry ∷ history)
+    next_parts = ap (λ (z : TreeValue). arranged z.outputs) next_tree
 
-  next_buffers : (v : ConId) → has v t.outputs ≡ true → buffer_in buffers v ≡ shown (opening_of d.plan) (entry ∷ history) v
-  next_buffers v h = given v h ∙ ap (λ z. buffer_after z entry.step v (shown (opening_of d.plan) history v)) s.tree_is
+    next_buffers : (v : ConId) → has v t.outputs ≡ true → buffer_in buffers v ≡ shown (opening_of d.plan) (entry ∷ history) v
+    next_buffers v h = given v h ∙ ap (λ z. buffer_after z entry.step v (shown (opening_of d.plan) history v)) s.tree_is
 
-  by_same : (b : Bool) → same_parts (arranged t.outputs) d.parts ≡ b → Stands (desk_by b t buffers d) (entry ∷ history)
-  by_same true e =
-      let test : same_parts (arrangement (opening_of d.plan) (entry ∷ history)) d.parts ≡ true = rw (← next_parts) e in
-      record {
-        counted = omega (arith, s.counted);
-        tree_is = next_tree;
-        ended = turn_stays (opening_of d.plan) history entry d.number _ s.ended;
-        last = none_begins (opening_of d.plan) history entry d.number _ s.ended s.last test;
-        newest = (parts-decide _ _).0 test;
-        buffers = next_buffers;
-      }
-  by_same false e =
-      let test : same_parts (arrangement (opening_of d.plan) (entry ∷ history)) d.parts ≡ false = rw (← next_parts) e in
-      let begun = one_begins (opening_of d.plan) history entry d.number _ s.ended s.last (omega (arith, s.counted)) test in
-      record {
-        counted = omega (arith, s.counted);
-        tree_is = next_tree;
-        ended = rw add-one (begun ∙ ap₂ (λ n p. Some (turn_at n p)) (omega (arith, s.counted)) (sym next_parts));
-        last = rw add-one (then_none (opening_of d.plan) history entry d.number begun);
-        newest = sym next_parts;
-        buffers = next_buffers;
-      }
+    by_same : (b : Bool) → same_parts (arranged t.outputs) d.parts ≡ b → Stands (desk_by b t buffers d) (entry ∷ history)
+    by_same true e =
+        let test : same_parts (arrangement (opening_of d.plan) (entry ∷ history)) d.parts ≡ true = rw (← next_parts) e in
+        record {
+          counted = omega (arith, s.counted);
+          tree_is = next_tree;
+          ended = turn_stays (opening_of d.plan) history entry d.number _ s.ended;
+          last = none_begins (opening_of d.plan) history entry d.number _ s.ended s.last test;
+          newest = (parts-decide _ _).0 test;
+          buffers = next_buffers;
+        }
+    by_same false e =
+        let test : same_parts (arrangement (opening_of d.plan) (entry ∷ history)) d.parts ≡ false = rw (← next_parts) e in
+        let begun = one_begins (opening_of d.plan) history entry d.number _ s.ended s.last (omega (arith, s.counted)) test in
+        record {
+          counted = omega (arith, s.counted);
+          tree_is = next_tree;
+          ended = rw add-one (begun ∙ ap₂ (λ n p. Some (turn_at n p)) (omega (arith, s.counted)) (sym next_parts));
+          last = rw add-one (then_none (opening_of d.plan) history entry d.number begun);
+          newest = sym next_parts;
+          buffers = next_buffers;
+        }
 
-  -- the step leaves the desk standing for the history with the entry
-  pub stands_next : Stands (next_desk t buffers d) (entry ∷ history)
-  stands_next = by_same (same_parts (arranged t.outputs) d.parts) refl
+    -- the step leaves the desk standing for the history with the entry
+    pub stands_next : Stands (next_desk t buffers d) (entry ∷ history)
+    stands_next = by_same (same_parts (arranged t.outputs) d.parts) refl
 
 -- a step that changes neither tree nor buffers is counted
 pub stands_counted : (d : DeskValue) (history : List Entry) (entry : Entry) → Stands d history → d.prefix ≤ d.steps → d.tree ≡ tree_after d.tree entry.who entry.step
@@ -123,7 +123,7 @@ buffer_kept old new i v put other = put ∙ (ap (λ b. cond b None (buffer_in ol
 -- one that is there is not the one that is gone
 pub other_than_gone : (f : Forest) (i v : ConId) → has i f ≡ false → has v f ≡ true → same i v ≡ false
 other_than_gone f i v gone there = by_test (same i v) refl
-    where
+  where
     by_test : (b : Bool) → same i v ≡ b → b ≡ false
     by_test false e = refl
     by_test true e =

@@ -5,3 +5,4 @@ pub mod History
 pub mod Plan
 pub mod Schedule
 pub mod Sizes
+pub mod Text

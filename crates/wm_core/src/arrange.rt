@@ -182,12 +182,7 @@ fn slice(axis: Axis, area: Rect, start: u32, length: u32) -> Rect
 }
 
 /// Adds a part, unless its rectangle is empty.
-fn place(
-    parts: &mut Vec<Placed>,
-    con: ConId,
-    part: PartKind,
-    rect: Rect,
-) -> Result<(), AllocError>
+fn place(parts: &mut Vec<Placed>, con: ConId, part: PartKind, rect: Rect) -> Result<(), AllocError>
     ensures { OnOk result (parts.new.items ≡ parts.old.items ++ placed con part rect) }
 {
     if rect.w == 0 || rect.h == 0 {

@@ -6,8 +6,10 @@ mod desk;
 mod frame;
 mod plan;
 mod step;
+mod text;
 
 pub use desk::Desk;
 pub use frame::{Frame, Quad, What};
 pub use plan::Plan;
 pub use step::{Answer, Reply, Step};
+pub use text::frame_text;

@@ -21,9 +21,9 @@ loop-part-preserved c =
     let kept = c.loop-part.invariant in
     let t = turn c.args.axis c.args.area c.args.kids c.loop-part.row c.in-Some.part.now (sym c.part.ensures ∙ ap option_copied c.in-Some.is) kept.counted kept.left in
     let added =
-        c.in_ok-place_window.ensures
-        ∙ ap (λ r. c.loop-part.parts.items ++ window_parts c.in-Some.part.now.id r)
-          (c.cut-child.ensures ∙ cut_same c.args.axis c.args.area _ _ _ _ _ _ kept.before (ap₂ (λ x y. x + y) kept.before (c.from.ensures ∙ c.share.ensures)) c.requires.total) in
+    c.in_ok-place_window.ensures
+    ∙ ap (λ r. c.loop-part.parts.items ++ window_parts c.in-Some.part.now.id r)
+    (c.cut-child.ensures ∙ cut_same c.args.axis c.args.area _ _ _ _ _ _ kept.before (ap₂ (λ x y. x + y) kept.before (c.from.ensures ∙ c.share.ensures)) c.requires.total) in
     record {
       counted = rw c.rest-row.ensures t.counted;
       before = rw c.rest-row.ensures (omega (arith, t.before, kept.before));

@@ -6,7 +6,6 @@ use Rattle.wm_core.specs.Arranged.{shares, row_parts}
 use Rattle.wm_core.proofs.RowLemmas.{index}
 use Rattle.wm_core.proofs.arrange.place_row.Given as goal
 
-
 -- the parts so far and those of the rest are those of all
 abbrev pub invariant-loop-part : goal.invariant-loop-part
 invariant-loop-part l =
