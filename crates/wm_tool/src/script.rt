@@ -1,0 +1,135 @@
+//! The script: its lines, and what each says.
+ghost use Rattle.std.specs.Prelude.{◌≡◌, ◌==◌, ◌<◌, ◌≤◌, ◌∷◌, not, All, IfOk, IfErr, IfSome, Ok, length, take_while, vec_len};
+ghost use Rattle.wm_tool.specs.declared.script.ScriptRefusal.TheVariants as refusals;
+ghost use Rattle.wm_tool.specs.Script.{close_at, if_end, line_of, lines_of, map_at, script, IsFitLine, IsRefused};
+
+use std::alloc::{AllocFailed, Global};
+use crate::fields::{behind, ink, number};
+use wm_base::{Buffer, ConId, Layout, Size};
+use wm_core::Step;
+
+/// The greatest side of a buffer in pixels.
+const MAX_SIDE: u32 = 16384;
+
+/// A line of a script: a step of caller 0, or a frame to be painted.
+#[derive(Clone, Copy, Debug, PartialEq, Eq)]
+pub enum Line {
+    Do(Step),
+    Paint,
+}
+
+/// What the line says. `None` exactly where it is outside the grammar.
+fn read_line(text: &[u8]) -> Option<Line>
+    ensures value { result ≡ line_of text.now }
+    ensures fit { IfSome result IsFitLine }
+{
+    if let Some(rest) = behind(text, b"map ") {
+        return map_line(rest);
+    }
+    if let Some(rest) = behind(text, b"close ") {
+        return close_line(rest);
+    }
+    if let Some(rest) = behind(text, b"run layout splith") {
+        return at_end(rest, Line::Do(Step::SetLayout(Layout::SplitH)));
+    }
+    if let Some(rest) = behind(text, b"run layout splitv") {
+        return at_end(rest, Line::Do(Step::SetLayout(Layout::SplitV)));
+    }
+    match behind(text, b"paint") {
+        Some(rest) => at_end(rest, Line::Paint),
+        None => None,
+    }
+}
+
+/// The line, where the text is at its end.
+fn at_end(text: &[u8], line: Line) -> Option<Line>
+    ensures value { result ≡ if_end line text.now }
+    ensures same { IfSome result (λ found. found ≡ line) }
+{
+    if text.is_empty() { Some(line) } else { None }
+}
+
+/// `INK WxH`, to the end of the line.
+fn map_line(text: &[u8]) -> Option<Line>
+    ensures value { result ≡ map_at text.now }
+    ensures fit { IfSome result IsFitLine }
+{
+    let (ink, rest) = ink(text)?;
+    let rest = behind(rest, b" ")?;
+    let (w, rest) = number(rest, MAX_SIDE)?;
+    let rest = behind(rest, b"x")?;
+    let (h, rest) = number(rest, MAX_SIDE)?;
+    let buffer = Buffer {
+        ink,
+        size: Size { w, h },
+    };
+    at_end(rest, Line::Do(Step::Map { buffer }))
+}
+
+/// `ID`, to the end of the line.
+fn close_line(text: &[u8]) -> Option<Line>
+    ensures value { result ≡ close_at text.now }
+    ensures fit { IfSome result IsFitLine }
+{
+    let (id, rest) = number(text, u32::MAX)?;
+    at_end(rest, Line::Do(Step::Close { con: ConId(id) }))
+}
+
+/// Why bytes are no script.
+#[derive(Clone, Copy, Debug, PartialEq, Eq)]
+pub enum ScriptRefusal {
+    /// This line, counted from 1, is the first one outside the grammar.
+    BadLine { line: u64 },
+    NoMemory,
+}
+
+impl<T: Drop> From<AllocFailed<T>> for ScriptRefusal {
+    ghost from_gives = { λ _ e. e ≡ refusals.NoMemory };
+
+    fn from(_error: AllocFailed<T>) -> ScriptRefusal {
+        ScriptRefusal::NoMemory
+    }
+}
+
+/// The lines of the script that the bytes are.
+pub fn read_script(alloc: Global, bytes: &[u8]) -> Result<Vec<Line>, ScriptRefusal>
+    ensures ok { IfOk result (λ lines. script bytes.now ≡ Ok lines.items) }
+    ensures fit { IfOk result (λ lines. All IsFitLine lines.items) }
+    ensures few { IfOk result (λ lines. vec_len lines ≤ length bytes.now) }
+    ensures err { IfErr result (IsRefused bytes.now) }
+{
+    let mut lines = Vec::new(alloc);
+    let mut number = 1u64;
+    let mut rest = bytes;
+    while !rest.is_empty() {
+        let (text, after) = first_line(rest);
+        let Some(line) = read_line(text) else {
+            return Err(ScriptRefusal::BadLine { line: number });
+        };
+        lines.push(line)?;
+        number += 1;
+        rest = after;
+    }
+    Ok(lines)
+}
+
+/// The first line of a text, and what is behind its line feed.
+fn first_line(text: &[u8]) -> (&[u8], &[u8])
+    requires { 0 < length text.now }
+    ensures lines { lines_of text.now ≡ result.0.now ∷ lines_of result.1.now }
+    ensures shorter { length result.1.now < length text.now }
+{
+    let end = line_length(text);
+    let (line, rest) = text.split_at(end);
+    match rest {
+        [_feed, after @ ..] => (line, after),
+        [] => (line, rest),
+    }
+}
+
+/// How many bytes stand before the first line feed.
+fn line_length(text: &[u8]) -> usize
+    ensures { result ≡ length (take_while (λ c. not (c == 10)) text.now) }
+{
+    text.iter().take_while(|c| **c != b'\n').count()
+}
