@@ -1,2 +1,3 @@
 pub mod FieldLemmas
+pub mod RunLemmas
 pub mod ScriptLemmas

@@ -1,2 +1,4 @@
+pub mod Ending
 pub mod Output
+pub mod Running
 pub mod Script

@@ -1,7 +1,9 @@
 //! The tool behind the program i3replay: it replays scripts.
 #![tactic(auto)]
 
+mod answers;
 mod fields;
+mod replay;
 mod script;
 mod status;
 
