@@ -4,7 +4,9 @@
 mod answers;
 mod fields;
 mod replay;
+mod run;
 mod script;
 mod status;
 
+pub use run::tool;
 pub use status::Status;

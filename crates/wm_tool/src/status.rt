@@ -1,4 +1,11 @@
 //! How a run of the tool ended.
+ghost use Rattle.std.specs.Prelude.{◌≡◌};
+ghost use Rattle.wm_tool.specs.Status.{of_read, of_script, of_stop, status_number, status_text};
+
+use crate::replay::Stop;
+use crate::script::ScriptRefusal;
+use wm_base::NoMemory;
+use wm_ports::ReadFault;
 
 /// How a run of the tool ended. Its number is the exit status of the program.
 #[derive(Clone, Copy, Debug, PartialEq, Eq)]
@@ -17,4 +24,55 @@ pub enum Status {
     WriteFault,
     /// Memory ran out. What was written is a first part of the output.
     NoMemory,
+}
+
+impl Status {
+    /// The exit status of the program: 0, 2 or 3, and 6 to 9.
+    pub fn number(self) -> u8
+        ensures { result ≡ status_number self }
+    {
+        match self {
+            Status::Done => 0,
+            Status::BadWords => 2,
+            Status::BadScript { line: _ } => 3,
+            Status::TooLarge { read: _ } => 6,
+            Status::ReadFault => 7,
+            Status::WriteFault => 8,
+            Status::NoMemory => 9,
+        }
+    }
+}
+
+impl From<ReadFault> for Status {
+    ghost from_gives = { λ fault s. s ≡ of_read fault };
+
+    fn from(fault: ReadFault) -> Status {
+        match fault {
+            ReadFault::Failed => Status::ReadFault,
+            ReadFault::TooLarge { read } => Status::TooLarge { read },
+            ReadFault::NoMemory => Status::NoMemory,
+        }
+    }
+}
+
+impl From<ScriptRefusal> for Status {
+    ghost from_gives = { λ refusal s. s ≡ of_script refusal };
+
+    fn from(refusal: ScriptRefusal) -> Status {
+        match refusal {
+            ScriptRefusal::BadLine { line } => Status::BadScript { line },
+            ScriptRefusal::NoMemory => Status::NoMemory,
+        }
+    }
+}
+
+impl From<Stop> for Status {
+    ghost from_gives = { λ stop s. s ≡ of_stop stop };
+
+    fn from(stop: Stop) -> Status {
+        match stop {
+            Stop::WriteFault => Status::WriteFault,
+            Stop::NoMemory => Status::NoMemory,
+        }
+    }
 }
