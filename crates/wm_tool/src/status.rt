@@ -4,7 +4,7 @@ ghost use Rattle.wm_tool.specs.Status.{of_read, of_script, of_stop, status_numbe
 
 use crate::replay::Stop;
 use crate::script::ScriptRefusal;
-use wm_base::NoMemory;
+use std::fmt;
 use wm_ports::ReadFault;
 
 /// How a run of the tool ended. Its number is the exit status of the program.
@@ -39,6 +39,25 @@ impl Status {
             Status::ReadFault => 7,
             Status::WriteFault => 8,
             Status::NoMemory => 9,
+        }
+    }
+}
+
+/// Its text, as the program says it on standard error.
+impl fmt::Display for Status {
+    ghost use Rattle.std.specs.Prelude.{Some};
+
+    ghost output = { λ status. Some (status_text status) };
+
+    fn fmt<W: fmt::Write>(&self, f: &mut fmt::Formatter<W>) -> fmt::Result {
+        match *self {
+            Status::Done => Ok(()),
+            Status::BadWords => f.write_str("bad words"),
+            Status::BadScript { line } => write!(f, "bad script, line {line}"),
+            Status::TooLarge { read: _ } => f.write_str("input too large"),
+            Status::ReadFault => f.write_str("read fault"),
+            Status::WriteFault => f.write_str("write fault"),
+            Status::NoMemory => f.write_str("no memory"),
         }
     }
 }

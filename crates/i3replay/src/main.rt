@@ -1,0 +1,78 @@
+//! The program i3replay: replays scripts of windows on the desktop of i3.
+#![tactic(auto)]
+
+use std::alloc::AllocError;
+use std::env;
+use std::io::{self, ErrorKind};
+use std::process::ExitCode;
+use wm_ports::{StdSink, StdSource};
+use wm_tool::{Status, tool};
+
+/// What `--help` writes.
+const HELP: &str = "\
+i3replay: replays scripts of windows on the desktop of i3.
+
+usage: i3replay replay < SCRIPT    write the answers and frames of a script
+       i3replay --help             write this text
+       i3replay --version          write the version
+
+A script has one of these on each line:
+  map INK WxH          open a window: six hexadecimal digits, and its buffer's size
+  close ID             close the window of this id
+  run layout splith    lay the windows out side by side
+  run layout splitv    lay the windows out one above another
+  paint                write the frame
+
+Exit status: 0 done, 2 bad words, 3 bad script, 6 input too large, 7 read fault, 8 write fault, 9 no memory.
+";
+
+/// What `--version` writes.
+const VERSION: &str = "i3replay 0.1.0\n";
+
+fn main(rt: HostRuntime) -> ExitCode {
+    let status = match words(&rt) {
+        Ok(words) => answer(&rt, &words),
+        Err(status) => status,
+    };
+    if status != Status::Done {
+        let _ = eprintln!(rt; "{status}");
+    }
+    ExitCode::from(status.number())
+}
+
+/// The program's words, without its own name. A word that is no UTF-8 is a wrong one.
+fn words(rt: &HostRuntime) -> Result<Vec<String>, Status> {
+    let mut words = Vec::new(rt.alloc());
+    let args = match env::args(rt) {
+        Ok(args) => args,
+        Err(error) if error.kind() == ErrorKind::OutOfMemory => return Err(Status::NoMemory),
+        Err(_) => return Err(Status::BadWords),
+    };
+    for word in args.skip(1) {
+        if words.push(word).is_err() {
+            return Err(Status::NoMemory);
+        }
+    }
+    Ok(words)
+}
+
+/// Answers `--help` and `--version`, and hands all other words to the tool.
+fn answer(rt: &HostRuntime, words: &[String]) -> Status {
+    match words {
+        [word] if word.as_str() == "--help" => say(rt, HELP),
+        [word] if word.as_str() == "--version" => say(rt, VERSION),
+        _ => {
+            let mut source = StdSource::new(rt.stdin());
+            let mut sink = StdSink::new(rt.stdout());
+            tool(rt.alloc(), words, &mut source, &mut sink)
+        }
+    }
+}
+
+/// Writes a text to standard output.
+fn say(rt: &HostRuntime, text: &str) -> Status {
+    match print!(rt; "{text}") {
+        Ok(()) => Status::Done,
+        Err(_) => Status::WriteFault,
+    }
+}
