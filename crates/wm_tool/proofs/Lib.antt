@@ -1,3 +1,4 @@
 pub mod FieldLemmas
+pub mod LawLemmas
 pub mod RunLemmas
 pub mod ScriptLemmas

@@ -1,5 +1,5 @@
 -- The script: its lines, and what each says.
-use Rattle.std.specs.Prelude.{◌≡◌, ℕ, ◌+◌, ◌*◌, ◌-◌, ◌≤◌, ◌==◌, nat_le, nat_lt, ◌&&◌, Bool, true, false, if◌then◌else◌, List, [], ◌∷◌, length, take, drop, Option, None, Some, Result, Ok, Err, codes, take_while}
+use Rattle.std.specs.Prelude.{◌≡◌, ℕ, ◌+◌, ◌*◌, ◌-◌, ◌≤◌, ◌==◌, nat_le, nat_lt, ◌&&◌, Bool, true, false, if◌then◌else◌, List, [], ◌∷◌, length, take, drop, Option, None, Some, Result, Ok, Err, codes, take_while, ◌++◌, All, IsSome}
 use Rattle.std.specs.Char.{is_ascii_digit}
 use Rattle.std.specs.List.{starts_with}
 use Rattle.std.specs.Prelude.{nat_eq}
@@ -121,3 +121,13 @@ IsFitLine Paint = Unit {0}
 abbrev pub IsRefused : List ℕ → ScriptRefusal → Type 0
 IsRefused bytes (refusals.BadLine line) = script bytes ≡ Err line
 IsRefused bytes refusals.NoMemory = Unit {0}
+
+-- the line of this number, counted from 1, is the first of these outside the grammar
+pub record IsFirstBad (texts : List (List ℕ)) (line : ℕ) : Type 0 where
+  pub before : List (List ℕ)
+  pub text : List ℕ
+  pub later : List (List ℕ)
+  pub whole : texts ≡ before ++ text ∷ later
+  pub counted : line ≡ length before + 1
+  pub said : All (λ t. IsSome (line_of t)) before
+  pub bad : line_of text ≡ None

@@ -3,10 +3,15 @@
 
 mod answers;
 mod fields;
+mod laws;
 mod replay;
 mod run;
 mod script;
 mod status;
 
+pub use laws::{bad_line_is_first, script_is_its_lines};
 pub use run::tool;
 pub use status::Status;
+
+#[cfg(test)]
+mod tests;
