@@ -44,7 +44,9 @@ bad_from n text texts line None is more e =
 bad_from n text texts line (Some l) is more e =
     let rest = more line (err_of l (script_from (n + 1) texts) line e) in
     record {
-      before = text ∷ rest.before; text = rest.text; later = rest.later;
+      before = text ∷ rest.before;
+      text = rest.text;
+      later = rest.later;
       whole = ap (λ xs. text ∷ xs) rest.whole;
       counted = omega (arith, rest.counted);
       said = All-cons (λ t. IsSome (line_of t)) text rest.before (is_some text l is) rest.said;

@@ -1,15 +1,14 @@
 -- A script is run line by line, and what it tells is written in pieces.
-use Rattle.std.proofs.Common.{◌≡◌, ◌∙◌, refl, ap, sym, subst, ℕ, ◌+◌, ◌-◌, suc, get_or, All, ◌≤◌, List, [], ◌∷◌, ◌++◌, Option, None, Some, Result, Ok, Err, length, take, drop, arith, length-append, append_assoc}
-use Rattle.std.specs.Prelude.{⊤, pos, OnErr}
+use Rattle.std.proofs.Common.{◌≡◌, ◌∙◌, refl, ap, sym, subst, ℕ, ◌-◌, suc, get_or, ◌≤◌, List, [], ◌∷◌, ◌++◌, Option, None, Some, Result, Ok, Err, length, take, drop, arith, length-append, append_assoc}
+use Rattle.std.specs.Prelude.{pos, OnErr}
 use Rattle.std.proofs.lemmas.List.{append-nil, drop_all, take_all, take-append-drop}
-use Rattle.wm_base.specs.declared.plan.OutputPlan.{OutputPlan}
 use Rattle.wm_tree.specs.TreeValue.{TreeValue, opening}
 use Rattle.wm_core.specs.DeskValue.{DeskValue, Stands}
 use Rattle.wm_core.specs.Frame.{frame}
 use Rattle.wm_core.specs.History.{History, answer, first_rect, opening_of}
 use Rattle.wm_core.specs.Plan.{default_outputs}
 use Rattle.wm_core.specs.Text.{frame_text}
-use Rattle.wm_ports.specs.Told.{TakesAll, TakesPart, GrowsBy}
+use Rattle.wm_ports.specs.Told.{TakesAll, TakesPart}
 use Rattle.wm_tool.specs.declared.script.Line.{Line}
 use Rattle.wm_tool.specs.declared.script.Line.TheVariants.{Do, Paint}
 use Rattle.wm_tool.specs.Output.{answer_text, entry_of, out_from, start}
@@ -40,10 +39,10 @@ runs_line old now desk next piece text line rest whole runs plan leads =
       history = after line runs.history;
       stands = led.0;
       ahead = subst (λ xs. Ahead old now xs whole)
-        (ap (λ xs. piece ++ xs) (told_first start runs.history line rest desk opens)
-        ∙ (sym (append_assoc piece (told desk runs.history line) (out_from (after line runs.history) rest))
-        ∙ ap (λ xs. xs ++ out_from (after line runs.history) rest) (sym led.1)))
-        runs.ahead;
+          (ap (λ xs. piece ++ xs) (told_first start runs.history line rest desk opens)
+          ∙ (sym (append_assoc piece (told desk runs.history line) (out_from (after line runs.history) rest))
+          ∙ ap (λ xs. xs ++ out_from (after line runs.history) rest) (sym led.1)))
+          runs.ahead;
     }
 
 -- ---- writing
@@ -66,10 +65,10 @@ writes old now new desk piece held rest whole runs w =
       history = runs.history;
       stands = runs.stands;
       ahead = write_ahead old now new (take w.count piece) (held ++ ahead) whole
-        (subst (λ xs. Ahead old now xs whole)
+          (subst (λ xs. Ahead old now xs whole)
           (ap (λ xs. xs ++ ahead) (sym (take-append-drop w.count piece) ∙ ap (λ xs. take w.count piece ++ xs) (sym w.left)) ∙ append_assoc (take w.count piece) held ahead)
           runs.ahead)
-        w.taken;
+          w.taken;
     }
 
 none_taken : (now : Option (List ℕ)) → TakesAll now now []
@@ -90,11 +89,13 @@ take_said [] ahead = refl
 take_said (x ∷ said) ahead = ap (λ xs. x ∷ xs) (take_said said ahead)
 
 part_of : (t : List ℕ) (new : Option (List ℕ)) (said ahead whole : List ℕ) → new ≡ Some (t ++ said) → said ++ ahead ≡ whole → TakesPart (Some t) new whole
-part_of t new said ahead whole taken makes =
-    (length said, record {
-      within = omega (arith, ap length (sym makes), length-append said ahead);
-      grown = taken ∙ ap (λ xs. Some (t ++ xs)) (sym (ap (take (length said)) (sym makes) ∙ take_said said ahead));
-    })
+part_of t new said ahead whole taken makes = (
+  length said,
+  record {
+    within = omega (arith, ap length (sym makes), length-append said ahead);
+    grown = taken ∙ ap (λ xs. Some (t ++ xs)) (sym (ap (take (length said)) (sym makes) ∙ take_said said ahead));
+  },
+)
 
 stops_ahead : (old now : Option (List ℕ)) (ahead whole : List ℕ) → Ahead old now ahead whole → TakesPart old now whole
 stops_ahead None now ahead whole a = tt
@@ -114,8 +115,8 @@ fail_said : (t : List ℕ) (now new : Option (List ℕ)) (piece rest whole : Lis
 fail_said t now new piece rest whole s takes =
     let part = subst (λ o. TakesPart o new piece) s.taken takes in
     part_of t new (s.said ++ take part.0 piece) (drop part.0 piece ++ rest) whole
-      (part.1.grown ∙ ap (λ xs. Some xs) (append_assoc t s.said (take part.0 piece)))
-      (split_piece s.said piece rest part.0 ∙ s.makes)
+    (part.1.grown ∙ ap (λ xs. Some xs) (append_assoc t s.said (take part.0 piece)))
+    (split_piece s.said piece rest part.0 ∙ s.makes)
 
 fail_ahead : (old now new : Option (List ℕ)) (piece rest whole : List ℕ) → Ahead old now (piece ++ rest) whole → TakesPart now new piece → TakesPart old new whole
 fail_ahead None now new piece rest whole a takes = tt
@@ -154,4 +155,4 @@ pub runs_first : (old now : Option (List ℕ)) (desk next : DeskValue) (piece te
     → Runs old now next text (take (length rest - 1) (drop 1 rest)) whole
 runs_first old now desk next piece text d rest whole runs some plan leads =
     runs_line old now desk next piece text (get_or rest 0 d) (take (length rest - 1) (drop 1 rest)) whole
-      (subst (λ lines. Runs old now desk piece lines whole) (first_and_rest d rest some) runs) plan leads
+    (subst (λ lines. Runs old now desk piece lines whole) (first_and_rest d rest some) runs) plan leads

@@ -1,9 +1,9 @@
 -- Reading a script line by line.
-use Rattle.std.proofs.Common.{◌≡◌, ℕ, zero, suc, ◌+◌, ◌-◌, ◌<◌, ◌≤◌, Bool, true, false, cond, not, eqb, List, [], ◌∷◌, ◌++◌, length, take, drop, Option, Some, None, Result, Ok, Err, refl, ap, ap₂, sym, ◌∙◌, append_assoc, arith}
+use Rattle.std.proofs.Common.{◌≡◌, ℕ, zero, suc, ◌+◌, ◌-◌, ◌<◌, ◌≤◌, Bool, true, false, cond, not, eqb, List, [], ◌∷◌, ◌++◌, length, take, drop, Result, Ok, Err, refl, ap, ap₂, sym, ◌∙◌, append_assoc, arith}
 use Rattle.std.specs.List.{take_while, prefix_len}
 use Rattle.std.proofs.lemmas.List.{length-take-le, take_all}
 use Rattle.wm_tool.specs.declared.script.Line.{Line}
-use Rattle.wm_tool.specs.Script.{lines_of, onto_first, script_from, read_from, with_line, line_of}
+use Rattle.wm_tool.specs.Script.{lines_of, onto_first, with_line}
 
 -- lines before those that are read, or the refusal
 abbrev pub with_lines : List Line → Result (List Line) ℕ → Result (List Line) ℕ

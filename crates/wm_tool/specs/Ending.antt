@@ -1,5 +1,5 @@
 -- How runs end, and why.
-use Rattle.std.specs.Prelude.{◌≡◌, ℕ, ◌<◌, ◌≤◌, ◌⊎◌, Bool, true, false, bytes_eq, List, [], ◌∷◌, Option, None, Some, Result, Ok, Err, length, codes, string_bytes, ⊤, String}
+use Rattle.std.specs.Prelude.{◌≡◌, ℕ, ◌<◌, ◌≤◌, ◌⊎◌, Bool, false, bytes_eq, List, [], ◌∷◌, Option, None, Some, Result, Ok, Err, length, codes, string_bytes, ⊤, String}
 use Rattle.std.specs.declared.alloc.Global.{Global}
 use Rattle.wm_defs.specs.Counts.{Rose}
 use Rattle.wm_ports.specs.Told.{ReadsCount, ReadsPart, TakesAll, TakesPart}

@@ -1,5 +1,5 @@
 -- A script is run on a desk line by line, and what it tells is written in pieces.
-use Rattle.std.specs.Prelude.{◌≡◌, ℕ, List, [], ◌∷◌, ◌++◌, Option, None, Some, take, drop, ⊤}
+use Rattle.std.specs.Prelude.{◌≡◌, ℕ, List, ◌∷◌, ◌++◌, Option, None, Some, take, drop, ⊤}
 use Rattle.wm_core.specs.DeskValue.{DeskValue, Stands}
 use Rattle.wm_core.specs.Frame.{frame}
 use Rattle.wm_core.specs.History.{History, answer, opening_of}

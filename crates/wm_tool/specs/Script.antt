@@ -1,13 +1,11 @@
 -- The script: its lines, and what each says.
-use Rattle.std.specs.Prelude.{◌≡◌, ℕ, ◌+◌, ◌*◌, ◌-◌, ◌≤◌, ◌==◌, nat_le, nat_lt, ◌&&◌, Bool, true, false, if◌then◌else◌, List, [], ◌∷◌, length, take, drop, Option, None, Some, Result, Ok, Err, codes, take_while, ◌++◌, All, IsSome}
+use Rattle.std.specs.Prelude.{◌≡◌, ℕ, ◌+◌, ◌*◌, ◌-◌, ◌==◌, nat_le, ◌&&◌, if◌then◌else◌, List, [], ◌∷◌, length, drop, Option, None, Some, Result, Ok, Err, codes, take_while, ◌++◌, All, IsSome}
 use Rattle.std.specs.Char.{is_ascii_digit}
 use Rattle.std.specs.List.{starts_with}
 use Rattle.std.specs.Prelude.{nat_eq}
 use Rattle.wm_defs.specs.Hex.{hex_value}
 use Rattle.wm_base.specs.declared.ids.Buffer.{Buffer}
-use Rattle.wm_base.specs.declared.plan.Layout.{Layout}
 use Rattle.wm_base.specs.declared.plan.Layout.TheVariants.{SplitH, SplitV}
-use Rattle.wm_core.specs.declared.step.Step.{Step}
 use Rattle.wm_core.specs.declared.step.Step.TheVariants as step
 use Rattle.wm_core.specs.Sizes.{IsFitStep}
 use Rattle.wm_tool.specs.declared.script.ScriptRefusal.{ScriptRefusal}

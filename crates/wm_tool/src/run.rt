@@ -51,11 +51,7 @@ fn is_replay(words: &[String]) -> bool
 }
 
 /// Replays the script that the source gives.
-fn replay_all<R: Source, W: Sink>(
-    alloc: Global,
-    source: &mut R,
-    sink: &mut W,
-) -> Result<(), Status>
+fn replay_all<R: Source, W: Sink>(alloc: Global, source: &mut R, sink: &mut W) -> Result<(), Status>
     ensures words { ending result ≢ status.BadWords }
     ensures unwritten { OnUnwritten (ending result) (sink.new ≡ sink.old) }
     ensures read { HasRead (ending result) (R.rest source.old) (R.rest source.new) }

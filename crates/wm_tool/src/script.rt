@@ -3,8 +3,8 @@ ghost use Rattle.std.specs.Prelude.{◌≡◌, ◌==◌, ◌<◌, ◌≤◌, ◌
 ghost use Rattle.wm_tool.specs.declared.script.ScriptRefusal.TheVariants as refusals;
 ghost use Rattle.wm_tool.specs.Script.{close_at, if_end, line_of, lines_of, map_at, script, IsFitLine, IsRefused};
 
-use std::alloc::{AllocFailed, Global};
 use crate::fields::{behind, ink, number};
+use std::alloc::{AllocFailed, Global};
 use wm_base::{Buffer, ConId, Layout, Size};
 use wm_core::Step;
 

@@ -24,9 +24,17 @@ fn replayed(
 fn scripts_and_what_they_tell(rt: HostRuntime) -> Result<(), Fail> {
     let cases = [
         ("", Status::Done, ""),
-        ("paint", Status::Done, "frame 0 0\nback 3 0,0 1000x800\nend\n"),
+        (
+            "paint",
+            Status::Done,
+            "frame 0 0\nback 3 0,0 1000x800\nend\n",
+        ),
         ("map 000000 0x1\n", Status::Done, "empty\n"),
-        ("close 7\nrun layout splitv\n", Status::Done, "no-view\n[{\"success\":true}]\n"),
+        (
+            "close 7\nrun layout splitv\n",
+            Status::Done,
+            "no-view\n[{\"success\":true}]\n",
+        ),
         ("paint\nmapp\n", Status::BadScript { line: 2 }, ""),
         ("paint\n\npaint\n", Status::BadScript { line: 2 }, ""),
         ("map 00000g 1x1\n", Status::BadScript { line: 1 }, ""),
@@ -122,8 +130,14 @@ fn words_of_no_command(rt: HostRuntime) -> Result<(), Fail> {
     let none = vec![in rt.alloc(); String::from_str(rt.alloc(), "Replay")?]?;
     let mut source = MemSource::new(Vec::new(rt.alloc()), Vec::new(rt.alloc()));
     let mut sink = MemSink::new(rt.alloc(), 10, Vec::new(rt.alloc()))?;
-    assert_eq!(rt; tool(rt.alloc(), &none, &mut source, &mut sink), Status::BadWords);
-    assert_eq!(rt; tool(rt.alloc(), &[], &mut source, &mut sink), Status::BadWords);
+    assert_eq!(rt;
+        tool(rt.alloc(), &none, &mut source, &mut sink),
+        Status::BadWords
+    );
+    assert_eq!(rt;
+        tool(rt.alloc(), &[], &mut source, &mut sink),
+        Status::BadWords
+    );
     assert!(rt; sink.taken().is_empty());
     Ok(())
 }

@@ -13,10 +13,10 @@ returns-in_err-write_long-clause-part g c = λ old whole runs.
     let told = g.W.Sink.taken c.loop-rest.sink in
     let kept = c.loop-rest.invariant in
     on_err c.from_residual-in_err-write_long.result
-      (fails old told (g.W.Sink.taken c.write_long.new.sink) c.run_line.new.desk (string_bytes c.run_line.new.piece) _ whole
-        (runs_first old told c.loop-rest.desk c.run_line.new.desk (string_bytes c.loop-rest.piece) (string_bytes c.run_line.new.piece) _ c.loop-rest.rest.now whole
-          (kept.runs old whole runs) c.in-len1-up.len_at_least kept.plan c.in_ok-run_line.ensures.ok)
-        c.in_err-write_long.ensures.part)
+    (fails old told (g.W.Sink.taken c.write_long.new.sink) c.run_line.new.desk (string_bytes c.run_line.new.piece) _ whole
+    (runs_first old told c.loop-rest.desk c.run_line.new.desk (string_bytes c.loop-rest.piece) (string_bytes c.run_line.new.piece) _ c.loop-rest.rest.now whole
+    (kept.runs old whole runs) c.in-len1-up.len_at_least kept.plan c.in_ok-run_line.ensures.ok)
+    c.in_err-write_long.ensures.part)
 
 pub loop-rest-preserved : goal.loop-rest-preserved
 loop-rest-preserved g c =
@@ -27,9 +27,9 @@ loop-rest-preserved g c =
       fit = All-take IsFitLine _ _ (All-drop IsFitLine 1 c.loop-rest.rest.now kept.fit);
       plan = ap (λ p. p.outputs) c.in_ok-run_line.ensures.plan ∙ kept.plan;
       runs = λ old whole runs.
-        writes old told (g.W.Sink.taken c.write_long.new.sink) c.run_line.new.desk (string_bytes c.run_line.new.piece) (string_bytes c.write_long.new.piece) _ whole
+          writes old told (g.W.Sink.taken c.write_long.new.sink) c.run_line.new.desk (string_bytes c.run_line.new.piece) (string_bytes c.write_long.new.piece) _ whole
           (runs_first old told c.loop-rest.desk c.run_line.new.desk (string_bytes c.loop-rest.piece) (string_bytes c.run_line.new.piece) _ c.loop-rest.rest.now whole
-            (kept.runs old whole runs) c.in-len1-up.len_at_least kept.plan c.in_ok-run_line.ensures.ok)
+          (kept.runs old whole runs) c.in-len1-up.len_at_least kept.plan c.in_ok-run_line.ensures.ok)
           c.in_ok-write_long.ensures.ok;
       counted = omega (arith, kept.counted, c.write_long.ensures.counted);
     }

@@ -1,6 +1,6 @@
-use Rattle.std.proofs.Common.{◌≡◌, ◌+◌, ◌∙◌, ap, sym, arith}
+use Rattle.std.proofs.Common.{◌+◌, ◌∙◌, ap, sym, arith}
 use Rattle.std.proofs.lemmas.List.Elements.{All-push}
-use Rattle.wm_tool.specs.Script.{script_from, read_from, line_of, IsFitLine, lines_of}
+use Rattle.wm_tool.specs.Script.{script_from, read_from, IsFitLine, lines_of}
 use Rattle.wm_tool.proofs.ScriptLemmas.{with_lines, with_lines-push}
 use Rattle.wm_tool.proofs.script.read_script.Goals as goal
 
