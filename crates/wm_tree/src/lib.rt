@@ -8,6 +8,8 @@ mod part;
 mod place;
 mod recency;
 mod row;
+#[cfg(test)]
+mod tests;
 mod tree;
 
 pub use cursor::Cursor;
