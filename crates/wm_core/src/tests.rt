@@ -36,11 +36,13 @@ fn two_windows(rt: HostRuntime) -> Result<(), Fail> {
     assert_eq!(rt; frame_text(alloc, &desk.frame()?)?.as_str(), text);
     let opened = desk.step(2, &BLUE)?;
     assert!(rt; matches!(opened, Answer::Mapped(ConId(5))));
-    let text = "frame 2 2\nback 3 0,0 1000x800\nwindow 4 0,0 500x800 e0b030 400x300\nwindow 5 500,0 500x800 3070e0 640x480\nend\n";
+    let text =
+        "frame 2 2\nback 3 0,0 1000x800\nwindow 4 0,0 500x800 e0b030 400x300\nwindow 5 500,0 500x800 3070e0 640x480\nend\n";
     assert_eq!(rt; frame_text(alloc, &desk.frame()?)?.as_str(), text);
     let laid_out = desk.step(1, &Step::SetLayout(Layout::SplitV))?;
     assert!(rt; matches!(laid_out, Answer::Replies(_)));
-    let text = "frame 3 3\nback 3 0,0 1000x800\nwindow 4 0,0 1000x400 e0b030 400x300\nwindow 5 0,400 1000x400 3070e0 640x480\nend\n";
+    let text =
+        "frame 3 3\nback 3 0,0 1000x800\nwindow 4 0,0 1000x400 e0b030 400x300\nwindow 5 0,400 1000x400 3070e0 640x480\nend\n";
     assert_eq!(rt; frame_text(alloc, &desk.frame()?)?.as_str(), text);
     let closed = desk.step(1, &Step::Close { con: ConId(4) })?;
     assert!(rt; matches!(closed, Answer::Done));
