@@ -6,6 +6,8 @@ mod desk;
 mod frame;
 mod plan;
 mod step;
+#[cfg(test)]
+mod tests;
 mod text;
 
 pub use desk::Desk;

@@ -1,5 +1,5 @@
 -- The focused node is there, and is the shown workspace or a container.
-use Rattle.std.proofs.Common.{◌≡◌, ◌≢◌, ℕ, ◌+◌, ◌≤◌, Bool, true, false, cond, ◌||◌, ◌⊎◌, inl, inr, ⊎_elim, Option, None, Some, List, [], ◌∷◌, refl, ap, sym, ◌∙◌, subst, arith}
+use Rattle.std.proofs.Common.{◌≡◌, ◌≢◌, ℕ, ◌+◌, ◌≤◌, Bool, true, false, cond, ◌||◌, ◌⊎◌, inl, inr, ⊎_elim, None, Some, List, [], ◌∷◌, refl, ap, sym, ◌∙◌, subst, arith}
 use Rattle.std.proofs.lemmas.Bool.{eq-eqb, eqb-true}
 use Rattle.wm_base.specs.declared.ids.ConId.{ConId}
 use Rattle.wm_tree.specs.declared.part.Part.{Part}
@@ -7,11 +7,11 @@ use Rattle.wm_tree.specs.declared.part.NodeKind.{NodeKind}
 use Rattle.wm_tree.specs.declared.part.NodeKind.TheVariants.{Output, Space, Con}
 use Rattle.wm_tree.specs.declared.part.OutputPart.{OutputPart}
 use Rattle.wm_tree.specs.Forest.{Forest, end, con}
-use Rattle.wm_tree.specs.Look.{same, has, only, in_row, node_in, first_alone, first_kids, first_part, kind_by, kind_of, output_kind, space_kind, con_kind}
+use Rattle.wm_tree.specs.Look.{same, has, only, in_row, node_in, kind_of, output_kind, space_kind, con_kind}
 use Rattle.wm_tree.specs.Limits.{IsSound, tally}
 use Rattle.wm_tree.specs.Recency.{first_in}
 use Rattle.wm_tree.specs.Shape.{Level, outputs, spaces, containers, below, IsAt, ShowsOwn, IsShaped}
-use Rattle.wm_tree.specs.TreeValue.{TreeValue, shown, shown_of, shown_space, current_row, focused, newcomer_place, named, IsPlace}
+use Rattle.wm_tree.specs.TreeValue.{TreeValue, shown, shown_space, focused, newcomer_place, named, IsPlace}
 use Rattle.wm_tree.specs.declared.place.Place.{Place}
 use Rattle.wm_tree.specs.declared.place.Place.TheVariants.{After, Last}
 use Rattle.wm_tree.proofs.ChangeLemmas.{counted}

@@ -1,5 +1,5 @@
 -- A change at a container or a workspace keeps the shape of the tree.
-use Rattle.std.proofs.Common.{◌≡◌, ◌≢◌, Bool, true, false, cond, ◌||◌, Option, None, Some, refl, subst}
+use Rattle.std.proofs.Common.{◌≡◌, ◌≢◌, Bool, true, false, ◌||◌, None, refl, subst}
 use Rattle.wm_base.specs.declared.ids.ConId.{ConId}
 use Rattle.wm_base.specs.declared.plan.Layout.{Layout}
 use Rattle.wm_tree.specs.declared.part.Part.{Part}

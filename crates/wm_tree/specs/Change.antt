@@ -1,5 +1,5 @@
 -- Changing a forest at one node: each word gives the forest back as it was where the node is not there.
-use Rattle.std.specs.Prelude.{Bool, true, false, if◌then◌else◌}
+use Rattle.std.specs.Prelude.{if◌then◌else◌}
 use Rattle.wm_base.specs.declared.ids.ConId.{ConId}
 use Rattle.wm_base.specs.declared.plan.Layout.{Layout}
 use Rattle.wm_tree.specs.declared.part.Part.{Part}

@@ -1,5 +1,5 @@
 -- The nested value of a tree: rows of nodes with what is below them.
-use Rattle.std.specs.Prelude.{ℕ, ◌+◌, ◌≤◌, List, [], ◌∷◌, ◌++◌}
+use Rattle.std.specs.Prelude.{ℕ, ◌+◌}
 use Rattle.wm_tree.specs.declared.part.Part.{Part}
 
 -- A row of nodes: nothing, or its first node with the rest of the row behind it. A node has its part, the row

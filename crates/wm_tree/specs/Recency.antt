@@ -1,5 +1,5 @@
 -- The list of ids by recency, the most recent first.
-use Rattle.std.specs.Prelude.{ℕ, ◌+◌, Bool, true, false, ◌||◌, if◌then◌else◌, not, List, [], ◌∷◌, Option, None, Some, filter}
+use Rattle.std.specs.Prelude.{ℕ, ◌+◌, Bool, false, ◌||◌, if◌then◌else◌, not, List, [], ◌∷◌, Option, None, Some, filter}
 use Rattle.wm_base.specs.declared.ids.ConId.{ConId}
 use Rattle.wm_tree.specs.Forest.{Forest}
 use Rattle.wm_tree.specs.Look.{same, has}

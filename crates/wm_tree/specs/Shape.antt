@@ -1,10 +1,9 @@
 -- The shape of every tree: outputs over workspaces over containers, and each output shows a workspace of its own.
-use Rattle.std.specs.Prelude.{◌≡◌, Bool, true, false, ◌||◌, if◌then◌else◌}
-use Rattle.wm_base.specs.declared.ids.ConId.{ConId}
+use Rattle.std.specs.Prelude.{◌≡◌, true}
 use Rattle.wm_tree.specs.declared.part.NodeKind.{NodeKind}
 use Rattle.wm_tree.specs.declared.part.NodeKind.TheVariants.{Output, Space, Con}
 use Rattle.wm_tree.specs.Forest.{Forest, end, con}
-use Rattle.wm_tree.specs.Look.{same, in_row}
+use Rattle.wm_tree.specs.Look.{in_row}
 
 -- a row of outputs, of workspaces, or of containers
 pub data Level : Type 0 where

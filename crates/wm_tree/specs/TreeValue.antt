@@ -1,5 +1,5 @@
 -- The value of a tree: its nested nodes, the order of recency, the current output and the next id.
-use Rattle.std.specs.Prelude.{◌≡◌, ◌≢◌, ℕ, ◌+◌, ◌≤◌, ◌<◌, nat_le, nat_lt, Bool, true, false, if◌then◌else◌, List, [], ◌∷◌, ◌++◌, Option, None, Some, refl}
+use Rattle.std.specs.Prelude.{◌≡◌, ◌≢◌, ℕ, ◌+◌, nat_le, nat_lt, true, false, if◌then◌else◌, List, [], ◌∷◌, ◌++◌, Option, None, Some, refl}
 use Rattle.std.specs.Coded.{Coded, code_by, coded×, coded_ℕ, coded_list}
 use Rattle.wm_base.specs.contracts.ids.ConId as con_id
 use Rattle.wm_base.specs.declared.geometry.Rect.{Rect}
@@ -11,8 +11,6 @@ use Rattle.wm_base.specs.declared.plan.Layout.TheVariants.{SplitH}
 use Rattle.wm_tree.specs.declared.part.Part.{Part}
 use Rattle.wm_tree.specs.declared.part.NodeKind.TheVariants.{Output, Space, Con}
 use Rattle.wm_tree.specs.declared.part.OutputPart.{OutputPart}
-use Rattle.wm_tree.specs.declared.part.SpacePart.{SpacePart}
-use Rattle.wm_tree.specs.declared.part.ConPart.{ConPart}
 use Rattle.wm_tree.specs.declared.part.ConKind.TheVariants.{Window}
 use Rattle.wm_tree.specs.declared.place.Place.{Place}
 use Rattle.wm_tree.specs.declared.place.Place.TheVariants.{After, Last}

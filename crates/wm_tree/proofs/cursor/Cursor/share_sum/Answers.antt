@@ -1,5 +1,5 @@
 use Rattle.std.proofs.Common.{ap, arith}
-use Rattle.wm_tree.specs.Look.{share_sum, row_length}
+use Rattle.wm_tree.specs.Look.{share_sum}
 use Rattle.wm_tree.proofs.ChangeLemmas.{share_sum-bound}
 use Rattle.wm_tree.proofs.cursor.Cursor.share_sum.Goals as goal
 
