@@ -1,0 +1,4 @@
+pub mod DecodingLemmas
+pub mod FrontLemmas
+pub mod PartialLemmas
+pub mod ReadingLemmas

@@ -1,0 +1,5 @@
+pub mod Frame
+pub mod Front
+pub mod Reading
+pub mod Decoding
+pub mod Partial
