@@ -55,19 +55,19 @@ IsFault Part = ⊥
 IsFault Wrong = Unit {0}
 IsFault (Long n) = Unit {0}
 
-some_fault : (at : ℕ) (f : Front) (x : FrameFault) → fault_at at f ≡ Some x → IsFault f
+pub some_fault : (at : ℕ) (f : Front) (x : FrameFault) → fault_at at f ≡ Some x → IsFault f
 some_fault at (Whole n) x h = cc
 some_fault at Part x h = cc
 some_fault at Wrong x h = tt
 some_fault at (Long n) x h = tt
 
-fault_stays : (bytes : List ℕ) (f g : Front) → IsFault f → Stays bytes f g → f ≡ g
+pub fault_stays : (bytes : List ℕ) (f g : Front) → IsFault f → Stays bytes f g → f ≡ g
 fault_stays bytes (Whole n) g h s = absurd h
 fault_stays bytes Part g h s = absurd h
 fault_stays bytes Wrong g h s = sym s
 fault_stays bytes (Long n) g h s = sym s
 
-fault-not_whole : (f : Front) → IsFault f → NotWhole f
+pub fault-not_whole : (f : Front) → IsFault f → NotWhole f
 fault-not_whole (Whole n) h = absurd h
 fault-not_whole Part h = absurd h
 fault-not_whole Wrong h = λ n k. cc

@@ -2,3 +2,4 @@ pub mod DecodingLemmas
 pub mod FrontLemmas
 pub mod PartialLemmas
 pub mod ReadingLemmas
+pub mod StepLemmas

@@ -127,3 +127,7 @@ kept_fault at bytes (Whole n) x h = absurd (cc)
 kept_fault at bytes Part x h = absurd (cc)
 kept_fault at bytes Wrong x h = refl
 kept_fault at bytes (Long n) x h = refl
+
+-- with no fault at the front the magic is right so far, and the length within the limit
+pub no_fault : (at : ℕ) (bytes : List ℕ) → fault_at at (front_of bytes) ≡ None → (agrees MAGIC bytes ≡ true) × (10 ≤ length bytes → length_field bytes ≤ 262144)
+no_fault at bytes h = no_fault_at at bytes (front_of bytes) (front_is bytes) h

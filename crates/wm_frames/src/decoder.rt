@@ -95,7 +95,7 @@ impl Decoder {
     {
         let mut head = self.partial.head.copied();
         let taken = head.fill(piece);
-        let after = &piece[taken..];
+        let (_, after) = piece.split_at(taken);
         if let Some(fault) = fault_of(self.place, head.bytes()) {
             self.partial = Partial::new(self.alloc);
             self.fault = Some(fault);

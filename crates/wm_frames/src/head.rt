@@ -1,5 +1,5 @@
 //! The first fourteen bytes of a frame, as far as they have come.
-ghost use Rattle.std.specs.Prelude.{◌≡◌, ◌-◌, ◌++◌, [], length, take, min};
+ghost use Rattle.std.specs.Prelude.{◌≡◌, ◌-◌, ◌≤◌, ◌++◌, [], length, take, min};
 
 use crate::message::HEAD;
 use std::marker::Model;
@@ -44,7 +44,8 @@ impl Head {
 
     /// The bytes.
     pub fn bytes(&self) -> &[u8]
-        ensures { result.now ≡ self.now }
+        ensures value { result.now ≡ self.now }
+        ensures short { length result.now ≤ 14 }
     {
         &self.bytes[..self.len]
     }

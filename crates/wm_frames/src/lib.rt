@@ -9,4 +9,5 @@ mod partial;
 mod whole;
 
 
+pub use decoder::Decoder;
 pub use message::{FrameFault, Message, encode};
