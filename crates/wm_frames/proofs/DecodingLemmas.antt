@@ -1,8 +1,9 @@
 -- A decoder that stands for the bytes fed stands for them and the next piece.
 use Rattle.std.proofs.Common.{◌≡◌, ℕ, ◌+◌, ◌-◌, ◌≤◌, min, Option, Some, None, List, [], ◌∷◌, ◌++◌, drop, length, refl, sym, ◌∙◌, ap, subst, arith, append_assoc, length-append, length-drop, append-nil, add-zero}
 use Rattle.wm_frames.specs.Front.{front_of}
-use Rattle.wm_frames.specs.Reading.{Reading, message_at, with_first, unread, reading, messages, tail, place}
-use Rattle.wm_frames.specs.Decoding.{Decoding, capped, fault_at, kept, Stands, Takes}
+use Rattle.wm_frames.specs.Reading.{Reading, message_at, with_first, unread, reading, messages, tail, place, Ending, ending_at, ending}
+use Rattle.wm_frames.specs.Decoding.{Decoding, capped, fault_of, rest_of, Stands}
+use Rattle.wm_frames.specs.Step.{fault_at, kept, Takes}
 use Rattle.wm_frames.specs.declared.message.Message.{Message}
 use Rattle.wm_frames.specs.declared.message.FrameFault.{FrameFault}
 use Rattle.wm_frames.specs.declared.front.Front.{Front}
@@ -17,6 +18,42 @@ kept-all at bytes Part h = refl
 kept-all at bytes Wrong h = absurd (cc)
 kept-all at bytes (Long n) h = absurd (cc)
 
+-- the ending by what stands at the front of the tail
+fault_of-ending : (at count : ℕ) (f : Front) → fault_of (ending_at at count f) ≡ fault_at at f
+fault_of-ending at count (Whole n) = refl
+fault_of-ending at count Part = refl
+fault_of-ending at count Wrong = refl
+fault_of-ending at count (Long n) = refl
+
+rest_of-ending : (at count : ℕ) (f : Front) (bytes : List ℕ) → rest_of (ending_at at count f) bytes ≡ kept bytes f
+rest_of-ending at count (Whole n) bytes = refl
+rest_of-ending at count Part bytes = refl
+rest_of-ending at count Wrong bytes = refl
+rest_of-ending at count (Long n) bytes = refl
+
+-- standing for bytes, by what stands at the front of their tail
+record StandsAt (fed : List ℕ) (given : List Message) (d : Decoding) : Type 0 where
+  each : messages fed ≡ given ++ d.queue
+  rest : d.rest ≡ kept (tail fed) (front_of (tail fed))
+  at : d.place ≡ capped (place fed)
+  fault : d.fault ≡ fault_at (place fed) (front_of (tail fed))
+
+front_stands : (fed : List ℕ) (given : List Message) (d : Decoding) → Stands fed given d → StandsAt fed given d
+front_stands fed given d s = record {
+  each = s.each;
+  rest = s.left ∙ rest_of-ending (place fed) (length (tail fed)) (front_of (tail fed)) (tail fed);
+  at = s.at;
+  fault = s.fault ∙ fault_of-ending (place fed) (length (tail fed)) (front_of (tail fed));
+}
+
+stands_by : (fed : List ℕ) (given : List Message) (d : Decoding) → StandsAt fed given d → Stands fed given d
+stands_by fed given d s = record {
+  each = s.each;
+  left = s.rest ∙ sym (rest_of-ending (place fed) (length (tail fed)) (front_of (tail fed)) (tail fed));
+  at = s.at;
+  fault = s.fault ∙ sym (fault_of-ending (place fed) (length (tail fed)) (front_of (tail fed)));
+}
+
 -- capping once more changes nothing
 pub capped-add : (a b : ℕ) → capped (capped a + b) ≡ capped (a + b)
 capped-add a b = omega arith
@@ -27,8 +64,8 @@ fault_at-capped a b Part h = refl
 fault_at-capped a b Wrong h = cc
 fault_at-capped a b (Long n) h = cc
 
-pub takes_stands : (fed piece : List ℕ) (given : List Message) (old new : Decoding) → Stands fed given old → old.fault ≡ None → Takes old piece new → Stands (fed ++ piece) given new
-takes_stands fed piece given old new s none t =
+takes_stands_at : (fed piece : List ℕ) (given : List Message) (old new : Decoding) → StandsAt fed given old → old.fault ≡ None → Takes old piece new → StandsAt (fed ++ piece) given new
+takes_stands_at fed piece given old new s none t =
     let r : old.rest ≡ tail fed = s.rest ∙ kept-all (place fed) (tail fed) (front_of (tail fed)) (sym s.fault ∙ none) in
     let e : reading (fed ++ piece) ≡ record { messages = messages fed ++ messages (tail fed ++ piece); tail = tail (tail fed ++ piece) } = reading-append fed piece in
     let k : tail (old.rest ++ piece) ≡ tail (fed ++ piece) = ap (λ xs. tail (xs ++ piece)) r ∙ sym (ap (λ x. x.tail) e) in
@@ -79,8 +116,8 @@ kept-fault bytes more Part h = absurd h
 kept-fault bytes more Wrong h = refl
 kept-fault bytes more (Long n) h = refl
 
-pub fault_stands : (fed piece : List ℕ) (given : List Message) (old : Decoding) (x : FrameFault) → Stands fed given old → old.fault ≡ Some x → Stands (fed ++ piece) given old
-fault_stands fed piece given old x s some =
+fault_stands_at : (fed piece : List ℕ) (given : List Message) (old : Decoding) (x : FrameFault) → StandsAt fed given old → old.fault ≡ Some x → StandsAt (fed ++ piece) given old
+fault_stands_at fed piece given old x s some =
     let is : IsFault (front_of (tail fed)) = some_fault (place fed) (front_of (tail fed)) x (sym s.fault ∙ some) in
     let f : front_of (tail fed) ≡ front_of (tail fed ++ piece) = fault_stays (tail fed) (front_of (tail fed)) (front_of (tail fed ++ piece)) is (front_stays (tail fed) piece) in
     let P : Front → Type 0 = λ g. IsFault g in
@@ -99,14 +136,20 @@ fault_stands fed piece given old x s some =
       fault = s.fault ∙ ap (fault_at (place fed)) g ∙ ap (λ n. fault_at n (front_of (tail (fed ++ piece)))) (sym p);
     }
 
+pub takes_stands : (fed piece : List ℕ) (given : List Message) (old new : Decoding) → Stands fed given old → old.fault ≡ None → Takes old piece new → Stands (fed ++ piece) given new
+takes_stands fed piece given old new s none t = stands_by (fed ++ piece) given new (takes_stands_at fed piece given old new (front_stands fed given old s) none t)
+
+pub fault_stands : (fed piece : List ℕ) (given : List Message) (old : Decoding) (x : FrameFault) → Stands fed given old → old.fault ≡ Some x → Stands (fed ++ piece) given old
+fault_stands fed piece given old x s some = stands_by (fed ++ piece) given old (fault_stands_at fed piece given old x (front_stands fed given old s) some)
+
 -- ---- the beginning, and what is given
 
 no_bytes : front_of [] ≡ Part
 unfolding front_of
 no_bytes = refl
 
-pub new_stands : (d : Decoding) → d.queue ≡ [] → d.rest ≡ [] → d.place ≡ 0 → d.fault ≡ None → Stands [] [] d
-new_stands d q r p f =
+new_stands_at : (d : Decoding) → d.queue ≡ [] → d.rest ≡ [] → d.place ≡ 0 → d.fault ≡ None → StandsAt [] [] d
+new_stands_at d q r p f =
     let u : reading [] ≡ unread [] = reading-not_whole [] (λ n e. let k : Part ≡ Whole n = sym no_bytes ∙ e in absurd (cc)) in
     let t : tail [] ≡ [] = ap (λ x. x.tail) u in
     let g : front_of (tail []) ≡ Part = ap front_of t ∙ no_bytes in
@@ -118,11 +161,14 @@ new_stands d q r p f =
       fault = f ∙ ap (fault_at (place [])) (sym g);
     }
 
+pub new_stands : (d : Decoding) → d.queue ≡ [] → d.rest ≡ [] → d.place ≡ 0 → d.fault ≡ None → Stands [] [] d
+new_stands d q r p f = stands_by [] [] d (new_stands_at d q r p f)
+
 -- what leaves the queue was given
 pub next_stands : (fed : List ℕ) (given one : List Message) (old new : Decoding) → Stands fed given old → old.queue ≡ one ++ new.queue → new ≡ record old { queue = new.queue } → Stands fed (given ++ one) new
 next_stands fed given one old new s q e = record {
   each = s.each ∙ ap (λ xs. given ++ xs) q ∙ sym (append_assoc given one new.queue);
-  rest = ap (λ d. d.rest) e ∙ s.rest;
+  left = ap (λ d. d.rest) e ∙ s.left;
   at = ap (λ d. d.place) e ∙ s.at;
   fault = ap (λ d. d.fault) e ∙ s.fault;
 }

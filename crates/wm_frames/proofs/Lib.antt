@@ -1,4 +1,5 @@
 pub mod DecodingLemmas
+pub mod FrameLemmas
 pub mod FrontLemmas
 pub mod PartialLemmas
 pub mod ReadingLemmas

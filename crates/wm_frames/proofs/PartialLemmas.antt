@@ -3,7 +3,7 @@ use Rattle.std.proofs.Common.{◌≡◌, ℕ, zero, suc, true, ◌+◌, ◌-◌,
 use Rattle.std.proofs.lemmas.List.{take-append-drop, length-take}
 use Rattle.wm_frames.specs.Frame.{MAGIC}
 use Rattle.wm_frames.specs.Front.{agrees, front_of, length_field, kind_field}
-use Rattle.wm_frames.specs.Decoding.{fault_at, kept}
+use Rattle.wm_frames.specs.Step.{fault_at, kept}
 use Rattle.wm_frames.specs.Partial.{IsPartial}
 use Rattle.wm_frames.specs.declared.message.FrameFault.{FrameFault}
 use Rattle.wm_frames.specs.declared.front.Front.{Front}

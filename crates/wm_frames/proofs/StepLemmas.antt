@@ -3,7 +3,8 @@ use Rattle.std.proofs.Common.{◌≡◌, ℕ, zero, suc, ◌+◌, ◌-◌, ◌<�
 use Rattle.std.proofs.Math.Seq.{take-append-add, drop-append-add}
 use Rattle.wm_frames.specs.Front.{front_of, length_field, kind_field}
 use Rattle.wm_frames.specs.Reading.{Reading, message_at, reading, messages, tail}
-use Rattle.wm_frames.specs.Decoding.{Decoding, capped, fault_at, kept, Takes}
+use Rattle.wm_frames.specs.Decoding.{Decoding, capped}
+use Rattle.wm_frames.specs.Step.{fault_at, kept, Takes}
 use Rattle.wm_frames.specs.Partial.{IsPartial}
 use Rattle.wm_frames.specs.declared.message.Message.{Message}
 use Rattle.wm_frames.specs.declared.message.FrameFault.{FrameFault}

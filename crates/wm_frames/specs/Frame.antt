@@ -15,6 +15,11 @@ MAX_PAYLOAD = 262144
 abbrev pub frame : Message → List ℕ
 frame m = MAGIC ++ to_le_bytes w32 (length m.payload) ++ to_le_bytes w32 m.kind ++ m.payload
 
+-- a message that has a frame: its type and its payload's length fit 32 bits
+pub record IsFramed (m : Message) : Type 0 where
+  pub kind : m.kind < 2 ^ 32
+  pub payload : length m.payload < 2 ^ 32
+
 -- a message whose frame is read: its type fits 32 bits, and its payload is within the limit
 pub record IsShort (m : Message) : Type 0 where
   pub kind : m.kind < 2 ^ 32

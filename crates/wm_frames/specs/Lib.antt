@@ -3,3 +3,4 @@ pub mod Front
 pub mod Reading
 pub mod Decoding
 pub mod Partial
+pub mod Step

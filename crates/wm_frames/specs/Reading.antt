@@ -1,6 +1,6 @@
 -- The one reading of some bytes: the messages whose frames stand one after another from the start, and how the bytes end.
-use Rattle.std.specs.Prelude.{◌≡◌, ℕ, zero, suc, ◌+◌, ◌-◌, ◌++◌, List, [], ◌∷◌, length, take, drop, All}
-use Rattle.std.specs.List.{flat_map}
+use Rattle.std.specs.Prelude.{◌≡◌, ℕ, zero, suc, ◌+◌, ◌-◌, ◌++◌, List, [], ◌∷◌, length, take, drop, ◌<◌, slice_index}
+use Rattle.std.specs.List.{flat_map, AllByRecursion}
 use Rattle.wm_frames.specs.Frame.{frame, IsShort}
 use Rattle.wm_frames.specs.Front.{front_of, kind_field}
 use Rattle.wm_frames.specs.declared.message.Message.{Message}
@@ -69,6 +69,10 @@ ending bytes = ending_at (place bytes) (length (tail bytes)) (front_of (tail byt
 
 -- ---- the same said as a relation
 
+-- each is a byte
+abbrev pub AreBytes : List ℕ → Type 0
+AreBytes bytes = (i : ℕ) → slice_index bytes i < 256
+
 -- no short message's frame stands at the front
 abbrev pub HasNoFrame : List ℕ → Type 0
 HasNoFrame bytes = (m : Message) → (more : List ℕ) → IsShort m → bytes ≡ frame m ++ more → ⊥
@@ -76,5 +80,5 @@ HasNoFrame bytes = (m : Message) → (more : List ℕ) → IsShort m → bytes �
 -- the bytes are the frames of these messages, and then bytes with no frame at their front
 pub record Splits (bytes : List ℕ) (messages : List Message) (tail : List ℕ) : Type 0 where
   pub whole : bytes ≡ flat_map frame messages ++ tail
-  pub short : All IsShort messages
+  pub short : AllByRecursion IsShort messages
   pub none : HasNoFrame tail

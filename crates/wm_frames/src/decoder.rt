@@ -35,12 +35,14 @@ impl Model for Decoder {
 }
 
 impl Decoder {
-    ghost use Rattle.wm_frames.specs.Decoding.{Stands, Takes};
+    ghost use Rattle.wm_frames.specs.Decoding.{Stands};
+    ghost use Rattle.wm_frames.specs.Step.{Takes};
     ghost use Rattle.wm_frames.specs.declared.message.Message.{Message};
 
     /// A decoder that was fed nothing.
     pub fn new(alloc: Global) -> Decoder
-        ensures { Stands [] [] result }
+        ensures empty { result ≡ record { queue = []; rest = []; place = 0; fault = None } }
+        ensures stands { Stands [] [] result }
     {
         Decoder {
             alloc,
@@ -74,9 +76,10 @@ impl Decoder {
         // What was given and is queued, and the rest or the fault, are the one reading of all bytes fed.
         ensures stands { (result ≡ Err FrameFault.NoMemory → ⊥) → (fed : List ℕ) → (given : List Message)
             → Stands fed given self.old → Stands (fed ++ piece.now) given self.new }
-        // The answer is the fault, where there is one.
+        // The answer is the fault, where there is one, and each later feed answers the same.
         ensures ok { OnOk result (self.new.fault ≡ None) }
         ensures fault { IfErr result (λ e. (e ≡ FrameFault.NoMemory → ⊥) → self.new.fault ≡ Some e) }
+        ensures for_good { IfSome self.old.fault (λ e. (result ≡ Err e) × (self.new ≡ self.old)) }
         ensures memory { result ≡ Err FrameFault.NoMemory → self.new ≡ self.old }
     {
         if let Some(fault) = self.fault {

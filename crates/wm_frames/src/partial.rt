@@ -2,7 +2,7 @@
 ghost use Rattle.std.specs.Prelude.{◌≡◌, ℕ, ◌+◌, ◌-◌, ◌<◌, ◌≤◌, ◌++◌, ◌∷◌, [], length, take, drop, vec_len, IfOk, OnOk, OnErr};
 ghost use Rattle.wm_frames.specs.Front.{front_of, length_field, kind_field};
 ghost use Rattle.wm_frames.specs.Reading.{message_at};
-ghost use Rattle.wm_frames.specs.Decoding.{fault_at, kept};
+ghost use Rattle.wm_frames.specs.Step.{fault_at, kept};
 ghost use Rattle.wm_frames.specs.Partial.{IsPartial};
 
 use crate::front::{Front, number_at, read_front};

@@ -1,7 +1,8 @@
 use Rattle.std.proofs.Common.{◌≡◌, ℕ, ◌+◌, ◌-◌, ◌<◌, ◌≤◌, ◌^◌, List, ◌++◌, length, sym, ◌∙◌, ap, refl, arith, rules}
 use Rattle.wm_frames.specs.Front.{front_of, length_field}
 use Rattle.wm_frames.specs.Reading.{tail}
-use Rattle.wm_frames.specs.Decoding.{Decoding, capped, fault_at, kept}
+use Rattle.wm_frames.specs.Decoding.{Decoding}
+use Rattle.wm_frames.specs.Step.{fault_at, kept}
 use Rattle.wm_frames.proofs.ReadingLemmas.{tail-not_whole, tail-length}
 use Rattle.wm_frames.proofs.StepLemmas.{began, misses, fault_takes, part_takes, frame_takes, still_part, partial_by, from_view, body_fits, frame_size}
 use Rattle.wm_frames.proofs.decoder.Decoder.take.Goals as goal
