@@ -1,7 +1,7 @@
 -- A decoder that stands for the bytes fed stands for them and the next piece.
-use Rattle.std.proofs.Common.{◌≡◌, ℕ, ◌+◌, ◌-◌, ◌≤◌, min, Option, Some, None, List, [], ◌∷◌, ◌++◌, drop, length, refl, sym, ◌∙◌, ap, subst, arith, append_assoc, length-append, length-drop, append-nil, add-zero}
+use Rattle.std.proofs.Common.{◌≡◌, ℕ, ◌+◌, ◌-◌, ◌≤◌, Some, None, List, [], ◌∷◌, ◌++◌, drop, length, refl, sym, ◌∙◌, ap, subst, arith, append_assoc, length-drop, append-nil, add-zero}
 use Rattle.wm_frames.specs.Front.{front_of}
-use Rattle.wm_frames.specs.Reading.{Reading, message_at, with_first, unread, reading, messages, tail, place, Ending, ending_at, ending}
+use Rattle.wm_frames.specs.Reading.{Reading, message_at, with_first, unread, reading, messages, tail, place, ending_at, ending}
 use Rattle.wm_frames.specs.Decoding.{Decoding, capped, fault_of, rest_of, Stands}
 use Rattle.wm_frames.specs.Step.{fault_at, kept, Takes}
 use Rattle.wm_frames.specs.declared.message.Message.{Message}
@@ -9,7 +9,7 @@ use Rattle.wm_frames.specs.declared.message.FrameFault.{FrameFault}
 use Rattle.wm_frames.specs.declared.front.Front.{Front}
 use Rattle.wm_frames.specs.declared.front.Front.TheVariants.{Whole, Part, Wrong, Long}
 use Rattle.wm_frames.proofs.FrontLemmas.{front_stays, Stays}
-use Rattle.wm_frames.proofs.ReadingLemmas.{NotWhole, reading-whole, whole-length, tail-length, reading-append, reading-not_whole, place-append, tail-not_whole}
+use Rattle.wm_frames.proofs.ReadingLemmas.{NotWhole, reading-whole, whole-length, tail-length, reading-append, reading-not_whole, place-append}
 
 -- with no fault all of the tail is kept
 kept-all : (at : ℕ) (bytes : List ℕ) (f : Front) → fault_at at f ≡ None → kept bytes f ≡ bytes
@@ -73,14 +73,14 @@ takes_stands_at fed piece given old new s none t =
     let q : capped (old.place + place (old.rest ++ piece)) ≡ capped (place (fed ++ piece)) = ap capped p ∙ capped-add (place fed) (place (tail fed ++ piece)) ∙ sym (ap capped (place-append fed piece)) in
     record {
       each = ap (λ x. x.messages) e
-        ∙ ap (λ xs. messages fed ++ messages (xs ++ piece)) (sym r)
-        ∙ ap (λ xs. xs ++ messages (old.rest ++ piece)) s.each
-        ∙ append_assoc given old.queue (messages (old.rest ++ piece))
-        ∙ ap (λ xs. given ++ xs) (sym t.queue);
+          ∙ ap (λ xs. messages fed ++ messages (xs ++ piece)) (sym r)
+          ∙ ap (λ xs. xs ++ messages (old.rest ++ piece)) s.each
+          ∙ append_assoc given old.queue (messages (old.rest ++ piece))
+          ∙ ap (λ xs. given ++ xs) (sym t.queue);
       rest = t.rest ∙ ap (λ xs. kept xs (front_of xs)) k;
       at = t.at ∙ q;
       fault = t.fault ∙ fault_at-capped (old.place + place (old.rest ++ piece)) (place (fed ++ piece)) (front_of (tail (old.rest ++ piece))) q
-        ∙ ap (λ xs. fault_at (place (fed ++ piece)) (front_of xs)) k;
+          ∙ ap (λ xs. fault_at (place (fed ++ piece)) (front_of xs)) k;
     }
 
 -- ---- a fault is for good
@@ -116,25 +116,53 @@ kept-fault bytes more Part h = absurd h
 kept-fault bytes more Wrong h = refl
 kept-fault bytes more (Long n) h = refl
 
-fault_stands_at : (fed piece : List ℕ) (given : List Message) (old : Decoding) (x : FrameFault) → StandsAt fed given old → old.fault ≡ Some x → StandsAt (fed ++ piece) given old
-fault_stands_at fed piece given old x s some =
-    let is : IsFault (front_of (tail fed)) = some_fault (place fed) (front_of (tail fed)) x (sym s.fault ∙ some) in
+-- after a fault more bytes only make the tail longer
+record Stuck (fed piece : List ℕ) : Type 0 where
+  each : messages (fed ++ piece) ≡ messages fed
+  front : front_of (tail fed) ≡ front_of (tail (fed ++ piece))
+  at : place (fed ++ piece) ≡ place fed
+
+stuck : (fed piece : List ℕ) → IsFault (front_of (tail fed)) → Stuck fed piece
+stuck fed piece is =
     let f : front_of (tail fed) ≡ front_of (tail fed ++ piece) = fault_stays (tail fed) (front_of (tail fed)) (front_of (tail fed ++ piece)) is (front_stays (tail fed) piece) in
     let P : Front → Type 0 = λ g. IsFault g in
     let u : reading (tail fed ++ piece) ≡ unread (tail fed ++ piece) = reading-not_whole (tail fed ++ piece) (fault-not_whole (front_of (tail fed ++ piece)) (subst P f is)) in
     let e : reading (fed ++ piece) ≡ record { messages = messages fed ++ []; tail = tail fed ++ piece } =
-        reading-append fed piece ∙ ap (λ (y : Reading). record { messages = messages fed ++ y.messages; tail = y.tail }) u in
+    reading-append fed piece ∙ ap (λ (y : Reading). record { messages = messages fed ++ y.messages; tail = y.tail }) u in
     let t : tail (fed ++ piece) ≡ tail fed ++ piece = ap (λ y. y.tail) e in
     let l : length (tail (tail fed ++ piece)) ≡ length (tail fed ++ piece) = ap (λ y. length y.tail) u in
     let z : place (tail fed ++ piece) ≡ 0 = omega (arith, l) in
-    let p : place (fed ++ piece) ≡ place fed = place-append fed piece ∙ ap (λ n. place fed + n) z ∙ add-zero (place fed) in
-    let g : front_of (tail fed) ≡ front_of (tail (fed ++ piece)) = f ∙ ap front_of (sym t) in
     record {
-      each = ap (λ y. y.messages) e ∙ append-nil (messages fed) ∙ s.each;
-      rest = s.rest ∙ kept-fault (tail fed) (tail (fed ++ piece)) (front_of (tail fed)) is ∙ ap (kept (tail (fed ++ piece))) g;
-      at = s.at ∙ ap capped (sym p);
-      fault = s.fault ∙ ap (fault_at (place fed)) g ∙ ap (λ n. fault_at n (front_of (tail (fed ++ piece)))) (sym p);
+      each = ap (λ y. y.messages) e ∙ append-nil (messages fed);
+      front = f ∙ ap front_of (sym t);
+      at = place-append fed piece ∙ ap (λ n. place fed + n) z ∙ add-zero (place fed);
     }
+
+fault_stands_at : (fed piece : List ℕ) (given : List Message) (old : Decoding) (x : FrameFault) → StandsAt fed given old → old.fault ≡ Some x → StandsAt (fed ++ piece) given old
+fault_stands_at fed piece given old x s some =
+    let is : IsFault (front_of (tail fed)) = some_fault (place fed) (front_of (tail fed)) x (sym s.fault ∙ some) in
+    let k : Stuck fed piece = stuck fed piece is in
+    record {
+      each = k.each ∙ s.each;
+      rest = s.rest ∙ kept-fault (tail fed) (tail (fed ++ piece)) (front_of (tail fed)) is ∙ ap (kept (tail (fed ++ piece))) k.front;
+      at = s.at ∙ ap capped (sym k.at);
+      fault = s.fault ∙ ap (fault_at (place fed)) k.front ∙ ap (λ n. fault_at n (front_of (tail (fed ++ piece)))) (sym k.at);
+    }
+
+ending-fault : (at count count' : ℕ) (f : Front) → IsFault f → ending_at at count f ≡ ending_at at count' f
+ending-fault at count count' (Whole n) h = absurd h
+ending-fault at count count' Part h = absurd h
+ending-fault at count count' Wrong h = refl
+ending-fault at count count' (Long n) h = refl
+
+-- a fault stands where it stood, whatever comes
+pub ending-append : (fed piece : List ℕ) (x : FrameFault) → fault_of (ending fed) ≡ Some x → ending (fed ++ piece) ≡ ending fed
+ending-append fed piece x some =
+    let is : IsFault (front_of (tail fed)) = some_fault (place fed) (front_of (tail fed)) x (sym (fault_of-ending (place fed) (length (tail fed)) (front_of (tail fed))) ∙ some) in
+    let k : Stuck fed piece = stuck fed piece is in
+    ap (λ n. ending_at n (length (tail (fed ++ piece))) (front_of (tail (fed ++ piece)))) k.at
+    ∙ ap (ending_at (place fed) (length (tail (fed ++ piece)))) (sym k.front)
+    ∙ ending-fault (place fed) (length (tail (fed ++ piece))) (length (tail fed)) (front_of (tail fed)) is
 
 pub takes_stands : (fed piece : List ℕ) (given : List Message) (old new : Decoding) → Stands fed given old → old.fault ≡ None → Takes old piece new → Stands (fed ++ piece) given new
 takes_stands fed piece given old new s none t = stands_by (fed ++ piece) given new (takes_stands_at fed piece given old new (front_stands fed given old s) none t)
@@ -201,12 +229,12 @@ whole_takes old new piece bytes later n b w d q r p f =
     let l : length (tail (old.rest ++ piece)) ≡ length (tail later) = ap length t in
     let long : 14 + n ≤ length bytes = whole-length bytes n w in
     let z : place (old.rest ++ piece) ≡ 14 + n + (length later - length (tail later)) =
-        omega (arith, l, ap length b, ap length d, length-drop (14 + n) bytes, tail-length later) in
+    omega (arith, l, ap length b, ap length d, length-drop (14 + n) bytes, tail-length later) in
     let a : new.place ≡ capped (old.place + place (old.rest ++ piece)) = p ∙ ap (λ k. capped (old.place + k)) (sym z) in
     record {
       queue = q ∙ ap (λ xs. old.queue ++ xs) (sym (ap (λ x. x.messages) u));
       rest = r ∙ ap (λ xs. kept xs (front_of xs)) (sym t);
       at = a;
       fault = f ∙ fault_at-capped new.place (old.place + place (old.rest ++ piece)) (front_of (tail later)) (omega (arith, a))
-        ∙ ap (λ xs. fault_at (old.place + place (old.rest ++ piece)) (front_of xs)) (sym t);
+          ∙ ap (λ xs. fault_at (old.place + place (old.rest ++ piece)) (front_of xs)) (sym t);
     }

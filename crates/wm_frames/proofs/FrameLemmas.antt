@@ -1,15 +1,15 @@
 -- Frames and the reading: a frame is read whatever follows it, and what is read are frames.
-use Rattle.std.proofs.Common.{◌≡◌, ℕ, zero, suc, Bool, false, ◌&&◌, ◌+◌, ◌-◌, ◌*◌, ◌<◌, ◌≤◌, ◌^◌, true, List, [], ◌∷◌, ◌++◌, length, take, drop, get_or, refl, sym, ◌∙◌, ap, subst, arith, append_assoc, length-append, length-drop, append-nil}
+use Rattle.std.proofs.Common.{◌≡◌, ℕ, zero, suc, Bool, false, ◌&&◌, ◌+◌, ◌<◌, ◌≤◌, ◌^◌, true, List, [], ◌∷◌, ◌++◌, length, take, drop, get_or, refl, sym, ◌∙◌, ap, subst, arith, append_assoc, length-append, length-drop, append-nil}
 use Rattle.std.proofs.lemmas.List.{take-append-drop, length-take, get_or-drop, drop-drop}
 use Rattle.std.proofs.lemmas.Bool.Decides.{nat_tests}
 use Rattle.std.proofs.lemmas.Nat.{le_bytes_4, from_le_bytes-to_le_bytes_4}
-use Rattle.std.proofs.Math.Seq.{take-append_seam, drop-append_seam, take-append-add, drop-append-add}
+use Rattle.std.proofs.Math.Seq.{take-append_seam, drop-append_seam, drop-append-add}
 use Rattle.std.specs.List.{flat_map, AllByRecursion}
 use Rattle.std.specs.Prelude.{◌==◌}
 use Rattle.std.specs.Int.{w32, to_le_bytes, from_le_bytes}
 use Rattle.wm_frames.specs.Frame.{MAGIC, frame, IsFramed, IsShort}
 use Rattle.wm_frames.specs.Front.{agrees, front_of, length_field, kind_field}
-use Rattle.wm_frames.specs.Reading.{Reading, message_at, with_first, unread, reading, messages, tail, AreBytes, HasNoFrame, Splits}
+use Rattle.wm_frames.specs.Reading.{Reading, message_at, with_first, reading, messages, tail, AreBytes, HasNoFrame, Splits}
 use Rattle.wm_frames.specs.declared.message.Message.{Message}
 use Rattle.wm_frames.specs.declared.front.Front.{Front}
 use Rattle.wm_frames.specs.declared.front.Front.TheVariants.{Whole, Part, Wrong, Long}
@@ -76,9 +76,10 @@ reading-frames (m ∷ ms) more s =
 
 pub one_frame : (m n : Message) (x y : List ℕ) → IsFramed m → IsFramed n → frame m ++ x ≡ frame n ++ y → (m ≡ n) × (x ≡ y)
 one_frame m n x y hm hn e =
-    let l : length m.payload ≡ length n.payload = sym (frame-length_field m x hm.payload) ∙ ap length_field e ∙ frame-length_field n y hn.payload in
-    (sym (frame-message m x hm.kind) ∙ ap (λ k. message_at k (frame m ++ x)) l ∙ ap (message_at (length n.payload)) e ∙ frame-message n y hn.kind,
-     sym (frame-after m x) ∙ ap (λ k. drop (14 + k) (frame m ++ x)) l ∙ ap (drop (14 + length n.payload)) e ∙ frame-after n y)
+    let l : length m.payload ≡ length n.payload = sym (frame-length_field m x hm.payload) ∙ ap length_field e ∙ frame-length_field n y hn.payload in (
+      sym (frame-message m x hm.kind) ∙ ap (λ k. message_at k (frame m ++ x)) l ∙ ap (message_at (length n.payload)) e ∙ frame-message n y hn.kind,
+      sym (frame-after m x) ∙ ap (λ k. drop (14 + k) (frame m ++ x)) l ∙ ap (drop (14 + length n.payload)) e ∙ frame-after n y,
+    )
 
 -- ---- what is read are frames
 
@@ -134,15 +135,16 @@ whole-frame bytes n small w =
     let payload : List ℕ = take n (drop 14 bytes) in
     let l : length payload ≡ n = omega (arith, length-take n (drop 14 bytes), length-drop 14 bytes) in
     let all : bytes ≡ take 6 bytes ++ (take 4 (drop 6 bytes) ++ (take 4 (drop 10 bytes) ++ (payload ++ drop (14 + n) bytes))) =
-        sym (take-append-drop 6 bytes)
-        ∙ ap (λ xs. take 6 bytes ++ xs) (four_more 6 bytes)
-        ∙ ap (λ xs. take 6 bytes ++ (take 4 (drop 6 bytes) ++ xs)) (four_more 10 bytes)
-        ∙ ap (λ xs. take 6 bytes ++ (take 4 (drop 6 bytes) ++ (take 4 (drop 10 bytes) ++ xs))) (sym (take-append-drop n (drop 14 bytes)) ∙ ap (λ xs. payload ++ xs) (drop-drop n 14 bytes)) in
-    (five_parts bytes MAGIC (to_le_bytes w32 (length payload)) (to_le_bytes w32 (kind_field bytes)) payload (drop (14 + n) bytes) (take 6 bytes) (take 4 (drop 6 bytes)) (take 4 (drop 10 bytes)) all
-        (agrees-take MAGIC bytes facts.1 (omega arith))
-        (sym (field_bytes 6 (length payload) bytes small (omega arith) (l ∙ facts.0)))
-        (sym (field_bytes 10 (kind_field bytes) bytes small (omega arith) refl)),
-     record { kind = kind_fits bytes small; payload = let m : n ≤ 262144 = facts.2 in omega arith })
+    sym (take-append-drop 6 bytes)
+    ∙ ap (λ xs. take 6 bytes ++ xs) (four_more 6 bytes)
+    ∙ ap (λ xs. take 6 bytes ++ (take 4 (drop 6 bytes) ++ xs)) (four_more 10 bytes)
+    ∙ ap (λ xs. take 6 bytes ++ (take 4 (drop 6 bytes) ++ (take 4 (drop 10 bytes) ++ xs))) (sym (take-append-drop n (drop 14 bytes)) ∙ ap (λ xs. payload ++ xs) (drop-drop n 14 bytes)) in (
+      five_parts bytes MAGIC (to_le_bytes w32 (length payload)) (to_le_bytes w32 (kind_field bytes)) payload (drop (14 + n) bytes) (take 6 bytes) (take 4 (drop 6 bytes)) (take 4 (drop 10 bytes)) all
+          (agrees-take MAGIC bytes facts.1 (omega arith))
+          (sym (field_bytes 6 (length payload) bytes small (omega arith) (l ∙ facts.0)))
+          (sym (field_bytes 10 (kind_field bytes) bytes small (omega arith) refl)),
+      record { kind = kind_fits bytes small; payload = let m : n ≤ 262144 = facts.2 in omega arith },
+    )
 
 -- ---- the one reading
 
@@ -159,10 +161,10 @@ splits_up_to (suc c) bytes h small (Whole n) e =
     let m : Message = message_at n bytes in
     let f : (bytes ≡ frame m ++ after) × IsShort m = whole-frame bytes n small e in
     let k : (after ≡ flat_map frame (messages after) ++ tail after) × AllByRecursion IsShort (messages after) =
-        splits_up_to c after (omega (arith, length-drop (14 + n) bytes)) (bytes-drop (14 + n) bytes small) (front_of after) refl in
+    splits_up_to c after (omega (arith, length-drop (14 + n) bytes)) (bytes-drop (14 + n) bytes small) (front_of after) refl in
     let P : Reading → Type 0 = λ r. (bytes ≡ flat_map frame r.messages ++ r.tail) × AllByRecursion IsShort r.messages in
     subst P (sym (reading-whole bytes n e))
-        (f.0 ∙ ap (λ xs. frame m ++ xs) k.0 ∙ sym (append_assoc (frame m) (flat_map frame (messages after)) (tail after)), (f.1, k.1))
+    (f.0 ∙ ap (λ xs. frame m ++ xs) k.0 ∙ sym (append_assoc (frame m) (flat_map frame (messages after)) (tail after)), (f.1, k.1))
 splits_up_to c bytes h small Part e = splits_unread bytes (λ n k. cc)
 splits_up_to c bytes h small Wrong e = splits_unread bytes (λ n k. cc)
 splits_up_to c bytes h small (Long m) e = splits_unread bytes (λ n k. cc)

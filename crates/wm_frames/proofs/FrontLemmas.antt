@@ -5,7 +5,7 @@ use Rattle.std.proofs.lemmas.Bool.Decides.{nat_tests}
 use Rattle.std.specs.Prelude.{◌==◌, if◌then◌else◌, nat_lt, nat_le}
 use Rattle.std.specs.Int.{w32, from_le_bytes}
 use Rattle.wm_frames.specs.Frame.{MAGIC, MAX_PAYLOAD}
-use Rattle.wm_frames.specs.Front.{agrees, front_of, sized, length_field, kind_field}
+use Rattle.wm_frames.specs.Front.{agrees, front_of, length_field, kind_field}
 use Rattle.wm_frames.specs.declared.front.Front.{Front}
 use Rattle.wm_frames.specs.declared.front.Front.TheVariants.{Whole, Part, Wrong, Long}
 
@@ -29,10 +29,10 @@ pub front_is : (bytes : List ℕ) → FrontIs bytes (front_of bytes)
 unfolding front_of
 front_is bytes = choose (FrontIs bytes) (agrees MAGIC bytes) _ _
     (λ a. choose (FrontIs bytes) (nat_le 10 (length bytes) && nat_lt MAX_PAYLOAD (length_field bytes)) _ _
-        (λ h. is_long a (grind (arith, nat_tests)) (grind (arith, nat_tests)))
-        (λ h. choose (FrontIs bytes) (nat_le 14 (length bytes) && nat_le (14 + length_field bytes) (length bytes)) _ _
-            (λ k. is_whole a (grind (arith, nat_tests)) (grind (arith, nat_tests)))
-            (λ k. part_or bytes a (grind (arith, nat_tests)) (grind (arith, nat_tests)))))
+    (λ h. is_long a (grind (arith, nat_tests)) (grind (arith, nat_tests)))
+    (λ h. choose (FrontIs bytes) (nat_le 14 (length bytes) && nat_le (14 + length_field bytes) (length bytes)) _ _
+    (λ k. is_whole a (grind (arith, nat_tests)) (grind (arith, nat_tests)))
+    (λ k. part_or bytes a (grind (arith, nat_tests)) (grind (arith, nat_tests)))))
     (λ w. is_wrong w)
 
 -- ---- more bytes
@@ -90,7 +90,6 @@ long_at bytes _ (is_wrong a) h k l = absurd (cc)
 long_at bytes _ (is_long a b c) h k l = refl
 
 -- ---- the front stays
-
 
 -- what stays when more bytes come: a whole frame, a wrong magic, a length above the limit
 abbrev pub Stays : List ℕ → Front → Front → Type 0

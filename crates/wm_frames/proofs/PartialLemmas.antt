@@ -1,8 +1,8 @@
 -- Lemmas on a frame that is not whole yet.
-use Rattle.std.proofs.Common.{◌≡◌, ℕ, zero, suc, true, ◌+◌, ◌-◌, ◌<◌, ◌≤◌, min, Option, Some, None, List, [], ◌∷◌, ◌++◌, length, take, drop, refl, sym, ◌∙◌, ap, subst, arith, append_assoc, length-append, length-drop, append-nil}
+use Rattle.std.proofs.Common.{◌≡◌, ℕ, zero, suc, true, ◌+◌, ◌-◌, ◌<◌, ◌≤◌, min, Some, None, List, [], ◌∷◌, ◌++◌, length, take, drop, refl, sym, ◌∙◌, ap, subst, arith, append_assoc, length-append, length-drop, append-nil}
 use Rattle.std.proofs.lemmas.List.{take-append-drop, length-take}
 use Rattle.wm_frames.specs.Frame.{MAGIC}
-use Rattle.wm_frames.specs.Front.{agrees, front_of, length_field, kind_field}
+use Rattle.wm_frames.specs.Front.{agrees, front_of, length_field}
 use Rattle.wm_frames.specs.Step.{fault_at, kept}
 use Rattle.wm_frames.specs.Partial.{IsPartial}
 use Rattle.wm_frames.specs.declared.message.FrameFault.{FrameFault}
@@ -30,20 +30,22 @@ abbrev pub Filled : List ℕ → List ℕ → List ℕ → List ℕ → ℕ → 
 Filled head body piece head' taken = ((head ++ body) ++ piece ≡ head' ++ (body ++ drop taken piece)) × (length head' < 14 → body ++ drop taken piece ≡ [])
 
 filled_full : (head body piece head' : List ℕ) → 14 ≤ length head → head' ≡ head ++ [] → Filled head body piece head' 0
-filled_full head body piece head' h is =
-    (append_assoc head body piece ∙ ap (λ xs. xs ++ (body ++ piece)) (sym (append-nil head) ∙ sym is),
-     λ l. let k : length head' ≡ length head = ap length (is ∙ append-nil head) in absurd (omega arith))
+filled_full head body piece head' h is = (
+  append_assoc head body piece ∙ ap (λ xs. xs ++ (body ++ piece)) (sym (append-nil head) ∙ sym is),
+  λ l. let k : length head' ≡ length head = ap length (is ∙ append-nil head) in absurd (omega arith),
+)
 
 filled_open : (head body piece head' : List ℕ) (taken : ℕ) → body ≡ [] → taken ≡ min (14 - length head) (length piece) → length head < 14 → head' ≡ head ++ take taken piece → Filled head body piece head' taken
-filled_open head body piece head' taken b count h is =
-    (ap (λ xs. (head ++ xs) ++ piece) b
-     ∙ ap (λ xs. xs ++ piece) (append-nil head)
-     ∙ ap (λ xs. head ++ xs) (sym (take-append-drop taken piece))
-     ∙ sym (append_assoc head (take taken piece) (drop taken piece))
-     ∙ ap (λ xs. xs ++ drop taken piece) (sym is)
-     ∙ ap (λ xs. head' ++ (xs ++ drop taken piece)) (sym b),
-     λ l. let k : length head' ≡ length (head ++ take taken piece) = ap length is in
-        ap (λ xs. xs ++ drop taken piece) b ∙ drop_all taken piece (omega (arith, length-append head (take taken piece), length-take taken piece)))
+filled_open head body piece head' taken b count h is = (
+  ap (λ xs. (head ++ xs) ++ piece) b
+      ∙ ap (λ xs. xs ++ piece) (append-nil head)
+      ∙ ap (λ xs. head ++ xs) (sym (take-append-drop taken piece))
+      ∙ sym (append_assoc head (take taken piece) (drop taken piece))
+      ∙ ap (λ xs. xs ++ drop taken piece) (sym is)
+      ∙ ap (λ xs. head' ++ (xs ++ drop taken piece)) (sym b),
+  λ l. let k : length head' ≡ length (head ++ take taken piece) = ap length is in
+      ap (λ xs. xs ++ drop taken piece) b ∙ drop_all taken piece (omega (arith, length-append head (take taken piece), length-take taken piece)),
+)
 
 filled_by : (k : ℕ) (head body piece head' : List ℕ) (taken : ℕ) → k ≡ 14 - length head → (length head < 14 → body ≡ []) → taken ≡ min (14 - length head) (length piece) → head' ≡ head ++ take taken piece → Filled head body piece head' taken
 filled_by zero head body piece head' taken e first count is =
@@ -77,6 +79,7 @@ part_goes_on at head body none short first more = record { head_first = first; p
   where
     facts : (agrees MAGIC head ≡ true) × (10 ≤ length head → length_field head ≤ 262144)
     facts = no_fault_at at head (front_of head) (front_is head) none
+
     go : (k : ℕ) → k ≡ 14 - length head → front_of (head ++ body) ≡ Part
     go zero e =
         let m : length body < length_field head = more (omega arith) in

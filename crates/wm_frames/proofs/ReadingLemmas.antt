@@ -1,13 +1,12 @@
 -- Laws of the reading: one frame more, more bytes, and what the tail is.
-use Rattle.std.proofs.Common.{◌≡◌, ℕ, zero, suc, ◌+◌, ◌-◌, ◌<◌, ◌≤◌, List, [], ◌∷◌, ◌++◌, length, take, drop, refl, sym, ◌∙◌, ap, subst, arith, append_assoc, length-append, length-drop}
+use Rattle.std.proofs.Common.{◌≡◌, ℕ, zero, suc, ◌+◌, ◌≤◌, List, ◌++◌, length, take, drop, refl, sym, ◌∙◌, ap, subst, arith, length-append, length-drop}
 use Rattle.std.proofs.lemmas.List.{take-append-le, drop-append-le}
-use Rattle.wm_frames.specs.Frame.{MAGIC}
-use Rattle.wm_frames.specs.Front.{agrees, front_of, length_field, kind_field}
+use Rattle.wm_frames.specs.Front.{front_of, kind_field}
 use Rattle.wm_frames.specs.Reading.{Reading, message_at, with_first, unread, taken, read_up_to, reading, messages, tail, place}
 use Rattle.wm_frames.specs.declared.message.Message.{Message}
 use Rattle.wm_frames.specs.declared.front.Front.{Front}
 use Rattle.wm_frames.specs.declared.front.Front.TheVariants.{Whole, Part, Wrong, Long}
-use Rattle.wm_frames.proofs.FrontLemmas.{FrontIs, front_is, whole_facts, front_stays, Stays, kind_field-append}
+use Rattle.wm_frames.proofs.FrontLemmas.{front_is, whole_facts, front_stays, Stays, kind_field-append}
 
 -- no whole frame stands at the front
 abbrev pub NotWhole : Front → Type 0
@@ -40,15 +39,15 @@ enough zero (suc d) bytes h k = sym (taken-not_whole bytes (front_of bytes) (λ 
 enough (suc c) zero bytes h k = taken-not_whole bytes (front_of bytes) (λ after. read_up_to c after) (empty_not_whole bytes k)
 enough (suc c) (suc d) bytes h k = again_alike bytes (front_of bytes) (λ after. read_up_to c after) (λ after. read_up_to d after)
     (λ n e. let w : 14 + n ≤ length bytes = whole-length bytes n e in
-        enough c d (drop (14 + n) bytes) (omega (arith, length-drop (14 + n) bytes)) (omega (arith, length-drop (14 + n) bytes)))
+    enough c d (drop (14 + n) bytes) (omega (arith, length-drop (14 + n) bytes)) (omega (arith, length-drop (14 + n) bytes)))
 
 -- the reading by its first step
 pub reading-step : (bytes : List ℕ) → reading bytes ≡ taken bytes reading (front_of bytes)
 unfolding reading
 reading-step bytes = enough (length bytes) (suc (length bytes)) bytes (omega arith) (omega arith)
     ∙ again_alike bytes (front_of bytes) (λ after. read_up_to (length bytes) after) reading
-        (λ n e. let w : 14 + n ≤ length bytes = whole-length bytes n e in
-            enough (length bytes) (length (drop (14 + n) bytes)) (drop (14 + n) bytes) (omega (arith, length-drop (14 + n) bytes)) (omega arith))
+    (λ n e. let w : 14 + n ≤ length bytes = whole-length bytes n e in
+    enough (length bytes) (length (drop (14 + n) bytes)) (drop (14 + n) bytes) (omega (arith, length-drop (14 + n) bytes)) (omega arith))
 
 pub reading-whole : (bytes : List ℕ) (n : ℕ) → front_of bytes ≡ Whole n → reading bytes ≡ with_first (message_at n bytes) (reading (drop (14 + n) bytes))
 reading-whole bytes n e = reading-step bytes ∙ ap (taken bytes reading) e
@@ -69,7 +68,7 @@ message_at-append : (n : ℕ) (bytes more : List ℕ) → 14 + n ≤ length byte
 message_at-append n bytes more h =
     let k : kind_field (bytes ++ more) ≡ kind_field bytes = kind_field-append bytes more (omega arith) in
     let p : take n (drop 14 (bytes ++ more)) ≡ take n (drop 14 bytes) =
-        ap (take n) (drop-append-le 14 bytes more (omega arith)) ∙ take-append-le n (drop 14 bytes) more (omega (arith, length-drop 14 bytes)) in
+    ap (take n) (drop-append-le 14 bytes more (omega arith)) ∙ take-append-le n (drop 14 bytes) more (omega (arith, length-drop 14 bytes)) in
     let make : ℕ → List ℕ → Message = λ kind payload. record { kind = kind; payload = payload } in
     ap (λ kind. make kind (take n (drop 14 (bytes ++ more)))) k ∙ ap (make (kind_field bytes)) p
 

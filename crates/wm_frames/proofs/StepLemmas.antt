@@ -1,15 +1,15 @@
 -- One piece, on the three ways that it goes: a fault, a part of a frame, a whole frame.
-use Rattle.std.proofs.Common.{◌≡◌, ℕ, zero, suc, ◌+◌, ◌-◌, ◌<◌, ◌≤◌, ◌^◌, min, Option, Some, None, List, [], ◌∷◌, ◌++◌, length, take, drop, refl, sym, ◌∙◌, ap, subst, arith, length-append, append-nil}
+use Rattle.std.proofs.Common.{◌≡◌, ℕ, zero, suc, ◌+◌, ◌-◌, ◌<◌, ◌≤◌, ◌^◌, min, Some, None, List, [], ◌∷◌, ◌++◌, length, take, drop, refl, sym, ◌∙◌, ap, subst, arith, length-append, append-nil}
 use Rattle.std.proofs.Math.Seq.{take-append-add, drop-append-add}
 use Rattle.wm_frames.specs.Front.{front_of, length_field, kind_field}
-use Rattle.wm_frames.specs.Reading.{Reading, message_at, reading, messages, tail}
+use Rattle.wm_frames.specs.Reading.{message_at, messages, tail}
 use Rattle.wm_frames.specs.Decoding.{Decoding, capped}
 use Rattle.wm_frames.specs.Step.{fault_at, kept, Takes}
 use Rattle.wm_frames.specs.Partial.{IsPartial}
 use Rattle.wm_frames.specs.declared.message.Message.{Message}
 use Rattle.wm_frames.specs.declared.message.FrameFault.{FrameFault}
 use Rattle.wm_frames.specs.declared.front.Front.{Front}
-use Rattle.wm_frames.specs.declared.front.Front.TheVariants.{Whole, Part, Wrong, Long}
+use Rattle.wm_frames.specs.declared.front.Front.TheVariants.{Whole, Part}
 use Rattle.wm_frames.proofs.FrontLemmas.{front_stays, kind_field-append}
 use Rattle.wm_frames.proofs.DecodingLemmas.{IsFault, some_fault, fault_stays, fault-not_whole, unread_takes, whole_takes}
 use Rattle.wm_frames.proofs.PartialLemmas.{filled, no_fault, part_goes_on, whole_goes_on, body_short, kept_fault}
@@ -50,8 +50,8 @@ fault_takes old new head body piece full taken x b r range f nq nr np nf =
     let P : Front → Type 0 = λ g. IsFault g in
     let g : fault_at old.place (front_of bytes) ≡ Some x = ap (fault_at old.place) (sym s) ∙ f in
     unread_takes old new piece bytes (all_bytes old head body piece full after taken b r refl)
-        (fault-not_whole (front_of bytes) (subst P s is)) (omega arith) nq
-        (nr ∙ sym (kept_fault old.place bytes (front_of bytes) x g)) np (nf ∙ sym g)
+    (fault-not_whole (front_of bytes) (subst P s is)) (omega arith) nq
+    (nr ∙ sym (kept_fault old.place bytes (front_of bytes) x g)) np (nf ∙ sym g)
 
 -- ---- a part
 
@@ -64,7 +64,7 @@ pub still_part : (at : ℕ) (head body piece full after : List ℕ) (taken missi
     → Misses full body missing → length after < missing → IsPartial full (body ++ after)
 still_part at head body piece full after taken missing b a f m h =
     part_goes_on at full (body ++ after) f b.short (nothing_more head body piece full after taken b a)
-        (λ k. let e : missing + length body ≡ length_field full = m.of_body k in omega (arith, length-append body after))
+    (λ k. let e : missing + length body ≡ length_field full = m.of_body k in omega (arith, length-append body after))
 
 part_not_whole : (n : ℕ) → Part ≡ Whole n → ⊥
 part_not_whole n e = cc
@@ -74,8 +74,8 @@ pub part_takes : (old new : Decoding) (head body piece full after : List ℕ) (t
 part_takes old new head body piece full after taken b r range a p nq nr np nf =
     let bytes : List ℕ = full ++ (body ++ after) in
     unread_takes old new piece bytes (all_bytes old head body piece full after taken b r a)
-        (λ n e. part_not_whole n (sym p.part ∙ e)) (omega arith) nq
-        (nr ∙ ap (kept bytes) (sym p.part)) np (nf ∙ ap (fault_at old.place) (sym p.part))
+    (λ n e. part_not_whole n (sym p.part ∙ e)) (omega arith) nq
+    (nr ∙ ap (kept bytes) (sym p.part)) np (nf ∙ ap (fault_at old.place) (sym p.part))
 
 -- ---- a whole frame
 
@@ -95,9 +95,9 @@ message_is : (full body after : List ℕ) (missing n : ℕ) → length full ≡ 
 message_is full body after missing n l e =
     let make : ℕ → List ℕ → Message = λ kind payload. record { kind = kind; payload = payload } in
     let d : drop 14 (full ++ (body ++ after)) ≡ body ++ after =
-        (let l0 : 14 ≡ length full + 0 = omega arith in ap (λ k. drop k (full ++ (body ++ after))) l0) ∙ drop-append-add full (body ++ after) 0 in
+    (let l0 : 14 ≡ length full + 0 = omega arith in ap (λ k. drop k (full ++ (body ++ after))) l0) ∙ drop-append-add full (body ++ after) 0 in
     let p : take n (drop 14 (full ++ (body ++ after))) ≡ body ++ take missing after =
-        ap (take n) d ∙ ap (λ k. take k (body ++ after)) (sym e) ∙ take-append-add body after missing in
+    ap (take n) d ∙ ap (λ k. take k (body ++ after)) (sym e) ∙ take-append-add body after missing in
     ap (λ kind. make kind (take n (drop 14 (full ++ (body ++ after))))) (kind_field-append full (body ++ after) (omega arith))
     ∙ ap (make (kind_field full)) p
 
@@ -120,10 +120,10 @@ frame_takes old new head body piece full after ends later fresh taken missing b 
     let whole : front_of bytes ≡ Whole n = whole_goes_on old.place full (body ++ after) f w (omega (arith, length-append body after)) in
     let named : List ℕ → List Message → List Message = λ payload rest. record { kind = kind_field full; payload = payload } ∷ rest in
     whole_takes old new piece bytes later n (all_bytes old head body piece full after taken b r a) whole
-        (later_is full body after missing n w k' ∙ sym l)
-        (nq ∙ ap (λ xs. old.queue ++ named (body ++ xs) fresh) e ∙ ap (λ xs. old.queue ++ named (body ++ take missing after) xs) g
-            ∙ ap (λ x. old.queue ++ (x ∷ messages later)) (sym (message_is full body after missing n w k')))
-        nr (np ∙ (let sum : 14 + length body + missing + (length later - length (tail later)) ≡ 14 + n + (length later - length (tail later)) = omega arith in ap (λ x. capped (old.place + x)) sum)) nf
+    (later_is full body after missing n w k' ∙ sym l)
+    (nq ∙ ap (λ xs. old.queue ++ named (body ++ xs) fresh) e ∙ ap (λ xs. old.queue ++ named (body ++ take missing after) xs) g
+    ∙ ap (λ x. old.queue ++ (x ∷ messages later)) (sym (message_is full body after missing n w k')))
+    nr (np ∙ (let sum : 14 + length body + missing + (length later - length (tail later)) ≡ 14 + n + (length later - length (tail later)) = omega arith in ap (λ x. capped (old.place + x)) sum)) nf
 
 -- ---- what the code has at hand
 

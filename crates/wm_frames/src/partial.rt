@@ -82,14 +82,21 @@ impl Partial {
         let kind = number_at(head.bytes(), 10);
         let whole = mem::replace(self, next);
         let Partial { head: _, body } = whole;
-        queue.push_back_reserved(Message { kind, payload: List::of(body) });
+        queue.push_back_reserved(Message {
+            kind,
+            payload: List::of(body),
+        });
         queue.append(&mut fresh).unwrap();
         Ok(())
     }
 }
 
 /// The fault at the place of these bytes, which begin no whole frame, and what is kept of them.
-pub fn begin(alloc: Global, place: u64, bytes: &[u8]) -> Result<(Partial, Option<FrameFault>), AllocError>
+pub fn begin(
+    alloc: Global,
+    place: u64,
+    bytes: &[u8],
+) -> Result<(Partial, Option<FrameFault>), AllocError>
     requires { (n : ℕ) → front_of bytes.now ≡ Front.Whole n → ⊥ }
     ensures bytes { IfOk result (λ r. r.0.head ++ r.0.body.items ≡ kept bytes.now (front_of bytes.now)) }
     ensures fault { IfOk result (λ r. r.1 ≡ fault_at place (front_of bytes.now)) }

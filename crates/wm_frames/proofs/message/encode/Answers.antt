@@ -11,7 +11,7 @@ joined old first all head named payload e f g =
 pub returns-clause-ok : goal.returns-clause-ok
 returns-clause-ok c =
     joined c.args.out.now.items c.add.new.out.items c.add-2.new.out.items c.head_of-head.result
-        (MAGIC ++ to_le_bytes w32 (length c.args.m.now.payload) ++ to_le_bytes w32 c.args.m.now.kind) c.args.m.now.payload
-        (c.add-2.ensures.items ∙ ap (λ xs. c.add.new.out.items ++ xs) c.items-payload.ensures)
-        (c.add.ensures.items ∙ ap (λ xs. xs ++ c.head_of-head.result) c.reserve.ensures.items)
-        (c.head_of-head.ensures ∙ ap (λ xs. MAGIC ++ to_le_bytes w32 (length xs) ++ to_le_bytes w32 c.args.m.now.kind) c.items-payload.ensures)
+    (MAGIC ++ to_le_bytes w32 (length c.args.m.now.payload) ++ to_le_bytes w32 c.args.m.now.kind) c.args.m.now.payload
+    (c.add-2.ensures.items ∙ ap (λ xs. c.add.new.out.items ++ xs) c.items-payload.ensures)
+    (c.add.ensures.items ∙ ap (λ xs. xs ++ c.head_of-head.result) c.reserve.ensures.items)
+    (c.head_of-head.ensures ∙ ap (λ xs. MAGIC ++ to_le_bytes w32 (length xs) ++ to_le_bytes w32 c.args.m.now.kind) c.items-payload.ensures)
