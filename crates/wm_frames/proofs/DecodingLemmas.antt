@@ -1,7 +1,7 @@
 -- A decoder that stands for the bytes fed stands for them and the next piece.
 use Rattle.std.proofs.Common.{◌≡◌, ℕ, ◌+◌, ◌-◌, ◌≤◌, Some, None, List, [], ◌∷◌, ◌++◌, drop, length, refl, sym, ◌∙◌, ap, subst, arith, append_assoc, length-drop, append-nil, add-zero}
 use Rattle.wm_frames.specs.Front.{front_of}
-use Rattle.wm_frames.specs.Reading.{Reading, message_at, with_first, unread, reading, messages, tail, place, ending_at, ending}
+use Rattle.wm_frames.specs.Reading.{Reading, message_at, with_first, unread, reading, messages, tail, place, ending_at, ending, rest}
 use Rattle.wm_frames.specs.Decoding.{Decoding, capped, fault_of, rest_of, Stands}
 use Rattle.wm_frames.specs.Step.{fault_at, kept, Takes}
 use Rattle.wm_frames.specs.declared.message.Message.{Message}
@@ -30,6 +30,16 @@ rest_of-ending at count (Whole n) bytes = refl
 rest_of-ending at count Part bytes = refl
 rest_of-ending at count Wrong bytes = refl
 rest_of-ending at count (Long n) bytes = refl
+
+rest_at : (at count : ℕ) (f : Front) → fault_of (ending_at at count f) ≡ None → ending_at at count f ≡ rest count
+rest_at at count (Whole n) h = refl
+rest_at at count Part h = refl
+rest_at at count Wrong h = absurd (cc)
+rest_at at count (Long n) h = absurd (cc)
+
+-- without a fault the tail is the rest
+pub ending-rest : (bytes : List ℕ) → fault_of (ending bytes) ≡ None → ending bytes ≡ rest (length (tail bytes))
+ending-rest bytes h = rest_at (place bytes) (length (tail bytes)) (front_of (tail bytes)) h
 
 -- standing for bytes, by what stands at the front of their tail
 record StandsAt (fed : List ℕ) (given : List Message) (d : Decoding) : Type 0 where

@@ -1,5 +1,5 @@
 //! The decoder: bytes in any pieces, and the messages that they make.
-ghost use Rattle.std.specs.Prelude.{◌≡◌, ◌++◌, ◌∷◌, List, [], Option, Some, None, length, IfSome, IfNone, IfOk, IfErr, OnOk, ℕ, Err};
+ghost use Rattle.std.specs.Prelude.{◌≡◌, ◌++◌, ℕ, List, [], None, Some, Err, length, IfSome, IfNone, IfErr, OnOk};
 ghost use Rattle.std.specs.Option.{option_to_list};
 
 use crate::message::{FrameFault, HEAD, Message};
@@ -22,7 +22,7 @@ pub struct Decoder {
 }
 
 impl Model for Decoder {
-    ghost use Rattle.std.specs.Prelude.{◌++◌, ◌<◌, ◌^◌};
+    ghost use Rattle.std.specs.Prelude.{◌++◌};
     ghost use Rattle.wm_frames.specs.Decoding.{Decoding};
 
     ghost Value = { Decoding };

@@ -1,18 +1,19 @@
 //! Laws of frames and of the one reading of bytes.
-ghost use Rattle.std.specs.Prelude.{◌≡◌, ◌++◌, List, ℕ, Some};
+ghost use Rattle.std.specs.Prelude.{◌≡◌, ◌++◌, List, ℕ, Some, None, length};
 ghost use Rattle.std.specs.List.{flat_map, AllByRecursion};
 ghost use Rattle.wm_frames.specs.Frame.{frame, IsFramed, IsShort};
-ghost use Rattle.wm_frames.specs.Reading.{messages, tail, ending, AreBytes, Splits};
+ghost use Rattle.wm_frames.specs.Reading.{messages, tail, ending, rest, AreBytes, Splits};
 ghost use Rattle.wm_frames.specs.Decoding.{fault_of};
 ghost use Rattle.wm_frames.specs.declared.message.Message.{Message};
 ghost use Rattle.wm_frames.specs.declared.message.FrameFault.{FrameFault};
 
 /// Bytes are the frames of their messages, one after another, and then bytes that begin with no frame. No
-/// other messages and no other tail are so.
+/// other messages and no other tail are so. Without a fault the tail is the rest.
 pub fn one_reading()
     ensures splits { (bytes : List ℕ) → AreBytes bytes → Splits bytes (messages bytes) (tail bytes) }
-    ensures only { (bytes rest : List ℕ) → (given : List Message) → AreBytes bytes → Splits bytes given rest
-        → (messages bytes ≡ given) × (tail bytes ≡ rest) }
+    ensures only { (bytes after : List ℕ) → (given : List Message) → AreBytes bytes → Splits bytes given after
+        → (messages bytes ≡ given) × (tail bytes ≡ after) }
+    ensures rest { (bytes : List ℕ) → fault_of (ending bytes) ≡ None → ending bytes ≡ rest (length (tail bytes)) }
 {}
 
 /// No frame begins another.

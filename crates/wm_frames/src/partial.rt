@@ -1,7 +1,6 @@
 //! The bytes of a frame that is not whole yet: its head, and then its payload so far.
-ghost use Rattle.std.specs.Prelude.{◌≡◌, ℕ, ◌+◌, ◌-◌, ◌<◌, ◌≤◌, ◌++◌, ◌∷◌, [], length, take, drop, vec_len, IfOk, OnOk, OnErr};
+ghost use Rattle.std.specs.Prelude.{◌≡◌, ℕ, ◌+◌, ◌-◌, ◌<◌, ◌≤◌, ◌++◌, ◌∷◌, [], length, IfOk, OnOk, OnErr};
 ghost use Rattle.wm_frames.specs.Front.{front_of, length_field, kind_field};
-ghost use Rattle.wm_frames.specs.Reading.{message_at};
 ghost use Rattle.wm_frames.specs.Step.{fault_at, kept};
 ghost use Rattle.wm_frames.specs.Partial.{IsPartial};
 
@@ -44,7 +43,7 @@ impl Partial {
         }
     }
 
-    /// Goes on with more bytes, of which the whole frame lacks this many or more.
+    /// Goes on with more bytes. The whole frame lacks this many bytes at least.
     pub fn go_on(&mut self, head: Head, after: &[u8], missing: usize) -> Result<(), AllocError>
         ensures ok_head { OnOk result (self.new.head ≡ head) }
         ensures ok_body { OnOk result (self.new.body.items ≡ self.old.body.items ++ after.now) }
@@ -91,6 +90,21 @@ impl Partial {
     }
 }
 
+/// The bytes of a part of a frame.
+fn held(alloc: Global, bytes: &[u8]) -> Result<Partial, AllocError>
+    requires { front_of bytes.now ≡ Front.Part }
+    ensures bytes { IfOk result (λ p. p.head ++ p.body.items ≡ bytes.now) }
+    ensures partial { IfOk result (λ p. IsPartial p.head p.body.items) }
+{
+    let mut partial = Partial::new(alloc);
+    let mut head = Head::new();
+    let taken = head.fill(bytes);
+    let (_, after) = bytes.split_at(taken);
+    let missing = missing(head.bytes(), 0);
+    partial.go_on(head, after, missing)?;
+    Ok(partial)
+}
+
 /// The fault at the place of these bytes, which begin no whole frame, and what is kept of them.
 pub fn begin(
     alloc: Global,
@@ -102,13 +116,12 @@ pub fn begin(
     ensures fault { IfOk result (λ r. r.1 ≡ fault_at place (front_of bytes.now)) }
     ensures partial { IfOk result (λ r. IsPartial r.0.head r.0.body.items) }
 {
-    let mut partial = Partial::new(alloc);
     let fault = fault_of(place, bytes);
-    if fault.is_none() {
-        let taken = partial.head.fill(bytes);
-        partial.body.extend_from_slice(&bytes[taken..])?;
+    if fault.is_some() {
+        return Ok((Partial::new(alloc), fault));
     }
-    Ok((partial, fault))
+    let partial = held(alloc, bytes)?;
+    Ok((partial, None))
 }
 
 /// How many bytes the frame lacks at least, whose head has come so far and whose body has this many bytes.
