@@ -1,0 +1,12 @@
+//! JSON of replies, compact and with keys in byte order.
+#![tactic(auto)]
+
+mod replies;
+#[cfg(test)]
+mod tests;
+mod values;
+mod write;
+
+pub use replies::{Reply, replies_value};
+pub use values::{success_value, version_value};
+pub use write::{compact, replies_json};

@@ -1,0 +1,47 @@
+//! The values of single replies.
+ghost use Rattle.std.specs.Prelude.{◌≡◌, false, IfOk};
+ghost use Rattle.serde_json.specs.View.{view};
+ghost use Rattle.serde_json.specs.Written.{has_float, compact_text};
+ghost use Rattle.wm_json.specs.Replies.{success_data, success_text, error_data, parse_error_data, version_data, VERSION_TEXT};
+
+use serde_json::{Value, json};
+use std::alloc::{AllocError, Global};
+use wm_base::NoMemory;
+
+/// The object that says whether something was done, `{"success":true}` or `{"success":false}`.
+pub fn success_value(alloc: Global, b: bool) -> Result<Value, NoMemory>
+    ensures value { IfOk result (λ v. view v ≡ success_data b) }
+    ensures text { IfOk result (λ v. compact_text (view v) ≡ success_text b) }
+    ensures whole { IfOk result (λ v. has_float (view v) ≡ false) }
+{
+    Ok(json!(in alloc; {"success": b})?)
+}
+
+/// The object of a failed command.
+pub fn error_value(alloc: Global, text: &str) -> Result<Value, AllocError>
+    ensures { IfOk result (λ v. view v ≡ error_data text.now) }
+{
+    json!(in alloc; {"error": text, "success": false})
+}
+
+/// The object of a command text that does not read.
+pub fn parse_error_value(alloc: Global, text: &str) -> Result<Value, AllocError>
+    ensures { IfOk result (λ v. view v ≡ parse_error_data text.now) }
+{
+    json!(in alloc; {"error": text, "parse_error": true, "success": false})
+}
+
+/// The object that names this program's version.
+pub fn version_value(alloc: Global) -> Result<Value, NoMemory>
+    ensures value { IfOk result (λ v. view v ≡ version_data) }
+    ensures text { IfOk result (λ v. compact_text (view v) ≡ VERSION_TEXT) }
+    ensures whole { IfOk result (λ v. has_float (view v) ≡ false) }
+{
+    Ok(json!(in alloc; {
+        "human_readable": "i3replay 1.0.0",
+        "loaded_config_file_name": "",
+        "major": 1u64,
+        "minor": 0u64,
+        "patch": 0u64
+    })?)
+}
