@@ -1,7 +1,9 @@
 //! Scripts of steps on an output of 1000x800: what each step is answered, and the texts of the frames.
-ghost use Rattle.std.specs.Prelude.{◌≡◌, ◌+◌, ◌≤◌, OnOk};
+ghost use Rattle.std.specs.Prelude.{◌≡◌, ◌+◌, ◌≤◌, IfOk, OnOk};
+ghost use Rattle.wm_core.specs.Sizes.{IsFitStep};
 
 use crate::{Answer, Desk, Plan, Reply, Step, frame_text};
+use std::alloc::Global;
 use std::test::Fail;
 use wm_base::{Buffer, ConId, Ink, Layout, Limit, NoMemory, Size};
 
@@ -26,45 +28,74 @@ const NO_HEIGHT: Step = Step::Map {
     },
 };
 
+/// A desk of one output of 1000x800.
+fn started(alloc: Global) -> Result<Desk, NoMemory>
+    ensures { IfOk result (λ desk. desk.steps ≡ 0) }
+{
+    Desk::start(alloc, Plan::standard(alloc)?)
+}
+
+/// Takes a step.
+fn take(desk: &mut Desk, who: u32, step: &Step) -> Result<Answer, NoMemory>
+    requires few { desk.old.steps ≤ 1000 }
+    requires fit { IsFitStep step.now }
+    ensures { OnOk result (desk.new.steps ≡ desk.old.steps + 1) }
+{
+    desk.step(who, step)
+}
+
+/// The text of the desk's frame.
+fn text(alloc: Global, desk: &Desk) -> Result<String, NoMemory> {
+    frame_text(alloc, &desk.frame()?)
+}
+
+/// Whether this is one reply, and that is Ok.
+fn is_one_ok(answer: &Answer) -> bool {
+    match answer {
+        Answer::Replies(replies) => matches!(replies.items(), [Reply::Ok]),
+        _ => false,
+    }
+}
+
 #[test]
 fn two_windows(rt: HostRuntime) -> Result<(), Fail> {
     let alloc = rt.alloc();
-    let mut desk = Desk::start(alloc, Plan::standard(alloc)?)?;
-    let opened = desk.step(1, &AMBER)?;
+    let mut desk = started(alloc)?;
+    let opened = take(&mut desk, 1, &AMBER)?;
     assert!(rt; matches!(opened, Answer::Mapped(ConId(4))));
-    let text = "frame 1 1\nback 3 0,0 1000x800\nwindow 4 0,0 1000x800 e0b030 400x300\nend\n";
-    assert_eq!(rt; frame_text(alloc, &desk.frame()?)?.as_str(), text);
-    let opened = desk.step(2, &BLUE)?;
+    let want = "frame 1 1\nback 3 0,0 1000x800\nwindow 4 0,0 1000x800 e0b030 400x300\nend\n";
+    assert_eq!(rt; text(alloc, &desk)?.as_str(), want);
+    let opened = take(&mut desk, 2, &BLUE)?;
     assert!(rt; matches!(opened, Answer::Mapped(ConId(5))));
-    let text =
+    let want =
         "frame 2 2\nback 3 0,0 1000x800\nwindow 4 0,0 500x800 e0b030 400x300\nwindow 5 500,0 500x800 3070e0 640x480\nend\n";
-    assert_eq!(rt; frame_text(alloc, &desk.frame()?)?.as_str(), text);
-    let laid_out = desk.step(1, &Step::SetLayout(Layout::SplitV))?;
-    assert!(rt; matches!(laid_out, Answer::Replies(_)));
-    let text =
+    assert_eq!(rt; text(alloc, &desk)?.as_str(), want);
+    let laid_out = take(&mut desk, 1, &Step::SetLayout(Layout::SplitV))?;
+    assert!(rt; is_one_ok(&laid_out));
+    let want =
         "frame 3 3\nback 3 0,0 1000x800\nwindow 4 0,0 1000x400 e0b030 400x300\nwindow 5 0,400 1000x400 3070e0 640x480\nend\n";
-    assert_eq!(rt; frame_text(alloc, &desk.frame()?)?.as_str(), text);
-    let closed = desk.step(1, &Step::Close { con: ConId(4) })?;
+    assert_eq!(rt; text(alloc, &desk)?.as_str(), want);
+    let closed = take(&mut desk, 1, &Step::Close { con: ConId(4) })?;
     assert!(rt; matches!(closed, Answer::Done));
-    let text = "frame 4 4\nback 3 0,0 1000x800\nwindow 5 0,0 1000x800 3070e0 640x480\nend\n";
-    assert_eq!(rt; frame_text(alloc, &desk.frame()?)?.as_str(), text);
+    let want = "frame 4 4\nback 3 0,0 1000x800\nwindow 5 0,0 1000x800 3070e0 640x480\nend\n";
+    assert_eq!(rt; text(alloc, &desk)?.as_str(), want);
     Ok(())
 }
 
 #[test]
 fn refused_steps(rt: HostRuntime) -> Result<(), Fail> {
     let alloc = rt.alloc();
-    let mut desk = Desk::start(alloc, Plan::standard(alloc)?)?;
-    let empty = desk.step(1, &NO_HEIGHT)?;
+    let mut desk = started(alloc)?;
+    let empty = take(&mut desk, 1, &NO_HEIGHT)?;
     assert!(rt; matches!(empty, Answer::Empty));
-    let opened = desk.step(1, &AMBER)?;
+    let opened = take(&mut desk, 1, &AMBER)?;
     assert!(rt; matches!(opened, Answer::Mapped(ConId(4))));
-    let of_another = desk.step(2, &Step::Close { con: ConId(4) })?;
+    let of_another = take(&mut desk, 2, &Step::Close { con: ConId(4) })?;
     assert!(rt; matches!(of_another, Answer::NoView));
-    let no_window = desk.step(1, &Step::Close { con: ConId(3) })?;
+    let no_window = take(&mut desk, 1, &Step::Close { con: ConId(3) })?;
     assert!(rt; matches!(no_window, Answer::NoView));
-    let text = "frame 1 2\nback 3 0,0 1000x800\nwindow 4 0,0 1000x800 e0b030 400x300\nend\n";
-    assert_eq!(rt; frame_text(alloc, &desk.frame()?)?.as_str(), text);
+    let want = "frame 1 2\nback 3 0,0 1000x800\nwindow 4 0,0 1000x800 e0b030 400x300\nend\n";
+    assert_eq!(rt; text(alloc, &desk)?.as_str(), want);
     Ok(())
 }
 
@@ -76,18 +107,16 @@ fn open_all(desk: &mut Desk, count: u32) -> Result<bool, NoMemory>
     if count == 0 {
         return Ok(true);
     }
-    let opened = matches!(desk.step(1, &AMBER)?, Answer::Mapped(_));
+    let opened = matches!(take(desk, 1, &AMBER)?, Answer::Mapped(_));
     Ok(open_all(desk, count - 1)? && opened)
 }
 
 #[test]
 fn windows_up_to_their_limit(rt: HostRuntime) -> Result<(), Fail> {
     let alloc = rt.alloc();
-    let mut desk = Desk::start(alloc, Plan::standard(alloc)?)?;
+    let mut desk = started(alloc)?;
     assert!(rt; open_all(&mut desk, 256)?);
-    let refused = desk.step(1, &AMBER)?;
+    let refused = take(&mut desk, 1, &AMBER)?;
     assert!(rt; matches!(refused, Answer::Full(Limit::Children)));
-    let empty = desk.step(1, &NO_HEIGHT)?;
-    assert!(rt; matches!(empty, Answer::Empty));
     Ok(())
 }
