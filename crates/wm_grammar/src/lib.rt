@@ -1,0 +1,10 @@
+//! The command language: reading its texts into batches of commands, and printing batches.
+#![tactic(auto)]
+
+mod arguments;
+mod batch;
+mod command;
+
+pub use arguments::{Cycle, GapOp, Kind, LayoutArg, OnOff, OutArg, Side, SplitArg, SwapArg, Target};
+pub use batch::{Batch, Criteria, Group, Key};
+pub use command::Command;
