@@ -4,6 +4,8 @@
 mod arguments;
 mod batch;
 mod command;
+mod verbs;
+mod words;
 
 pub use arguments::{Cycle, GapOp, Kind, LayoutArg, OnOff, OutArg, Side, SplitArg, SwapArg, Target};
 pub use batch::{Batch, Criteria, Group, Key};

@@ -1,0 +1,7 @@
+use Rattle.std.proofs.Common.{◌≡◌, ℕ, ◌<◌, false, get_or}
+use Rattle.wm_grammar.specs.Words.{stops}
+use Rattle.wm_grammar.proofs.Pieces.{NoneBefore}
+use Rattle.wm_grammar.proofs.words.cut.Given as goal
+
+abbrev pub invariant-loop-i : goal.invariant-loop-i
+invariant-loop-i l = NoneBefore (stops l.stop) l.text l.i

@@ -1,0 +1,232 @@
+//! The pieces of a text on slices of its bytes: blanks, words, numbers and quoted arguments.
+ghost use Rattle.std.specs.Prelude.{◌≡◌, ◌∷◌, [], ◌||◌, IfOk, option_map, ◌≤◌, length, pos, neg_ℤ};
+ghost use Rattle.wm_grammar.specs.Pieces.{is_blank, breaks_word, is_word, until, from, has, skip, trim_end, word, after, lower, natural, integer, argument, unquote, with_byte, only_number, digits_from, digit};
+ghost use Rattle.wm_grammar.specs.Words.{stops};
+
+use std::alloc::Global;
+use wm_base::{NoMemory, Text, TextRefusal};
+
+/// At which bytes a piece stops.
+#[derive(Clone, Copy)]
+pub enum Stop {
+    /// At a space or a tab.
+    Blank,
+    /// At `,` or `;`.
+    End,
+    /// At a blank, `=` or `]`.
+    Name,
+    /// At a blank, `]` or `"`.
+    Value,
+    /// At a blank or `"`.
+    Break,
+}
+
+impl Stop {
+    /// Whether a piece stops at this byte.
+    pub fn at(self, c: u8) -> bool
+        ensures { result ≡ stops self c }
+    {
+        let blank = c == b' ' || c == b'\t';
+        match self {
+            Stop::Blank => blank,
+            Stop::End => c == b',' || c == b';',
+            Stop::Name => blank || c == b'=' || c == b']',
+            Stop::Value => blank || c == b']' || c == b'"',
+            Stop::Break => blank || c == b'"',
+        }
+    }
+}
+
+/// The text before the first byte at which a piece stops, and the text from it on.
+pub fn cut(text: &[u8], stop: Stop) -> (&[u8], &[u8])
+    ensures front { result.0.now ≡ until (stops stop) text.now }
+    ensures back { result.1.now ≡ from (stops stop) text.now }
+{
+    for (i, c) in text.iter().enumerate() {
+        if stop.at(*c) {
+            return text.split_at(i);
+        }
+    }
+    (text, &[])
+}
+
+/// Whether a piece would stop somewhere in the text.
+#[tactic(auto, unfolding(crate::specs::Pieces::has))]
+pub fn stops_in(text: &[u8], stop: Stop) -> bool
+    ensures { result ≡ has (stops stop) text.now }
+{
+    let mut rest = text;
+    while let [c, more @ ..] = rest {
+        if stop.at(*c) {
+            return true;
+        }
+        rest = more;
+    }
+    false
+}
+
+/// The text without the blanks at its beginning.
+#[tactic(auto, unfolding(crate::specs::Pieces::skip))]
+pub fn skip(text: &[u8]) -> &[u8]
+    ensures { result.now ≡ skip text.now }
+{
+    let mut rest = text;
+    while let [c, more @ ..] = rest {
+        if !Stop::Blank.at(*c) {
+            return rest;
+        }
+        rest = more;
+    }
+    rest
+}
+
+/// The text without the blanks at its end.
+#[tactic(auto, unfolding(crate::specs::Pieces::trim_end))]
+pub fn trim_end(text: &[u8]) -> &[u8]
+    ensures { result.now ≡ trim_end text.now }
+{
+    let mut rest = text;
+    while let [front @ .., c] = rest {
+        if !Stop::Blank.at(*c) {
+            return rest;
+        }
+        rest = front;
+    }
+    rest
+}
+
+/// The first word, and what comes after it and the blanks behind it.
+pub fn split_word(text: &[u8]) -> (&[u8], &[u8])
+    ensures first { result.0.now ≡ word text.now }
+    ensures rest { result.1.now ≡ after text.now }
+{
+    let (first, rest) = cut(text, Stop::Blank);
+    (first, skip(rest))
+}
+
+/// A letter from A to Z as the one from a to z.
+fn lower(c: u8) -> u8
+    ensures { result ≡ lower c }
+{
+    if c >= b'A' && c <= b'Z' { c + 32 } else { c }
+}
+
+/// Whether the word is this name, in any case.
+#[tactic(auto, unfolding(crate::specs::Pieces::is_word))]
+pub fn is_word(word: &[u8], name: &[u8]) -> bool
+    ensures { result ≡ is_word word.now name.now }
+{
+    let mut left = word;
+    let mut other = name;
+    while let [x, xs @ ..] = left {
+        let [y, ys @ ..] = other else { return false };
+        if lower(*x) != *y {
+            return false;
+        }
+        left = xs;
+        other = ys;
+    }
+    other.is_empty()
+}
+
+/// The number that 1 to 10 digits make, at most 4,294,967,295.
+#[tactic(auto, unfolding(crate::specs::Pieces::natural, crate::specs::Pieces::digits_from))]
+pub fn natural(word: &[u8]) -> Option<u32>
+    ensures { result ≡ natural word.now }
+{
+    if word.is_empty() || word.len() > 10 {
+        return None;
+    }
+    let mut n: u32 = 0;
+    let mut rest = word;
+    while let [c, more @ ..] = rest {
+        n = with_digit(n, *c)?;
+        rest = more;
+    }
+    Some(n)
+}
+
+/// Ten times the number and the value of the digit.
+#[tactic(auto, unfolding(crate::specs::Pieces::digits_from))]
+fn with_digit(n: u32, c: u8) -> Option<u32>
+    ensures { result ≡ digits_from n (c ∷ []) }
+{
+    if c < b'0' || c > b'9' {
+        return None;
+    }
+    u32::try_from(10 * n as u64 + (c - b'0') as u64).ok()
+}
+
+/// The number that such digits make, with `-` before them or not.
+#[tactic(auto, unfolding(crate::specs::Pieces::integer))]
+pub fn integer(word: &[u8]) -> Option<i64>
+    ensures { result ≡ integer word.now }
+{
+    match word {
+        [] => None,
+        [c, digits @ ..] => {
+            if *c == b'-' {
+                return natural(digits).map(|n| negative(n));
+            }
+            natural(word).map(|n| i64::from(n))
+        }
+    }
+}
+
+/// The number as one below 0.
+fn negative(n: u32) -> i64
+    ensures { result ≡ neg_ℤ (pos n) }
+{
+    -(n as i64)
+}
+
+/// The number that is all of the text.
+pub fn only_number(text: &[u8]) -> Option<u32>
+    ensures { result ≡ only_number text.now }
+{
+    let (first, rest) = split_word(text);
+    if rest.is_empty() { natural(first) } else { None }
+}
+
+/// The bytes as an argument; none where they are no text in UTF-8 or more than 1,024.
+#[tactic(auto, unfolding(crate::specs::Pieces::argument))]
+pub fn argument(alloc: Global, bytes: &[u8]) -> Result<Option<Text>, NoMemory>
+    ensures { IfOk result (λ text. text ≡ argument bytes.now) }
+{
+    let Ok(text) = str::from_utf8(bytes) else { return Ok(None) };
+    match Text::new(alloc, text) {
+        Ok(text) => Ok(Some(text)),
+        Err(TextRefusal::TooLong { .. }) => Ok(None),
+        Err(TextRefusal::NoMemory) => Err(NoMemory),
+    }
+}
+
+/// The text before the closing quote and what follows it, of what stands behind the opening one.
+#[tactic(auto, unfolding(crate::specs::Pieces::unquote))]
+pub fn unquote(alloc: Global, text: &[u8]) -> Result<Option<(Vec<u8>, &[u8])>, NoMemory>
+    ensures { IfOk result (λ o. option_map (λ x. (x.0.items, x.1.now)) o ≡ unquote text.now) }
+{
+    let mut bytes = Vec::new(alloc);
+    let mut rest = text;
+    while let [c, more @ ..] = rest {
+        if *c == b'"' {
+            return Ok(Some((bytes, more)));
+        }
+        let (byte, behind) = unescape(*c, more);
+        bytes.push(byte)?;
+        rest = behind;
+    }
+    Ok(None)
+}
+
+/// The byte that stands behind a `\`, where that is `"` or `\`, else the first byte, and what follows.
+#[tactic(auto, unfolding(crate::specs::Pieces::unquote))]
+fn unescape(c: u8, more: &[u8]) -> (u8, &[u8])
+    ensures unquoted { (c ≡ 34 → ⊥) → with_byte result.0 (unquote result.1.now) ≡ unquote (c ∷ more.now) }
+    ensures shorter { length result.1.now ≤ length more.now }
+{
+    match more {
+        [d, behind @ ..] if c == b'\\' && (*d == b'"' || *d == b'\\') => (*d, behind),
+        _ => (c, more),
+    }
+}
