@@ -28,7 +28,7 @@ use Rattle.wm_grammar.specs.declared.command.Command.{Command}
 use Rattle.wm_grammar.specs.declared.command.Command.TheVariants as commands
 use Rattle.wm_grammar.specs.declared.verbs.Verb.{Verb}
 use Rattle.wm_grammar.specs.declared.verbs.Verb.TheVariants as verbs
-use Rattle.wm_grammar.specs.Pieces.{◌>>=◌, is_word, first_of, is_nil, word, after, says, choice, only, natural, integer, only_number}
+use Rattle.wm_grammar.specs.Pieces.{◌>>=◌, is_word, first_of, is_nil, word, after, says, choice, single, only, natural, integer, only_number}
 
 -- ---- the words of each argument
 
@@ -117,7 +117,7 @@ layout_form r =
 
 -- an output by a keyword and nothing more
 unfoldable pub only_output : List ℕ → Option OutArg
-only_output r = if is_nil (after r) then output_of (word r) else None
+only_output r = single r >>= λ w. output_of w
 
 -- what focus is told by one word
 unfoldable pub focus_word : List ℕ → Option Command

@@ -99,9 +99,13 @@ abbrev pub choice : {A : Type 0} → List (List ℕ × A) → List ℕ → Optio
 choice [] w = None
 choice (row ∷ rows) w = if is_word w row.0 then Some row.1 else choice rows w
 
--- the same for a text of one word
+-- the word of a text of one word
+unfoldable pub single : List ℕ → Option (List ℕ)
+single r = if is_nil (after r) then Some (word r) else None
+
+-- what stands in a table beside the word of a text of one word
 abbrev pub only : {A : Type 0} → List (List ℕ × A) → List ℕ → Option A
-only table r = if is_nil (after r) then choice table (word r) else None
+only table r = single r >>= λ w. choice table w
 
 -- ---- numbers
 
@@ -134,7 +138,7 @@ integer (c ∷ cs) = if c == 45 then below_zero (natural cs) else above_zero (na
 
 -- a number and nothing more
 abbrev pub only_number : List ℕ → Option ℕ
-only_number r = if is_nil (after r) then natural (word r) else None
+only_number r = single r >>= λ w. natural w
 
 -- ---- arguments
 

@@ -4,6 +4,9 @@
 mod arguments;
 mod batch;
 mod command;
+mod keywords;
+mod moving;
+mod plain;
 mod verbs;
 mod words;
 

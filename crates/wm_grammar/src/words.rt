@@ -1,6 +1,6 @@
 //! The pieces of a text on slices of its bytes: blanks, words, numbers and quoted arguments.
-ghost use Rattle.std.specs.Prelude.{◌≡◌, ◌∷◌, [], ◌||◌, IfOk, option_map, ◌≤◌, length, pos, neg_ℤ};
-ghost use Rattle.wm_grammar.specs.Pieces.{is_blank, breaks_word, is_word, until, from, has, skip, trim_end, word, after, lower, natural, integer, argument, unquote, with_byte, only_number, digits_from, digit};
+ghost use Rattle.std.specs.Prelude.{◌≡◌, ◌∷◌, [], ◌||◌, IfOk, option_map, option_copied, ◌≤◌, length, pos, neg_ℤ};
+ghost use Rattle.wm_grammar.specs.Pieces.{is_blank, breaks_word, is_word, until, from, has, skip, trim_end, word, after, single, says, lower, natural, integer, argument, unquote, with_byte, only_number, digits_from, digit};
 ghost use Rattle.wm_grammar.specs.Words.{stops};
 
 use std::alloc::Global;
@@ -180,12 +180,34 @@ fn negative(n: u32) -> i64
     -(n as i64)
 }
 
+/// The word of a text that has no other.
+#[tactic(auto, unfolding(crate::specs::Pieces::single))]
+pub fn single(text: &[u8]) -> Option<&[u8]>
+    ensures { option_copied result ≡ single text.now }
+{
+    let (first, rest) = split_word(text);
+    if rest.is_empty() { Some(first) } else { None }
+}
+
 /// The number that is all of the text.
 pub fn only_number(text: &[u8]) -> Option<u32>
     ensures { result ≡ only_number text.now }
 {
-    let (first, rest) = split_word(text);
-    if rest.is_empty() { natural(first) } else { None }
+    natural(single(text)?)
+}
+
+/// Whether the first word is this name, in any case.
+pub fn says(text: &[u8], name: &[u8]) -> bool
+    ensures { result ≡ says text.now name.now }
+{
+    is_word(cut(text, Stop::Blank).0, name)
+}
+
+/// What comes after the first word and the blanks behind it.
+pub fn after(text: &[u8]) -> &[u8]
+    ensures { result.now ≡ after text.now }
+{
+    split_word(text).1
 }
 
 /// The bytes as an argument; none where they are no text in UTF-8 or more than 1,024.
