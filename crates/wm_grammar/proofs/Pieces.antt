@@ -7,7 +7,7 @@ use Rattle.std.proofs.Common.{inl, inr}
 use Rattle.std.proofs.lemmas.Bool.{le-leb, lt-leb, cases_Bool}
 use Rattle.std.proofs.lemmas.List.{take_all, take_more}
 use Rattle.std.proofs.lemmas.Str.{IsUtf8-from_is_utf8, is_utf8-from_IsUtf8}
-use Rattle.wm_grammar.specs.Pieces.{until, from, skip, trim_end, is_blank, is_nil, unquote, with_byte, argument}
+use Rattle.wm_grammar.specs.Pieces.{until, from, skip, trim_end, kept_before, is_blank, is_nil, unquote, with_byte, argument}
 
 -- ---- where a piece stops
 
@@ -52,25 +52,14 @@ unfolding trim_end
 trim_end-blank [] c b = rw b refl
 trim_end-blank (x ∷ xs) c b = rw (trim_end-blank xs c b) refl
 
-trim_end-kept : (xs : List ℕ) (c : ℕ) → is_blank c ≡ false → is_nil (trim_end (xs ++ c ∷ [])) ≡ false
-unfolding trim_end
-trim_end-kept [] c b = rw b refl
-trim_end-kept (x ∷ xs) c b =
-    rw (trim_end-kept xs c b) (and_false (is_blank x) x (trim_end (xs ++ c ∷ [])))
-  where
-    and_false : (b : Bool) (x : ℕ) (ys : List ℕ) → is_nil (if b && false then [] else x ∷ ys) ≡ false
-    and_false true x ys = refl
-    and_false false x ys = refl
-
-and_no : {A : Type 0} (b : Bool) (x y : A) → (if b && false then x else y) ≡ y
-and_no true x y = refl
-and_no false x y = refl
+kept-full : (x c : ℕ) (ys : List ℕ) → kept_before x (ys ++ c ∷ []) ≡ x ∷ ys ++ c ∷ []
+kept-full x c [] = refl
+kept-full x c (y ∷ ys) = refl
 
 pub trim_end-full : (xs : List ℕ) (c : ℕ) → is_blank c ≡ false → trim_end (xs ++ c ∷ []) ≡ xs ++ c ∷ []
 unfolding trim_end
 trim_end-full [] c b = rw b refl
-trim_end-full (x ∷ xs) c b =
-    rw (trim_end-kept xs c b) (and_no (is_blank x) [] (x ∷ trim_end (xs ++ c ∷ [])) ∙ ap (λ (t : List ℕ). x ∷ t) (trim_end-full xs c b))
+trim_end-full (x ∷ xs) c b = rw (trim_end-full xs c b) (kept-full x c xs)
 
 -- ---- quoted texts
 
@@ -84,6 +73,10 @@ with_front-byte front c None = refl
 with_front-byte front c (Some x) = ap (λ (t : List ℕ). Some (t, x.1)) (append_assoc front (c ∷ []) x.0)
 
 -- ---- arguments
+
+and_no : {A : Type 0} (b : Bool) (x y : A) → (if b && false then x else y) ≡ y
+and_no true x y = refl
+and_no false x y = refl
 
 pub argument-no_text : (x : List ℕ) → ¬ (IsUtf8 x) → argument x ≡ None
 unfolding argument

@@ -21,6 +21,10 @@ is_blank c = (c == 32) || (c == 9)
 abbrev pub is_end : ℕ → Bool
 is_end c = (c == 44) || (c == 59)
 
+-- what ends a word that is not quoted: a blank, , or ;
+abbrev pub is_gap : ℕ → Bool
+is_gap c = is_blank c || is_end c
+
 -- what ends a key's name: a blank, = or ]
 abbrev pub ends_name : ℕ → Bool
 ends_name c = is_blank c || (c == 61) || (c == 93)
@@ -68,10 +72,20 @@ unfoldable pub skip : List ℕ → List ℕ
 skip [] = []
 skip (x ∷ xs) = if is_blank x then skip xs else x ∷ xs
 
+-- a byte before what is kept of the text behind it; a blank before nothing is not kept
+abbrev pub kept_before : ℕ → List ℕ → List ℕ
+kept_before x [] = if is_blank x then [] else x ∷ []
+kept_before x (y ∷ ys) = x ∷ y ∷ ys
+
 -- the text without the blanks at its end
 unfoldable pub trim_end : List ℕ → List ℕ
 trim_end [] = []
-trim_end (x ∷ xs) = if is_blank x && is_nil (trim_end xs) then [] else x ∷ trim_end xs
+trim_end (x ∷ xs) = kept_before x (trim_end xs)
+
+-- a command ends here: at , or ; or the end of the text
+abbrev pub ends : List ℕ → Bool
+ends [] = true
+ends (c ∷ r) = is_end c
 
 -- ---- words: both of a text that has no blank at its beginning
 

@@ -2,11 +2,12 @@
 use Rattle.std.specs.Prelude.{ℕ, Bool}
 use Rattle.wm_grammar.specs.declared.words.Stop.{Stop}
 use Rattle.wm_grammar.specs.declared.words.Stop.TheVariants as at
-use Rattle.wm_grammar.specs.Pieces.{is_blank, is_end, ends_name, ends_value, breaks_word}
+use Rattle.wm_grammar.specs.Pieces.{is_blank, is_end, is_gap, ends_name, ends_value, breaks_word}
 
 abbrev pub stops : Stop → ℕ → Bool
 stops at.Blank = is_blank
 stops at.End = is_end
+stops at.Gap = is_gap
 stops at.Name = ends_name
 stops at.Value = ends_value
 stops at.Break = breaks_word

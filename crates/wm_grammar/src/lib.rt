@@ -6,6 +6,7 @@ mod batch;
 mod command;
 mod keywords;
 mod moving;
+mod opening;
 mod plain;
 mod verbs;
 mod words;

@@ -1,6 +1,6 @@
 //! The pieces of a text on slices of its bytes: blanks, words, numbers and quoted arguments.
 ghost use Rattle.std.specs.Prelude.{◌≡◌, ◌∷◌, [], ◌||◌, IfOk, option_map, option_copied, ◌≤◌, length, pos, neg_ℤ};
-ghost use Rattle.wm_grammar.specs.Pieces.{is_blank, breaks_word, is_word, until, from, has, skip, trim_end, word, after, single, says, lower, natural, integer, argument, unquote, with_byte, only_number, digits_from, digit};
+ghost use Rattle.wm_grammar.specs.Pieces.{ends, is_word, until, from, has, skip, trim_end, word, after, single, says, lower, natural, integer, argument, unquote, with_byte, only_number, digits_from, digit};
 ghost use Rattle.wm_grammar.specs.Words.{stops};
 
 use std::alloc::Global;
@@ -13,6 +13,8 @@ pub enum Stop {
     Blank,
     /// At `,` or `;`.
     End,
+    /// At a blank, `,` or `;`.
+    Gap,
     /// At a blank, `=` or `]`.
     Name,
     /// At a blank, `]` or `"`.
@@ -30,6 +32,7 @@ impl Stop {
         match self {
             Stop::Blank => blank,
             Stop::End => c == b',' || c == b';',
+            Stop::Gap => blank || c == b',' || c == b';',
             Stop::Name => blank || c == b'=' || c == b']',
             Stop::Value => blank || c == b']' || c == b'"',
             Stop::Break => blank || c == b'"',
@@ -127,6 +130,16 @@ pub fn is_word(word: &[u8], name: &[u8]) -> bool
         other = ys;
     }
     other.is_empty()
+}
+
+/// Whether a command ends here: at `,` or `;` or the end of the text.
+pub fn ends(text: &[u8]) -> bool
+    ensures { result ≡ ends text.now }
+{
+    match text {
+        [] => true,
+        [c, ..] => Stop::End.at(*c),
+    }
 }
 
 /// The number that 1 to 10 digits make, at most 4,294,967,295.
