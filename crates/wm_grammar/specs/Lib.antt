@@ -2,3 +2,4 @@ pub mod Pieces
 pub mod Words
 pub mod Forms
 pub mod Openings
+pub mod Ways

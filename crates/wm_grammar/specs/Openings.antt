@@ -1,5 +1,5 @@
 -- The forms of commands that end in a text: their keywords, and the text.
-use Rattle.std.specs.Prelude.{◌≡◌, ℕ, ◌-◌, Bool, true, false, ◌||◌, ◌&&◌, ◌==◌, if◌then◌else◌, List, [], ◌∷◌, length, drop, Option, Some, None, codes, option_map}
+use Rattle.std.specs.Prelude.{◌≡◌, ℕ, ◌-◌, Bool, true, false, ◌||◌, ◌&&◌, ◌==◌, if◌then◌else◌, List, [], ◌∷◌, ◌++◌, length, drop, Option, Some, None, codes, option_map}
 use Rattle.wm_grammar.specs.declared.arguments.OutArg.{OutArg}
 use Rattle.wm_grammar.specs.declared.arguments.OutArg.TheVariants as outs
 use Rattle.wm_grammar.specs.declared.arguments.Target.{Target}
@@ -56,14 +56,10 @@ toggle_opened add r =
     if says r (codes "--toggle") then (openings.Mark add true, after r) ∷ (openings.Mark add false, r) ∷ []
     else (openings.Mark add false, r) ∷ []
 
-abbrev pub or_bare_mark : List ℕ → Opened → Opened
-or_bare_mark r [] = (openings.Mark false false, r) ∷ []
-or_bare_mark r (o ∷ os) = o ∷ or_bare_mark r os
-
 unfoldable pub mark_opened : List ℕ → Opened
 mark_opened r =
-    if says r (codes "--add") then or_bare_mark r (toggle_opened true (after r))
-    else if says r (codes "--replace") then or_bare_mark r (toggle_opened false (after r))
+    if says r (codes "--add") then toggle_opened true (after r) ++ (openings.Mark false false, r) ∷ []
+    else if says r (codes "--replace") then toggle_opened false (after r) ++ (openings.Mark false false, r) ∷ []
     else toggle_opened false r
 
 unfoldable pub rename_opened : List ℕ → Opened
