@@ -3,3 +3,4 @@ pub mod Words
 pub mod Forms
 pub mod Openings
 pub mod Ways
+pub mod Fitted

@@ -116,26 +116,31 @@ text_at one_word s =
     if starts 34 s then unquote (drop 1 s) >>= closed
     else bare one_word (trim_end (until is_end s)) (from is_end s)
 
--- the command of its keywords and its text
+-- the command of its keywords and its argument
+abbrev pub named : Opening → List ℕ → Option Command
+named openings.FocusOutput n = Some (commands.FocusOutput (outs.Named n))
+named openings.MoveToWorkspace n = Some (commands.MoveToWorkspace (targets.Name n))
+named openings.MoveToNumbered n = Some (commands.MoveToWorkspace (targets.Number n))
+named openings.MoveToOutput n = Some (commands.MoveToOutput (outs.Named n))
+named openings.MoveWorkspace n = Some (commands.MoveWorkspace (outs.Named n))
+named openings.MoveToMark n = Some (commands.MoveToMark n)
+named openings.SwapMark n = Some (commands.Swap (swaps.Mark n))
+named (openings.Mark add toggle) n = Some (commands.Mark add toggle n)
+named openings.Unmark n = Some (commands.Unmark (Some n))
+named openings.Workspace n = Some (commands.Workspace (targets.Name n))
+named openings.WorkspaceNumbered n = Some (commands.Workspace (targets.Number n))
+named openings.RenameFocused n = Some (commands.Rename None n)
+named openings.RenameNamed n = None
+named openings.Mode n = Some (commands.Mode n)
+named openings.AppendLayout n = Some (commands.AppendLayout n)
+named openings.TitleFormat n = Some (commands.TitleFormat n)
+named openings.Nop n = Some commands.Nop
+named openings.Idle n = Some commands.Idle
+
+-- the command of its keywords and its text, which is an argument unless the command is not done
 unfoldable pub made : Opening → List ℕ → Option Command
-made openings.FocusOutput x = option_map (λ n. commands.FocusOutput (outs.Named n)) (argument x)
-made openings.MoveToWorkspace x = option_map (λ n. commands.MoveToWorkspace (targets.Name n)) (argument x)
-made openings.MoveToNumbered x = option_map (λ n. commands.MoveToWorkspace (targets.Number n)) (argument x)
-made openings.MoveToOutput x = option_map (λ n. commands.MoveToOutput (outs.Named n)) (argument x)
-made openings.MoveWorkspace x = option_map (λ n. commands.MoveWorkspace (outs.Named n)) (argument x)
-made openings.MoveToMark x = option_map commands.MoveToMark (argument x)
-made openings.SwapMark x = option_map (λ n. commands.Swap (swaps.Mark n)) (argument x)
-made (openings.Mark add toggle) x = option_map (λ n. commands.Mark add toggle n) (argument x)
-made openings.Unmark x = option_map (λ n. commands.Unmark (Some n)) (argument x)
-made openings.Workspace x = option_map (λ n. commands.Workspace (targets.Name n)) (argument x)
-made openings.WorkspaceNumbered x = option_map (λ n. commands.Workspace (targets.Number n)) (argument x)
-made openings.RenameFocused x = option_map (λ n. commands.Rename None n) (argument x)
-made openings.RenameNamed x = None
-made openings.Mode x = option_map commands.Mode (argument x)
-made openings.AppendLayout x = option_map commands.AppendLayout (argument x)
-made openings.TitleFormat x = option_map commands.TitleFormat (argument x)
-made openings.Nop x = option_map (λ n. commands.Nop) (argument x)
 made openings.Idle x = Some commands.Idle
+made o x = argument x >>= named o
 
 -- ---- renaming a named workspace
 

@@ -8,6 +8,7 @@ mod keywords;
 mod moving;
 mod opening;
 mod plain;
+mod reading;
 mod verbs;
 mod words;
 
