@@ -4,3 +4,5 @@ pub mod Forms
 pub mod Openings
 pub mod Ways
 pub mod Fitted
+pub mod Criteria
+pub mod Reading

@@ -104,6 +104,13 @@ is_word [] (y ∷ ys) = false
 is_word (x ∷ xs) [] = false
 is_word (x ∷ xs) (y ∷ ys) = (lower x == y) && is_word xs ys
 
+-- the text is this one
+unfoldable pub is_text : List ℕ → List ℕ → Bool
+is_text [] [] = true
+is_text [] (y ∷ ys) = false
+is_text (x ∷ xs) [] = false
+is_text (x ∷ xs) (y ∷ ys) = (x == y) && is_text xs ys
+
 -- the first word is this name
 abbrev pub says : List ℕ → List ℕ → Bool
 says r name = is_word (word r) name

@@ -4,6 +4,8 @@
 mod arguments;
 mod batch;
 mod command;
+mod groups;
+mod keys;
 mod keywords;
 mod moving;
 mod opening;

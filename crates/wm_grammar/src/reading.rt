@@ -1,5 +1,5 @@
 //! Reading one command: its keywords, and the text behind them.
-ghost use Rattle.std.specs.Prelude.{◌≡◌, drop, IfOk, option_map, option_copied};
+ghost use Rattle.std.specs.Prelude.{◌≡◌, IfOk, option_map, option_copied};
 ghost use Rattle.wm_grammar.specs.Fitted.{piece_bytes};
 ghost use Rattle.wm_grammar.specs.Openings.{text_at, named, made, word_at, past_keyword_to, renamed, finished, first_finished, verb_command, command_at};
 ghost use Rattle.wm_grammar.specs.Ways.{seen};
@@ -9,7 +9,7 @@ use crate::command::Command;
 use crate::opening::{Opening, opened};
 use crate::plain::plain_form;
 use crate::verbs::{Verb, verb_of};
-use crate::words::{Stop, argument, cut, ends, is_word, skip, split_word, stops_in, trim_end, unquote};
+use crate::words::{Stop, argument, cut, ends, is_word, past, skip, split_word, stops_in, trim_end, unquote};
 use std::alloc::Global;
 use wm_base::{NoMemory, Text};
 
@@ -145,13 +145,6 @@ fn finished(alloc: Global, opening: Opening, text: &[u8]) -> Result<Read<'_>, No
     };
     let Some(command) = made(alloc, opening, found.bytes())? else { return Ok(None) };
     Ok(Some((command, rest)))
-}
-
-/// The text without its first bytes, of which there are this many.
-fn past(text: &[u8], count: usize) -> &[u8]
-    ensures { result.now ≡ drop count text.now }
-{
-    if count < text.len() { &text[count..] } else { &[] }
 }
 
 /// The command of the first way to read the keywords whose text fits.

@@ -1,6 +1,6 @@
 //! The pieces of a text on slices of its bytes: blanks, words, numbers and quoted arguments.
-ghost use Rattle.std.specs.Prelude.{◌≡◌, ◌∷◌, [], ◌||◌, IfOk, option_map, option_copied, ◌≤◌, length, pos, neg_ℤ};
-ghost use Rattle.wm_grammar.specs.Pieces.{ends, is_word, until, from, has, skip, trim_end, word, after, single, says, lower, natural, integer, argument, unquote, with_byte, only_number, digits_from, digit};
+ghost use Rattle.std.specs.Prelude.{◌≡◌, drop, ◌∷◌, [], ◌||◌, IfOk, option_map, option_copied, ◌≤◌, length, pos, neg_ℤ};
+ghost use Rattle.wm_grammar.specs.Pieces.{ends, is_text, starts, is_word, until, from, has, skip, trim_end, word, after, single, says, lower, natural, integer, argument, unquote, with_byte, only_number, digits_from, digit};
 ghost use Rattle.wm_grammar.specs.Words.{stops};
 
 use std::alloc::Global;
@@ -130,6 +130,41 @@ pub fn is_word(word: &[u8], name: &[u8]) -> bool
         other = ys;
     }
     other.is_empty()
+}
+
+/// Whether the text is this one.
+#[tactic(auto, unfolding(crate::specs::Pieces::is_text))]
+pub fn is_text(text: &[u8], other: &[u8]) -> bool
+    ensures { result ≡ is_text text.now other.now }
+{
+    let mut left = text;
+    let mut right = other;
+    while let [x, xs @ ..] = left {
+        let [y, ys @ ..] = right else { return false };
+        if *x != *y {
+            return false;
+        }
+        left = xs;
+        right = ys;
+    }
+    right.is_empty()
+}
+
+/// Whether the text begins with this byte.
+pub fn starts(text: &[u8], c: u8) -> bool
+    ensures { result ≡ starts c text.now }
+{
+    match text {
+        [] => false,
+        [first, ..] => *first == c,
+    }
+}
+
+/// The text without its first bytes, of which there are this many.
+pub fn past(text: &[u8], count: usize) -> &[u8]
+    ensures { result.now ≡ drop count text.now }
+{
+    if count < text.len() { &text[count..] } else { &[] }
 }
 
 /// Whether a command ends here: at `,` or `;` or the end of the text.
