@@ -6,3 +6,4 @@ pub mod Ways
 pub mod Fitted
 pub mod Criteria
 pub mod Reading
+pub mod Answer

@@ -10,10 +10,15 @@ mod keywords;
 mod moving;
 mod opening;
 mod plain;
+
 mod reading;
+mod refusal;
+mod texts;
 mod verbs;
 mod words;
 
 pub use arguments::{Cycle, GapOp, Kind, LayoutArg, OnOff, OutArg, Side, SplitArg, SwapArg, Target};
 pub use batch::{Batch, Criteria, Group, Key};
 pub use command::Command;
+pub use texts::{one_batch, one_reach, read};
+pub use refusal::ReadRefusal;

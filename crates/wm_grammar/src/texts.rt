@@ -1,0 +1,60 @@
+//! Reading a text as a batch.
+ghost use Rattle.std.specs.Prelude.{◌≡◌, ℕ, List, take, IfOk};
+ghost use Rattle.wm_grammar.specs.Answer.{IsAnswer};
+ghost use Rattle.wm_grammar.specs.Reading.{Reads, IsReach, is_whole};
+ghost use Rattle.wm_grammar.specs.declared.batch.Batch.{Batch};
+
+use crate::batch::Batch;
+use crate::groups::groups_of;
+use crate::refusal::ReadRefusal;
+use std::alloc::Global;
+use wm_base::{List, NoMemory};
+
+/// The batch of which the text is a spelling. The text is refused exactly where there is none, with the number
+/// of bytes at its front that are empty, or read and end with `;`.
+pub fn read(alloc: Global, text: &str) -> Result<Batch, ReadRefusal>
+    ensures { IsAnswer text.now result }
+{
+    let bytes = text.as_bytes();
+    if let Some(groups) = groups_of(alloc, bytes)? {
+        return Ok(Batch { groups: List::of(groups) });
+    }
+    let at = reach(alloc, bytes)?;
+    Err(ReadRefusal::Bad { at })
+}
+
+/// The greatest number of bytes at the front that are empty, or read and end with `;`.
+fn reach(alloc: Global, text: &[u8]) -> Result<usize, NoMemory>
+    ensures { IfOk result (λ n. IsReach text.now n) }
+{
+    let mut n = text.len();
+    while n > 0 {
+        if is_whole(alloc, &text[..n])? {
+            return Ok(n);
+        }
+        n -= 1;
+    }
+    Ok(0)
+}
+
+/// Whether the text is empty, or reads and ends with `;`.
+fn is_whole(alloc: Global, text: &[u8]) -> Result<bool, NoMemory>
+    ensures { IfOk result (λ b. b ≡ is_whole text.now) }
+{
+    if let [.., last] = text && *last != b';' {
+        return Ok(false);
+    }
+    Ok(groups_of(alloc, text)?.is_some())
+}
+
+/// A text is a spelling of at most one batch.
+pub fn one_batch()
+    ensures { (text : List ℕ) (a b : Batch) → Reads text a → Reads text b → a ≡ b }
+{
+}
+
+/// A text reads up to one place alone.
+pub fn one_reach()
+    ensures { (text : List ℕ) (m n : ℕ) → IsReach text m → IsReach text n → m ≡ n }
+{
+}
