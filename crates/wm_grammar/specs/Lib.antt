@@ -7,3 +7,4 @@ pub mod Fitted
 pub mod Criteria
 pub mod Reading
 pub mod Answer
+pub mod Spelling

@@ -3,6 +3,7 @@
 
 mod arguments;
 mod batch;
+mod batches;
 mod command;
 mod groups;
 mod keys;
@@ -11,14 +12,20 @@ mod moving;
 mod opening;
 mod plain;
 
+mod printing;
 mod reading;
 mod refusal;
 mod texts;
 mod verbs;
 mod words;
+mod writing;
 
 pub use arguments::{Cycle, GapOp, Kind, LayoutArg, OnOff, OutArg, Side, SplitArg, SwapArg, Target};
+pub use batches::print;
 pub use batch::{Batch, Criteria, Group, Key};
 pub use command::Command;
 pub use texts::{one_batch, one_reach, read};
 pub use refusal::ReadRefusal;
+
+#[cfg(test)]
+mod tests;

@@ -1,0 +1,101 @@
+//! What texts read as, and where they stop reading.
+use crate::{ReadRefusal, print, read};
+use std::test::Fail;
+
+/// What a text is read as, printed; or the place at which it stops reading.
+fn told(rt: &HostRuntime, text: &str) -> Result<String, Fail> {
+    match read(rt.alloc(), text) {
+        Ok(batch) => Ok(print(rt.alloc(), &batch)?),
+        Err(ReadRefusal::Bad { at }) => Ok(format!(in rt.alloc(); "bad {at}")?),
+        Err(ReadRefusal::NoMemory) => Ok(format!(in rt.alloc(); "no memory")?),
+    }
+}
+
+#[test]
+fn corners(rt: HostRuntime) -> Result<(), Fail> {
+    for (text, want) in [
+        ("", ""),
+        ("  \t ", ""),
+        (";;", ""),
+        ("NOP", "nop"),
+        ("Focus\tLEFT", "focus left"),
+        (" nop ; ; kill , exit ;", "nop; kill, exit"),
+        (",nop", "bad 0"),
+        ("nop,", "bad 0"),
+        ("nop;nop,;nop", "bad 4"),
+        ("nop;kill;zzz;nop", "bad 9"),
+        ("[class=x]", "bad 0"),
+        ("[class=x]kill", "[class=\"x\" ] kill"),
+        ("[ CLASS=x  con_id=__focused__ ]\tkill", "[class=\"x\" con_id=__focused__ ] kill"),
+        ("[class=x class=y] kill", "bad 0"),
+        ("[class=] kill", "bad 0"),
+        ("[class=\"\"] kill", "[class=\"\" ] kill"),
+        ("[con_id=\"5\" urgent=\"last\"] kill", "[con_id=5 urgent=latest ] kill"),
+        ("[con_id=__FOCUSED__] kill", "bad 0"),
+        ("[class=a;b] kill", "[class=\"a;b\" ] kill"),
+        ("[class=\"a\"title=\"b\"] kill", "bad 0"),
+        ("[] kill", "bad 0"),
+        ("workspace next", "workspace next"),
+        ("workspace \"next\"", "workspace \"next\""),
+        ("workspace next x", "workspace \"next x\""),
+        ("workspace current", "workspace \"current\""),
+        ("workspace number", "workspace \"number\""),
+        ("workspace number 3: x", "workspace number \"3: x\""),
+        ("workspace number \"3\"", "workspace number \"3\""),
+        ("workspace \"\"", "workspace \"\""),
+        ("workspace", "bad 0"),
+        ("mark --add --toggle a", "mark --add --toggle \"a\""),
+        ("mark --replace a b", "mark \"a b\""),
+        ("mark --add", "mark \"--add\""),
+        ("mark --add --toggle", "mark --add \"--toggle\""),
+        ("mark --toggle --add x", "mark --toggle \"--add x\""),
+        ("mark \"a\" b", "bad 0"),
+        ("mark a\"b", "mark \"a\\\"b\""),
+        ("mark --add \"a;b\"", "mark --add \"a;b\""),
+        ("mark --add \"a;b\", zzz", "bad 14"),
+        ("mark --add \"a,kill;b\", zzz", "bad 19"),
+        ("mark --add \"a;b\", mark --add \"c;d\", zzz", "bad 32"),
+        ("mark --add \"a;b", "bad 14"),
+        ("exec \"a;b", "bad 0"),
+        ("exec a, b; kill", "bad 0"),
+        ("exec a; kill", "exec; kill"),
+        ("exec \"a, b; c\", kill", "exec, kill"),
+        ("move to workspace current", "move container to workspace current"),
+        ("move container to workspace back_and_forth", "move container to workspace back_and_forth"),
+        ("move workspace to output left", "move workspace to output left"),
+        ("move workspace to output \"left\"", "move workspace to output \"left\""),
+        ("move workspace to output a b", "move container to workspace \"to output a b\""),
+        ("move workspace to x", "move container to workspace \"to x\""),
+        ("move workspace output DP-1", "move workspace to output \"DP-1\""),
+        ("move window to output DP-2", "move container to output \"DP-2\""),
+        ("rename workspace to x", "rename workspace to \"x\""),
+        ("rename workspace to to x", "rename workspace to \"to x\""),
+        ("rename workspace a to b c", "rename workspace \"a\" to \"b c\""),
+        ("rename workspace \"a b\" to \"c\"", "rename workspace \"a b\" to \"c\""),
+        ("rename workspace \"a\"to b", "rename workspace \"a\" to \"b\""),
+        ("rename workspace to", "bad 0"),
+        ("rename workspace to \"a;b", "bad 0"),
+        ("mode \"a\\\"b\\\\c\\d\"", "mode \"a\\\"b\\\\c\\\\d\""),
+        ("focus output a\"b", "bad 0"),
+        ("focus output DP-1", "focus output \"DP-1\""),
+        ("mark\"a\"", "bad 0"),
+        ("\"kill\"", "bad 0"),
+        ("move left 4294967295", "move left 4294967295 px"),
+        ("move left 4294967296", "bad 0"),
+        ("move left 00000000010 px", "bad 0"),
+        ("move left 0000000010 px", "move left 10 px"),
+        ("move left -1", "bad 0"),
+        ("move position -1 -0", "move position -1 px 0 px"),
+        ("move position 5 px 7", "move position 5 px 7 px"),
+        ("resize grow left -1 px", "bad 0"),
+        ("mode größer ß ", "mode \"größer ß\""),
+        ("[title=\"größer\"] kill", "[title=\"größer\" ] kill"),
+        ("nop x, kill", "nop, kill"),
+        ("nopx", "bad 0"),
+        ("splith", "bad 0"),
+    ] {
+        let found = told(&rt, text)?;
+        assert_eq!(rt; found.as_str(), want, "of {text}");
+    }
+    Ok(())
+}
