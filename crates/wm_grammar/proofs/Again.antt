@@ -97,11 +97,13 @@ quote_ends : (t : List ℕ) → until is_end (34 ∷ t) ≡ 34 ∷ until is_end 
 unfolding until
 quote_ends t = refl
 
-pub command_quoted : (p : List ℕ) (v : Verb) (o : Opening) → IsOpening p v o → (x e : List ℕ) (c : Command) → ends e ≡ true → made o x ≡ Some c → command_at (p ++ (quoted x ++ e)) ≡ Some (c, e)
+pub command_opened : (p : List ℕ) (v : Verb) (o : Opening) (others : List ℕ → Opened) → has is_end p ≡ false → ((r : List ℕ) → verb_of (word (p ++ 34 ∷ r)) ≡ Some v) → ((r : List ℕ) → plain_form v (after (p ++ 34 ∷ r)) ≡ None) → ((r : List ℕ) → opened v (after (p ++ 34 ∷ r)) ≡ (o, 34 ∷ r) ∷ others r) → (t : List ℕ) (found : Command × List ℕ) → finished o (34 ∷ t) ≡ Some found → command_at (p ++ 34 ∷ t) ≡ Some found
 unfolding command_at verb_command
-command_quoted p v o i x e c end fits =
-    let t : List ℕ = (escaped x ++ 34 ∷ []) ++ e in
+command_opened p v o others clean verb plain ways t found fits =
     let r : List ℕ = until is_end t in
-    let raw : until is_end (p ++ 34 ∷ t) ≡ p ++ 34 ∷ r = until_through is_end p (34 ∷ t) i.clean ∙ ap (λ (u : List ℕ). p ++ u) (quote_ends t) in
-    let here : finished o (drop (length (p ++ 34 ∷ r) - length (34 ∷ r)) (p ++ 34 ∷ t)) ≡ Some (c, e) = ap (λ (u : List ℕ). finished o u) (past_keywords p (34 ∷ r) (34 ∷ t)) ∙ finished_again p v o i x e c end fits in
-    rw (raw, i.verb r, i.plain r, i.ways r) (ways_again (p ++ 34 ∷ t) (p ++ 34 ∷ r) (34 ∷ r) o (i.others r) (c, e) here)
+    let raw : until is_end (p ++ 34 ∷ t) ≡ p ++ 34 ∷ r = until_through is_end p (34 ∷ t) clean ∙ ap (λ (u : List ℕ). p ++ u) (quote_ends t) in
+    let here : finished o (drop (length (p ++ 34 ∷ r) - length (34 ∷ r)) (p ++ 34 ∷ t)) ≡ Some found = ap (λ (u : List ℕ). finished o u) (past_keywords p (34 ∷ r) (34 ∷ t)) ∙ fits in
+    rw (raw, verb r, plain r, ways r) (ways_again (p ++ 34 ∷ t) (p ++ 34 ∷ r) (34 ∷ r) o (others r) found here)
+
+pub command_quoted : (p : List ℕ) (v : Verb) (o : Opening) → IsOpening p v o → (x e : List ℕ) (c : Command) → ends e ≡ true → made o x ≡ Some c → command_at (p ++ (quoted x ++ e)) ≡ Some (c, e)
+command_quoted p v o i x e c end fits = command_opened p v o i.others i.clean i.verb i.plain i.ways ((escaped x ++ 34 ∷ []) ++ e) (c, e) (finished_again p v o i x e c end fits)

@@ -8,3 +8,4 @@ pub mod Criteria
 pub mod Reading
 pub mod Answer
 pub mod Spelling
+pub mod Readable
