@@ -1,6 +1,8 @@
 //! Printing batches.
 ghost use Rattle.std.specs.Prelude.{◌≡◌, ◌++◌, ◌∷◌, string_bytes, IfOk, OnOk};
 ghost use Rattle.wm_grammar.specs.Spelling.{key_text, keys_text, criteria_text, commands_text, group_text, groups_text, spelling};
+ghost use Rattle.wm_grammar.specs.Readable.{IsReadable};
+ghost use Rattle.wm_grammar.specs.Reading.{Reads};
 
 use crate::batch::{Batch, Criteria, Group, Key};
 use crate::command::Command;
@@ -11,8 +13,11 @@ use wm_base::NoMemory;
 
 /// A spelling of the batch, with keywords in lower case and quoted arguments. The batch is one that some text
 /// reads as.
+#[tactic(auto, using(crate::proofs::BatchesAgain::batch_again))]
 pub fn print(alloc: Global, batch: &Batch) -> Result<String, NoMemory>
-    ensures { IfOk result (λ s. string_bytes s ≡ spelling batch.now) }
+    requires { IsReadable batch.now }
+    ensures spelling { IfOk result (λ s. string_bytes s ≡ spelling batch.now) }
+    ensures reads { IfOk result (λ s. Reads (string_bytes s) batch.now) }
 {
     let mut out = String::new(alloc);
     put_groups(&mut out, batch.groups.items())?;

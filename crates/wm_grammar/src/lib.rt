@@ -24,7 +24,7 @@ pub use arguments::{Cycle, GapOp, Kind, LayoutArg, OnOff, OutArg, Side, SplitArg
 pub use batches::print;
 pub use batch::{Batch, Criteria, Group, Key};
 pub use command::Command;
-pub use texts::{one_batch, one_reach, read};
+pub use texts::{one_batch, one_reach, printed_again, read, readable};
 pub use refusal::ReadRefusal;
 
 #[cfg(test)]

@@ -1,6 +1,8 @@
 //! Reading a text as a batch.
 ghost use Rattle.std.specs.Prelude.{◌≡◌, ℕ, List, take, IfOk};
 ghost use Rattle.wm_grammar.specs.Answer.{IsAnswer};
+ghost use Rattle.wm_grammar.specs.Readable.{IsReadable};
+ghost use Rattle.wm_grammar.specs.Spelling.{spelling};
 ghost use Rattle.wm_grammar.specs.Reading.{Reads, IsReach, is_whole};
 ghost use Rattle.wm_grammar.specs.declared.batch.Batch.{Batch};
 
@@ -12,8 +14,10 @@ use wm_base::{List, NoMemory};
 
 /// The batch of which the text is a spelling. The text is refused exactly where there is none, with the number
 /// of bytes at its front that are empty, or read and end with `;`.
+#[tactic(auto, using(crate::proofs::Fits::readable))]
 pub fn read(alloc: Global, text: &str) -> Result<Batch, ReadRefusal>
-    ensures { IsAnswer text.now result }
+    ensures answer { IsAnswer text.now result }
+    ensures readable { IfOk result (λ b. IsReadable b) }
 {
     let bytes = text.as_bytes();
     if let Some(groups) = groups_of(alloc, bytes)? {
@@ -56,5 +60,19 @@ pub fn one_batch()
 /// A text reads up to one place alone.
 pub fn one_reach()
     ensures { (text : List ℕ) (m n : ℕ) → IsReach text m → IsReach text n → m ≡ n }
+{
+}
+
+/// A batch that some text reads as can be printed.
+#[tactic(auto, using(crate::proofs::Fits::readable))]
+pub fn readable()
+    ensures { (text : List ℕ) (b : Batch) → Reads text b → IsReadable b }
+{
+}
+
+/// A batch that can be printed is one that some text reads as, and its printed spelling is such a text.
+#[tactic(auto, using(crate::proofs::BatchesAgain::batch_again))]
+pub fn printed_again()
+    ensures { (b : Batch) → IsReadable b → Reads (spelling b) b }
 {
 }
