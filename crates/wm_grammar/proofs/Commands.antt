@@ -41,7 +41,6 @@ use Rattle.wm_grammar.specs.Spelling.{spelled, quoted, escaped, dir_text, move_t
 use Rattle.wm_grammar.specs.Readable.{IsArgument, IsNumber, IsOutput, IsSentTo, IsShown, IsSwap, IsBorder, IsReadableCommand, IsMaybeArgument}
 use Rattle.wm_grammar.proofs.Numbers.{stops_at, until_past, from_past, until_through, number_word, number_after, number_some, number_other, natural_decimal, only_number_decimal, number_has, no_end, no_blank, number_clean, number_digits, NoDigit}
 use Rattle.wm_grammar.proofs.Again.{command_plain, command_quoted, IsOpening, quoted_again, closed_again, skip_end, ends_stops}
-
 use Rattle.wm_grammar.proofs.Places.{sides_again, position_again, renaming_again}
 use Rattle.wm_grammar.proofs.Spelled.{argument_again, split_again, layout_again, cycle_again, kind_again, focus_dir_again, floating_again, fullscreen_again, sticky_again, focus_output_opening, to_workspace_opening, to_numbered_opening, to_output_opening, workspace_to_opening, to_mark_opening, swap_opening, mark_both_opening, mark_add_opening, mark_toggle_opening, mark_opening, unmark_opening, workspace_opening, numbered_opening, rename_opening, mode_opening, append_opening, title_opening, border_again, con_again, window_again, gaps_again, move_again, resize_again}
 

@@ -52,7 +52,6 @@ use Rattle.wm_grammar.specs.declared.batch.Batch.{Batch}
 use Rattle.wm_grammar.specs.Criteria.{key_of, value_at, valued_at, key_at, place_of, has_place, ends_key, closed_keys, and_keys, keys_at, criteria_at, flag_words, name_words, urgent_words}
 use Rattle.wm_grammar.specs.Reading.{Commands, Groups, and_commands, before_commands, commands_at, criteria_of, criteria_part, group_of, group_at, and_groups, some_groups, groups_at, groups_of, batch_of, Reads}
 
-
 -- ---- each value that is there
 
 abbrev pub AllSome : {A : Type 0} → (A → Type 0) → Option A → Type 0
@@ -96,6 +95,7 @@ digits_small (c ∷ cs) n lt = digit_then (digit c) n cs (λ m h. digits_small c
     tested : (b : Bool) (m : ℕ) (cs : List ℕ) → nat_lt m 4294967296 ≡ b → ((m : ℕ) → IsNumber m → AllSome IsNumber (digits_from m cs)) → AllSome IsNumber (if b then digits_from m cs else None)
     tested true m cs e i = i m (ltb-true m 4294967296 e)
     tested false m cs e i = tt
+
     digit_then : (o : Option ℕ) (n : ℕ) (cs : List ℕ) → ((m : ℕ) → IsNumber m → AllSome IsNumber (digits_from m cs)) → AllSome IsNumber (o >>= λ d. if nat_lt (10 * n + d) 4294967296 then digits_from (10 * n + d) cs else None)
     digit_then None n cs i = tt
     digit_then (Some d) n cs i = tested (nat_lt (10 * n + d) 4294967296) (10 * n + d) cs refl i
@@ -137,8 +137,8 @@ argument_fits x = tested (is_utf8 x && nat_le (length x) 1024) refl
 output_fits : (w : List ℕ) → AllSome IsOutput (output_of w)
 output_fits w = first_all IsOutput (choice ((codes "current", outs.Current) ∷ (codes "primary", outs.Primary) ∷ (codes "next", outs.Next) ∷ []) w) (option_map outs.At (choice dir_words w))
     (if_all IsOutput (is_word w (codes "current")) (Some outs.Current) (choice ((codes "primary", outs.Primary) ∷ (codes "next", outs.Next) ∷ []) w) tt
-      (if_all IsOutput (is_word w (codes "primary")) (Some outs.Primary) (choice ((codes "next", outs.Next) ∷ []) w) tt
-        (if_all IsOutput (is_word w (codes "next")) (Some outs.Next) None tt tt)))
+    (if_all IsOutput (is_word w (codes "primary")) (Some outs.Primary) (choice ((codes "next", outs.Next) ∷ []) w) tt
+    (if_all IsOutput (is_word w (codes "next")) (Some outs.Next) None tt tt)))
     (each_map IsOutput (choice dir_words w) outs.At (λ d. tt))
 
 only_output_fits : (r : List ℕ) → AllSome IsOutput (only_output r)
@@ -194,7 +194,7 @@ position_fits : (r : List ℕ) → Fits (position_form r)
 unfolding position_form
 position_fits r = if_all R (says r (codes "center")) (whole (after r) commands.MoveCenter) _ (whole_all R (after r) commands.MoveCenter tt)
     (bind_all IsPlace R (integer (word r)) (λ x. integer (word (past_px (after r))) >>= λ y. whole (past_px (after (past_px (after r)))) (commands.MovePosition x y)) (integer_small (word r)) (λ x h.
-      bind_all IsPlace R (integer (word (past_px (after r)))) (λ y. whole (past_px (after (past_px (after r)))) (commands.MovePosition x y)) (integer_small (word (past_px (after r)))) (λ y k. whole_all R (past_px (after (past_px (after r)))) (commands.MovePosition x y) (h, k))))
+    bind_all IsPlace R (integer (word (past_px (after r)))) (λ y. whole (past_px (after (past_px (after r)))) (commands.MovePosition x y)) (integer_small (word (past_px (after r)))) (λ y k. whole_all R (past_px (after (past_px (after r)))) (commands.MovePosition x y) (h, k))))
 
 move_to_fits : (r : List ℕ) → Fits (move_to_form r)
 unfolding move_to_form
@@ -228,12 +228,12 @@ hundredths_fits : (px : ℕ) (r : List ℕ) → IsNumber px → AllSome IsAmount
 unfolding hundredths
 hundredths_fits px r lt = if_all IsAmount (is_nil r) (Some (px, 0)) _ (lt, lit< tt) (if_all IsAmount (says r (codes "or")) _ None
     (bind_all IsNumber IsAmount (natural (word (after r))) (λ ppt. if says (after (after r)) (codes "ppt") then whole (after (after (after r))) (px, ppt) else None) (natural_small (word (after r))) (λ ppt h.
-      if_all IsAmount (says (after (after r)) (codes "ppt")) (whole (after (after (after r))) (px, ppt)) None (whole_all IsAmount (after (after (after r))) (px, ppt) (lt, h)) tt)) tt)
+    if_all IsAmount (says (after (after r)) (codes "ppt")) (whole (after (after (after r))) (px, ppt)) None (whole_all IsAmount (after (after (after r))) (px, ppt) (lt, h)) tt)) tt)
 
 amounts_fit : (r : List ℕ) → AllSome IsAmount (amounts r)
 unfolding amounts
 amounts_fit r = if_all IsAmount (is_nil r) (Some (10, 10)) _ (lit< tt, lit< tt) (bind_all IsNumber IsAmount (natural (word r)) (λ px. if says (after r) (codes "px") then hundredths px (after (after r)) else None) (natural_small (word r)) (λ px h.
-      if_all IsAmount (says (after r) (codes "px")) (hundredths px (after (after r))) None (hundredths_fits px (after (after r)) h) tt))
+    if_all IsAmount (says (after r) (codes "px")) (hundredths px (after (after r))) None (hundredths_fits px (after (after r)) h) tt))
 
 resize_by_fits : (grow : Bool) (r : List ℕ) → Fits (resize_by grow r)
 unfolding resize_by

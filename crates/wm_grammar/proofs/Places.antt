@@ -41,7 +41,6 @@ use Rattle.wm_grammar.specs.Spelling.{spelled, quoted, escaped, dir_text, move_t
 use Rattle.wm_grammar.specs.Readable.{IsArgument, IsNumber, IsOutput, IsSentTo, IsShown, IsSwap, IsBorder, IsReadableCommand, IsMaybeArgument}
 use Rattle.wm_grammar.proofs.Numbers.{stops_at, until_past, from_past, until_through, number_word, number_after, number_some, number_other, natural_decimal, only_number_decimal, number_has, no_end, no_blank, number_clean, number_digits, NoDigit}
 use Rattle.wm_grammar.proofs.Again.{unquote_again, command_plain, command_quoted, IsOpening, quoted_again, closed_again, skip_end, ends_stops}
-
 use Rattle.wm_grammar.proofs.Again.{command_opened}
 use Rattle.wm_grammar.proofs.Spelled.{argument_again, is_long, skip_first, skip_number, skip_alone, past_px_end}
 

@@ -6,7 +6,7 @@ ghost use Rattle.wm_grammar.specs.Reading.{Reads};
 
 use crate::batch::{Batch, Criteria, Group, Key};
 use crate::command::Command;
-use crate::printing::{put_counted, put_command, put_named};
+use crate::printing::{put_command, put_counted, put_named};
 use crate::writing::put;
 use std::alloc::Global;
 use wm_base::NoMemory;
@@ -29,7 +29,9 @@ pub fn print(alloc: Global, batch: &Batch) -> Result<String, NoMemory>
 fn put_groups(out: &mut String, groups: &[Group]) -> Result<(), NoMemory>
     ensures { OnOk result (string_bytes out.new ≡ string_bytes out.old ++ groups_text groups.now) }
 {
-    let [first, more @ ..] = groups else { return Ok(()) };
+    let [first, more @ ..] = groups else {
+        return Ok(())
+    };
     put_group(out, first)?;
     let mut rest = more;
     while let [group, more @ ..] = rest {
@@ -54,7 +56,9 @@ fn put_group(out: &mut String, group: &Group) -> Result<(), NoMemory>
 fn put_commands(out: &mut String, commands: &[Command]) -> Result<(), NoMemory>
     ensures { OnOk result (string_bytes out.new ≡ string_bytes out.old ++ commands_text commands.now) }
 {
-    let [first, more @ ..] = commands else { return Ok(()) };
+    let [first, more @ ..] = commands else {
+        return Ok(())
+    };
     put_command(out, first)?;
     let mut rest = more;
     while let [command, more @ ..] = rest {
@@ -70,7 +74,9 @@ fn put_commands(out: &mut String, commands: &[Command]) -> Result<(), NoMemory>
 fn put_criteria(out: &mut String, criteria: &Option<Criteria>) -> Result<(), NoMemory>
     ensures { OnOk result (string_bytes out.new ≡ string_bytes out.old ++ criteria_text criteria.now) }
 {
-    let Some(criteria) = criteria else { return Ok(()) };
+    let Some(criteria) = criteria else {
+        return Ok(())
+    };
     put(out, "[")?;
     put_keys(out, criteria.keys.items())?;
     put(out, "] ")

@@ -1,5 +1,7 @@
 //! The commands of the command language, a variant for each form.
-use crate::arguments::{Cycle, GapOp, Kind, LayoutArg, OnOff, OutArg, Side, SplitArg, SwapArg, Target};
+use crate::arguments::{
+    Cycle, GapOp, Kind, LayoutArg, OnOff, OutArg, Side, SplitArg, SwapArg, Target,
+};
 use wm_base::{Border, Dir, Text};
 
 /// A command. Its subject is the focused container or those that the criteria match. Numbers are in pixels
@@ -43,7 +45,12 @@ pub enum Command {
     /// `swap container with mark m`: exchanges the places of two containers.
     Swap(SwapArg),
     /// `resize grow width 10 px or 5 ppt`: grows or shrinks by pixels, or by hundredths where `ppt` is above 0.
-    Resize { grow: bool, side: Side, px: u32, ppt: u32 },
+    Resize {
+        grow: bool,
+        side: Side,
+        px: u32,
+        ppt: u32,
+    },
     /// `resize set 300 200`: sets a floating window's width and height.
     ResizeSet(u32, u32),
     /// `floating toggle`: makes a window float or tiles it.
@@ -55,11 +62,20 @@ pub enum Command {
     /// `border toggle`: goes to the next border.
     CycleBorder,
     /// `gaps inner all plus 5`: changes the inner or outer gaps of the workspace or of all.
-    Gaps { outer: bool, all: bool, op: GapOp, px: u32 },
+    Gaps {
+        outer: bool,
+        all: bool,
+        op: GapOp,
+        px: u32,
+    },
     /// `sticky enable`: lets a floating window go along with the shown workspace.
     Sticky(OnOff),
     /// `mark --add m`: gives the subject a mark, beside its others or in their place.
-    Mark { add: bool, toggle: bool, name: Text },
+    Mark {
+        add: bool,
+        toggle: bool,
+        name: Text,
+    },
     /// `unmark m`: takes a mark off, or all.
     Unmark(Option<Text>),
     /// `workspace 3`: shows a workspace.

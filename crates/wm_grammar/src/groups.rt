@@ -19,9 +19,13 @@ fn commands_at(alloc: Global, text: &[u8]) -> Result<Option<(Vec<Command>, &[u8]
     let mut rest = text;
     let mut left = text.len();
     while left > 0 {
-        let Some((command, behind)) = command_at(alloc, skip(rest))? else { return Ok(None) };
+        let Some((command, behind)) = command_at(alloc, skip(rest))? else {
+            return Ok(None)
+        };
         commands.push(command)?;
-        let [b',', more @ ..] = behind else { return Ok(Some((commands, behind))) };
+        let [b',', more @ ..] = behind else {
+            return Ok(Some((commands, behind)))
+        };
         rest = more;
         left -= 1;
     }
@@ -30,15 +34,21 @@ fn commands_at(alloc: Global, text: &[u8]) -> Result<Option<(Vec<Command>, &[u8]
 
 /// The criteria at the front, where `[` stands there, and what follows.
 #[tactic(auto, unfolding(crate::specs::Reading::criteria_part))]
-fn criteria_part(
-    alloc: Global,
-    text: &[u8],
-) -> Result<Option<(Option<Criteria>, &[u8])>, NoMemory>
+fn criteria_part(alloc: Global, text: &[u8]) -> Result<Option<(Option<Criteria>, &[u8])>, NoMemory>
     ensures { IfOk result (λ o. option_map (λ x. (x.0, x.1.now)) o ≡ criteria_part text.now) }
 {
-    let [b'[', inside @ ..] = text else { return Ok(Some((None, text))) };
-    let Some((keys, rest)) = criteria_at(alloc, inside)? else { return Ok(None) };
-    Ok(Some((Some(Criteria { keys: List::of(keys) }), rest)))
+    let [b'[', inside @ ..] = text else {
+        return Ok(Some((None, text)))
+    };
+    let Some((keys, rest)) = criteria_at(alloc, inside)? else {
+        return Ok(None)
+    };
+    Ok(Some((
+        Some(Criteria {
+            keys: List::of(keys),
+        }),
+        rest,
+    )))
 }
 
 /// A group that is not blank, at the front of a text that begins with no blank, and what follows.
@@ -46,9 +56,19 @@ fn criteria_part(
 fn group_at(alloc: Global, text: &[u8]) -> Result<Option<(Group, &[u8])>, NoMemory>
     ensures { IfOk result (λ o. option_map (λ x. (x.0, x.1.now)) o ≡ group_at text.now) }
 {
-    let Some((criteria, rest)) = criteria_part(alloc, text)? else { return Ok(None) };
-    let Some((commands, rest)) = commands_at(alloc, rest)? else { return Ok(None) };
-    Ok(Some((Group { criteria, commands: List::of(commands) }, rest)))
+    let Some((criteria, rest)) = criteria_part(alloc, text)? else {
+        return Ok(None)
+    };
+    let Some((commands, rest)) = commands_at(alloc, rest)? else {
+        return Ok(None)
+    };
+    Ok(Some((
+        Group {
+            criteria,
+            commands: List::of(commands),
+        },
+        rest,
+    )))
 }
 
 /// The groups of a text.
@@ -60,11 +80,15 @@ pub fn groups_of(alloc: Global, text: &[u8]) -> Result<Option<Vec<Group>>, NoMem
     let mut rest = text;
     let mut left = text.len();
     loop {
-        let [first, more @ ..] = skip(rest) else { return Ok(Some(groups)) };
+        let [first, more @ ..] = skip(rest) else {
+            return Ok(Some(groups))
+        };
         if *first == b';' {
             rest = more;
         } else {
-            let Some((group, behind)) = group_at(alloc, skip(rest))? else { return Ok(None) };
+            let Some((group, behind)) = group_at(alloc, skip(rest))? else {
+                return Ok(None)
+            };
             groups.push(group)?;
             rest = past(behind, 1);
         }

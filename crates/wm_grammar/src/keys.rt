@@ -102,11 +102,17 @@ fn value_at(alloc: Global, text: &[u8]) -> Result<Option<(Piece<'_>, &[u8])>, No
     ensures { IfOk result (λ o. option_map (λ x. (piece_bytes x.0, x.1.now)) o ≡ value_at text.now) }
 {
     if let [b'"', quoted @ ..] = text {
-        let Some((bytes, rest)) = unquote(alloc, quoted)? else { return Ok(None) };
+        let Some((bytes, rest)) = unquote(alloc, quoted)? else {
+            return Ok(None)
+        };
         return Ok(Some((Piece::Quoted(bytes), rest)));
     }
     let (found, rest) = cut(text, Stop::Value);
-    Ok(if found.is_empty() { None } else { Some((Piece::Plain(found), rest)) })
+    Ok(if found.is_empty() {
+        None
+    } else {
+        Some((Piece::Plain(found), rest))
+    })
 }
 
 /// The key of a name, whose value is behind `=`, and what follows.
@@ -114,8 +120,12 @@ fn value_at(alloc: Global, text: &[u8]) -> Result<Option<(Piece<'_>, &[u8])>, No
 fn valued_at(alloc: Global, name: KeyName, text: &[u8]) -> Result<Option<(Key, &[u8])>, NoMemory>
     ensures { IfOk result (λ o. option_map (λ x. (x.0, x.1.now)) o ≡ valued_at name text.now) }
 {
-    let Some((value, rest)) = value_at(alloc, text)? else { return Ok(None) };
-    let Some(key) = key_of(alloc, name, value.bytes())? else { return Ok(None) };
+    let Some((value, rest)) = value_at(alloc, text)? else {
+        return Ok(None)
+    };
+    let Some(key) = key_of(alloc, name, value.bytes())? else {
+        return Ok(None)
+    };
     Ok(Some((key, rest)))
 }
 
@@ -126,10 +136,14 @@ fn key_at(alloc: Global, text: &[u8]) -> Result<Option<(Key, &[u8])>, NoMemory>
 {
     let (word, rest) = cut(text, Stop::Name);
     if let [b'=', value @ ..] = rest {
-        let Some(name) = name_of(word) else { return Ok(None) };
+        let Some(name) = name_of(word) else {
+            return Ok(None)
+        };
         return valued_at(alloc, name, value);
     }
-    let Some(key) = flag_of(word) else { return Ok(None) };
+    let Some(key) = flag_of(word) else {
+        return Ok(None)
+    };
     Ok(Some((key, rest)))
 }
 
@@ -200,7 +214,9 @@ fn keys_at(alloc: Global, most: usize, text: &[u8]) -> Result<Option<(Vec<Key>, 
     let mut rest = text;
     let mut left = most;
     while left > 0 && !starts(skip(rest), b']') {
-        let Some((key, behind)) = key_at(alloc, skip(rest))? else { return Ok(None) };
+        let Some((key, behind)) = key_at(alloc, skip(rest))? else {
+            return Ok(None)
+        };
         if !fits_behind(&key, keys.as_slice(), behind) {
             return Ok(None);
         }

@@ -11,7 +11,6 @@ mod keywords;
 mod moving;
 mod opening;
 mod plain;
-
 mod printing;
 mod reading;
 mod refusal;
@@ -20,12 +19,14 @@ mod verbs;
 mod words;
 mod writing;
 
-pub use arguments::{Cycle, GapOp, Kind, LayoutArg, OnOff, OutArg, Side, SplitArg, SwapArg, Target};
-pub use batches::print;
+pub use arguments::{
+    Cycle, GapOp, Kind, LayoutArg, OnOff, OutArg, Side, SplitArg, SwapArg, Target,
+};
 pub use batch::{Batch, Criteria, Group, Key};
+pub use batches::print;
 pub use command::Command;
-pub use texts::{one_batch, one_reach, printed_again, read, readable};
 pub use refusal::ReadRefusal;
+pub use texts::{one_batch, one_reach, printed_again, read, readable};
 
 #[cfg(test)]
 mod tests;

@@ -68,7 +68,9 @@ fn move_by(dir: Dir, rest: &[u8]) -> Option<Command>
     }
     let (first, more) = split_word(rest);
     let pixels = natural(first)?;
-    past_px(more).is_empty().then_some(Command::MoveDir(dir, pixels))
+    past_px(more)
+        .is_empty()
+        .then_some(Command::MoveDir(dir, pixels))
 }
 
 #[tactic(auto, unfolding(crate::specs::Forms::move_workspace_form))]
@@ -76,7 +78,11 @@ fn move_workspace_form(rest: &[u8]) -> Option<Command>
     ensures { result ≡ move_workspace_form rest.now }
 {
     let (first, more) = split_word(past_one_to(rest));
-    if is_word(first, b"output") { only_output(more).map(Command::MoveWorkspace) } else { None }
+    if is_word(first, b"output") {
+        only_output(more).map(Command::MoveWorkspace)
+    } else {
+        None
+    }
 }
 
 #[tactic(auto, unfolding(crate::specs::Forms::move_to_form))]
@@ -93,7 +99,11 @@ fn move_to_form(rest: &[u8]) -> Option<Command>
     if is_word(first, b"scratchpad") {
         return more.is_empty().then_some(Command::MoveToScratchpad);
     }
-    if is_word(first, b"position") { position_form(more) } else { None }
+    if is_word(first, b"position") {
+        position_form(more)
+    } else {
+        None
+    }
 }
 
 #[tactic(auto, unfolding(crate::specs::Forms::position_form))]
@@ -107,5 +117,7 @@ fn position_form(rest: &[u8]) -> Option<Command>
     let x = integer(first)?;
     let (second, more) = split_word(past_px(more));
     let y = integer(second)?;
-    past_px(more).is_empty().then_some(Command::MovePosition(x, y))
+    past_px(more)
+        .is_empty()
+        .then_some(Command::MovePosition(x, y))
 }

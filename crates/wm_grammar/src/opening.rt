@@ -38,7 +38,10 @@ impl Opening {
     pub fn is_one_word(self) -> bool
         ensures { result ≡ is_one_word self }
     {
-        matches!(self, Opening::FocusOutput | Opening::MoveToOutput | Opening::MoveWorkspace)
+        matches!(
+            self,
+            Opening::FocusOutput | Opening::MoveToOutput | Opening::MoveWorkspace
+        )
     }
 }
 
@@ -102,7 +105,11 @@ fn focus_opened<'a>(ways: Ways<'a>, rest: &'a [u8]) -> Result<Ways<'a>, NoMemory
     ensures { IfOk result (λ v. seen v.items ≡ seen ways.entry.items ++ focus_opened rest.now) }
 {
     let (first, more) = split_word(rest);
-    if is_word(first, b"output") { with(ways, Opening::FocusOutput, more) } else { Ok(ways) }
+    if is_word(first, b"output") {
+        with(ways, Opening::FocusOutput, more)
+    } else {
+        Ok(ways)
+    }
 }
 
 #[tactic(auto, using(crate::proofs::Lists::joining), unfolding(crate::specs::Openings::move_to_opened))]
@@ -111,12 +118,21 @@ fn move_to_opened<'a>(ways: Ways<'a>, rest: &'a [u8]) -> Result<Ways<'a>, NoMemo
 {
     let (first, more) = split_word(rest);
     if is_word(first, b"workspace") {
-        return targets_opened(ways, Opening::MoveToNumbered, Opening::MoveToWorkspace, more);
+        return targets_opened(
+            ways,
+            Opening::MoveToNumbered,
+            Opening::MoveToWorkspace,
+            more,
+        );
     }
     if is_word(first, b"output") {
         return with(ways, Opening::MoveToOutput, more);
     }
-    if is_word(first, b"mark") { with(ways, Opening::MoveToMark, more) } else { Ok(ways) }
+    if is_word(first, b"mark") {
+        with(ways, Opening::MoveToMark, more)
+    } else {
+        Ok(ways)
+    }
 }
 
 #[tactic(auto, using(crate::proofs::Lists::joining), unfolding(crate::specs::Openings::move_opened))]
@@ -139,8 +155,14 @@ fn move_opened<'a>(ways: Ways<'a>, rest: &'a [u8]) -> Result<Ways<'a>, NoMemory>
 fn swap_opened<'a>(ways: Ways<'a>, rest: &'a [u8]) -> Result<Ways<'a>, NoMemory>
     ensures { IfOk result (λ v. seen v.items ≡ seen ways.entry.items ++ swap_opened rest.now) }
 {
-    let Some(more) = past_with(rest) else { return Ok(ways) };
-    if says(more, b"mark") { with(ways, Opening::SwapMark, after(more)) } else { Ok(ways) }
+    let Some(more) = past_with(rest) else {
+        return Ok(ways)
+    };
+    if says(more, b"mark") {
+        with(ways, Opening::SwapMark, after(more))
+    } else {
+        Ok(ways)
+    }
 }
 
 /// The ways to read a mark, with the word `--toggle` before it or not.
@@ -163,11 +185,25 @@ fn mark_opened<'a>(ways: Ways<'a>, rest: &'a [u8]) -> Result<Ways<'a>, NoMemory>
     let (first, more) = split_word(rest);
     if is_word(first, b"--add") {
         let ways = toggle_opened(ways, true, more)?;
-        return with(ways, Opening::Mark { add: false, toggle: false }, rest);
+        return with(
+            ways,
+            Opening::Mark {
+                add: false,
+                toggle: false,
+            },
+            rest,
+        );
     }
     if is_word(first, b"--replace") {
         let ways = toggle_opened(ways, false, more)?;
-        return with(ways, Opening::Mark { add: false, toggle: false }, rest);
+        return with(
+            ways,
+            Opening::Mark {
+                add: false,
+                toggle: false,
+            },
+            rest,
+        );
     }
     toggle_opened(ways, false, rest)
 }

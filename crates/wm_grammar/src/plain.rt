@@ -97,7 +97,11 @@ fn focus_form(rest: &[u8]) -> Option<Command>
     if is_word(first, b"output") {
         return only_output(more).map(Command::FocusOutput);
     }
-    if more.is_empty() { focus_word(first) } else { None }
+    if more.is_empty() {
+        focus_word(first)
+    } else {
+        None
+    }
 }
 
 /// What follows `with`, before which `container` may stand.
@@ -105,8 +109,16 @@ fn focus_form(rest: &[u8]) -> Option<Command>
 pub fn past_with(rest: &[u8]) -> Option<&[u8]>
     ensures { option_copied result ≡ past_with rest.now }
 {
-    let from = if says(rest, b"container") { after(rest) } else { rest };
-    if says(from, b"with") { Some(after(from)) } else { None }
+    let from = if says(rest, b"container") {
+        after(rest)
+    } else {
+        rest
+    };
+    if says(from, b"with") {
+        Some(after(from))
+    } else {
+        None
+    }
 }
 
 #[tactic(auto, unfolding(crate::specs::Forms::swap_form))]
@@ -148,7 +160,9 @@ fn resize_set(rest: &[u8]) -> Option<Command>
     let width = natural(first)?;
     let (second, more) = split_word(past_px(more));
     let height = natural(second)?;
-    past_px(more).is_empty().then_some(Command::ResizeSet(width, height))
+    past_px(more)
+        .is_empty()
+        .then_some(Command::ResizeSet(width, height))
 }
 
 #[tactic(auto, unfolding(crate::specs::Forms::resize_by))]
@@ -158,7 +172,12 @@ fn resize_by(grow: bool, rest: &[u8]) -> Option<Command>
     let (first, more) = split_word(rest);
     let side = side_of(first)?;
     let (px, ppt) = amounts(more)?;
-    Some(Command::Resize { grow, side, px, ppt })
+    Some(Command::Resize {
+        grow,
+        side,
+        px,
+        ppt,
+    })
 }
 
 /// By how many pixels and hundredths to resize.
@@ -171,7 +190,11 @@ fn amounts(rest: &[u8]) -> Option<(u32, u32)>
     }
     let (first, more) = split_word(rest);
     let px = natural(first)?;
-    if says(more, b"px") { hundredths(px, after(more)) } else { None }
+    if says(more, b"px") {
+        hundredths(px, after(more))
+    } else {
+        None
+    }
 }
 
 /// The pixels, and the hundredths behind them.
@@ -188,7 +211,11 @@ fn hundredths(px: u32, rest: &[u8]) -> Option<(u32, u32)>
     }
     let (second, more) = split_word(more);
     let ppt = natural(second)?;
-    if says(more, b"ppt") { after(more).is_empty().then_some((px, ppt)) } else { None }
+    if says(more, b"ppt") {
+        after(more).is_empty().then_some((px, ppt))
+    } else {
+        None
+    }
 }
 
 #[tactic(auto, unfolding(crate::specs::Forms::fullscreen_form))]
@@ -206,7 +233,11 @@ fn fullscreen_form(rest: &[u8]) -> Option<Command>
 fn width_form(rest: &[u8]) -> Option<u32>
     ensures { result ≡ width_form rest.now }
 {
-    if rest.is_empty() { Some(2) } else { only_number(rest) }
+    if rest.is_empty() {
+        Some(2)
+    } else {
+        only_number(rest)
+    }
 }
 
 #[tactic(auto, unfolding(crate::specs::Forms::border_form))]
@@ -265,5 +296,9 @@ fn scratchpad_form(rest: &[u8]) -> Option<Command>
     ensures { result ≡ scratchpad_form rest.now }
 {
     let (first, more) = split_word(rest);
-    if is_word(first, b"show") { more.is_empty().then_some(Command::ScratchpadShow) } else { None }
+    if is_word(first, b"show") {
+        more.is_empty().then_some(Command::ScratchpadShow)
+    } else {
+        None
+    }
 }

@@ -35,7 +35,12 @@ pub fn put_command(out: &mut String, command: &Command) -> Result<(), NoMemory>
         Command::MovePosition(x, y) => put_position(out, *x, *y),
         Command::MoveCenter => put(out, "move position center"),
         Command::Swap(arg) => put_swap(out, "swap container with ", arg),
-        Command::Resize { grow, side, px, ppt } => put_resize(out, *grow, *side, *px, *ppt),
+        Command::Resize {
+            grow,
+            side,
+            px,
+            ppt,
+        } => put_resize(out, *grow, *side, *px, *ppt),
         Command::ResizeSet(w, h) => put_sides(out, *w, *h),
         Command::Floating(arg) => put_two(out, "floating ", switch_text(*arg)),
         Command::Fullscreen(arg) => put_two(out, "fullscreen ", switch_text(*arg)),
@@ -159,13 +164,7 @@ fn put_sides(out: &mut String, w: u32, h: u32) -> Result<(), NoMemory>
     put_measured(out, " ", h, " px")
 }
 
-fn put_resize(
-    out: &mut String,
-    grow: bool,
-    side: Side,
-    px: u32,
-    ppt: u32,
-) -> Result<(), NoMemory>
+fn put_resize(out: &mut String, grow: bool, side: Side, px: u32, ppt: u32) -> Result<(), NoMemory>
     ensures { OnOk result (string_bytes out.new ≡ string_bytes out.old ++ resize_text grow side px ppt) }
 {
     put_two(out, grow_text(grow), side_text(side))?;
@@ -173,13 +172,7 @@ fn put_resize(
     put_measured(out, "", ppt, " ppt")
 }
 
-fn put_gaps(
-    out: &mut String,
-    outer: bool,
-    all: bool,
-    op: GapOp,
-    px: u32,
-) -> Result<(), NoMemory>
+fn put_gaps(out: &mut String, outer: bool, all: bool, op: GapOp, px: u32) -> Result<(), NoMemory>
     ensures { OnOk result (string_bytes out.new ≡ string_bytes out.old ++ gaps_text outer all op px) }
 {
     put_two(out, gap_text(outer), scope_text(all))?;

@@ -9,7 +9,9 @@ use crate::command::Command;
 use crate::opening::{Opening, opened};
 use crate::plain::plain_form;
 use crate::verbs::{Verb, verb_of};
-use crate::words::{Stop, argument, cut, ends, is_word, past, skip, split_word, stops_in, trim_end, unquote};
+use crate::words::{
+    Stop, argument, cut, ends, is_word, past, skip, split_word, stops_in, trim_end, unquote,
+};
 use std::alloc::Global;
 use wm_base::{NoMemory, Text};
 
@@ -44,9 +46,15 @@ fn text_at(
     ensures { IfOk result (λ o. option_map (λ x. (piece_bytes x.0, x.1.now)) o ≡ text_at one_word text.now) }
 {
     if let [b'"', quoted @ ..] = text {
-        let Some((bytes, behind)) = unquote(alloc, quoted)? else { return Ok(None) };
+        let Some((bytes, behind)) = unquote(alloc, quoted)? else {
+            return Ok(None)
+        };
         let rest = skip(behind);
-        return Ok(if ends(rest) { Some((Piece::Quoted(bytes), rest)) } else { None });
+        return Ok(if ends(rest) {
+            Some((Piece::Quoted(bytes), rest))
+        } else {
+            None
+        });
     }
     let (found, rest) = cut(text, Stop::End);
     let found = trim_end(found);
@@ -90,7 +98,9 @@ fn made(alloc: Global, opening: Opening, text: &[u8]) -> Result<Option<Command>,
     if let Opening::Idle = opening {
         return Ok(Some(Command::Idle));
     }
-    let Some(name) = argument(alloc, text)? else { return Ok(None) };
+    let Some(name) = argument(alloc, text)? else {
+        return Ok(None)
+    };
     Ok(named(opening, name))
 }
 
@@ -100,7 +110,9 @@ fn word_at(alloc: Global, text: &[u8]) -> Result<Option<(Piece<'_>, &[u8])>, NoM
     ensures { IfOk result (λ o. option_map (λ x. (piece_bytes x.0, x.1.now)) o ≡ word_at text.now) }
 {
     if let [b'"', quoted @ ..] = text {
-        let Some((bytes, rest)) = unquote(alloc, quoted)? else { return Ok(None) };
+        let Some((bytes, rest)) = unquote(alloc, quoted)? else {
+            return Ok(None)
+        };
         return Ok(Some((Piece::Quoted(bytes), rest)));
     }
     let (found, rest) = cut(text, Stop::Gap);
@@ -116,7 +128,11 @@ fn past_keyword_to(text: &[u8]) -> Option<&[u8]>
     ensures { option_copied result ≡ past_keyword_to text.now }
 {
     let (first, rest) = cut(text, Stop::Gap);
-    if is_word(first, b"to") { Some(skip(rest)) } else { None }
+    if is_word(first, b"to") {
+        Some(skip(rest))
+    } else {
+        None
+    }
 }
 
 /// The renaming of a named workspace, behind `rename workspace`.
@@ -124,11 +140,21 @@ fn past_keyword_to(text: &[u8]) -> Option<&[u8]>
 fn renamed(alloc: Global, text: &[u8]) -> Result<Read<'_>, NoMemory>
     ensures { IfOk result (λ o. option_map (λ x. (x.0, x.1.now)) o ≡ renamed text.now) }
 {
-    let Some((was, behind)) = word_at(alloc, text)? else { return Ok(None) };
-    let Some(behind) = past_keyword_to(skip(behind)) else { return Ok(None) };
-    let Some((name, rest)) = text_at(alloc, false, behind)? else { return Ok(None) };
-    let Some(was) = argument(alloc, was.bytes())? else { return Ok(None) };
-    let Some(name) = argument(alloc, name.bytes())? else { return Ok(None) };
+    let Some((was, behind)) = word_at(alloc, text)? else {
+        return Ok(None)
+    };
+    let Some(behind) = past_keyword_to(skip(behind)) else {
+        return Ok(None)
+    };
+    let Some((name, rest)) = text_at(alloc, false, behind)? else {
+        return Ok(None)
+    };
+    let Some(was) = argument(alloc, was.bytes())? else {
+        return Ok(None)
+    };
+    let Some(name) = argument(alloc, name.bytes())? else {
+        return Ok(None)
+    };
     Ok(Some((Command::Rename(Some(was), name), rest)))
 }
 
@@ -143,7 +169,9 @@ fn finished(alloc: Global, opening: Opening, text: &[u8]) -> Result<Read<'_>, No
     let Some((found, rest)) = text_at(alloc, opening.is_one_word(), text)? else {
         return Ok(None);
     };
-    let Some(command) = made(alloc, opening, found.bytes())? else { return Ok(None) };
+    let Some(command) = made(alloc, opening, found.bytes())? else {
+        return Ok(None)
+    };
     Ok(Some((command, rest)))
 }
 
@@ -193,6 +221,8 @@ pub fn command_at(alloc: Global, text: &[u8]) -> Result<Read<'_>, NoMemory>
     ensures { IfOk result (λ o. option_map (λ x. (x.0, x.1.now)) o ≡ command_at text.now) }
 {
     let (raw, rest) = cut(text, Stop::End);
-    let Some(verb) = verb_of(split_word(raw).0) else { return Ok(None) };
+    let Some(verb) = verb_of(split_word(raw).0) else {
+        return Ok(None)
+    };
     verb_command(alloc, text, raw, rest, verb)
 }

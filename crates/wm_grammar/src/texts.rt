@@ -21,7 +21,9 @@ pub fn read(alloc: Global, text: &str) -> Result<Batch, ReadRefusal>
 {
     let bytes = text.as_bytes();
     if let Some(groups) = groups_of(alloc, bytes)? {
-        return Ok(Batch { groups: List::of(groups) });
+        return Ok(Batch {
+            groups: List::of(groups),
+        });
     }
     let at = reach(alloc, bytes)?;
     Err(ReadRefusal::Bad { at })
@@ -45,7 +47,9 @@ fn reach(alloc: Global, text: &[u8]) -> Result<usize, NoMemory>
 fn is_whole(alloc: Global, text: &[u8]) -> Result<bool, NoMemory>
     ensures { IfOk result (λ b. b ≡ is_whole text.now) }
 {
-    if let [.., last] = text && *last != b';' {
+    if let [.., last] = text
+        && *last != b';'
+    {
         return Ok(false);
     }
     Ok(groups_of(alloc, text)?.is_some())
@@ -54,25 +58,21 @@ fn is_whole(alloc: Global, text: &[u8]) -> Result<bool, NoMemory>
 /// A text is a spelling of at most one batch.
 pub fn one_batch()
     ensures { (text : List ℕ) (a b : Batch) → Reads text a → Reads text b → a ≡ b }
-{
-}
+{}
 
 /// A text reads up to one place alone.
 pub fn one_reach()
     ensures { (text : List ℕ) (m n : ℕ) → IsReach text m → IsReach text n → m ≡ n }
-{
-}
+{}
 
 /// A batch that some text reads as can be printed.
 #[tactic(auto, using(crate::proofs::Fits::readable))]
 pub fn readable()
     ensures { (text : List ℕ) (b : Batch) → Reads text b → IsReadable b }
-{
-}
+{}
 
 /// A batch that can be printed is one that some text reads as, and its printed spelling is such a text.
 #[tactic(auto, using(crate::proofs::BatchesAgain::batch_again))]
 pub fn printed_again()
     ensures { (b : Batch) → IsReadable b → Reads (spelling b) b }
-{
-}
+{}

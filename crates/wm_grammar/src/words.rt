@@ -164,7 +164,11 @@ pub fn starts(text: &[u8], c: u8) -> bool
 pub fn past(text: &[u8], count: usize) -> &[u8]
     ensures { result.now ≡ drop count text.now }
 {
-    if count < text.len() { &text[count..] } else { &[] }
+    if count < text.len() {
+        &text[count..]
+    } else {
+        &[]
+    }
 }
 
 /// Whether a command ends here: at `,` or `;` or the end of the text.
@@ -263,7 +267,9 @@ pub fn after(text: &[u8]) -> &[u8]
 pub fn argument(alloc: Global, bytes: &[u8]) -> Result<Option<Text>, NoMemory>
     ensures { IfOk result (λ text. text ≡ argument bytes.now) }
 {
-    let Ok(text) = str::from_utf8(bytes) else { return Ok(None) };
+    let Ok(text) = str::from_utf8(bytes) else {
+        return Ok(None)
+    };
     match Text::new(alloc, text) {
         Ok(text) => Ok(Some(text)),
         Err(TextRefusal::TooLong { .. }) => Ok(None),

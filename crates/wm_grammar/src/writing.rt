@@ -173,7 +173,11 @@ pub fn mark_text(add: bool, toggle: bool) -> &'static str
 pub fn grow_text(grow: bool) -> &'static str
     ensures { result.now ≡ grow_text grow }
 {
-    if grow { "resize grow " } else { "resize shrink " }
+    if grow {
+        "resize grow "
+    } else {
+        "resize shrink "
+    }
 }
 
 pub fn gap_text(outer: bool) -> &'static str

@@ -26,6 +26,7 @@ pieces-preserved c =
     let step = escaped_step (string_bytes c.pieces.out) _ c.pieces.rest.now c.plain_length.result inside c.plain_length.ensures.before (c.plain_length.ensures.found inside) c.pieces.invariant.0 in
     let one : string_bytes c.put.new.out ≡ string_bytes c.pieces.out ++ c.split_at.result.0.now = grind (arith, c.in_ok-put.ensures) in
     let two : string_bytes c.put-in-pieces.new.out ≡ string_bytes c.put.new.out ++ 92 ∷ [] = grind (arith, c.in_ok-put-2.ensures) in
-    let three : string_bytes c.put-in-pieces-2.new.out ≡ string_bytes c.put-in-pieces.new.out ++ c.split_at-in-pieces.result.0.now = grind (arith, c.in_ok-put-3.ensures) in
-    (rw (three, two, one, c.split_at-in-pieces.ensures.front, c.split_at-in-pieces.ensures.back, c.split_at.ensures.front, c.split_at.ensures.back) step,
-     rw (c.split_at-in-pieces.ensures.back, c.split_at.ensures.back) t.more)
+    let three : string_bytes c.put-in-pieces-2.new.out ≡ string_bytes c.put-in-pieces.new.out ++ c.split_at-in-pieces.result.0.now = grind (arith, c.in_ok-put-3.ensures) in (
+      rw (three, two, one, c.split_at-in-pieces.ensures.front, c.split_at-in-pieces.ensures.back, c.split_at.ensures.front, c.split_at.ensures.back) step,
+      rw (c.split_at-in-pieces.ensures.back, c.split_at.ensures.back) t.more,
+    )
