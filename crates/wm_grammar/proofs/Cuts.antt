@@ -169,10 +169,10 @@ byte_all P Q c None h f = tt
 byte_all P Q c (Some x) h f = f x h
 
 -- what stands behind the closing quote
-abbrev Closing : List ℕ → List ℕ × List ℕ → Type 0
+abbrev pub Closing : List ℕ → List ℕ × List ℕ → Type 0
 Closing s x = (a : List ℕ) × (s ≡ a ++ 34 ∷ x.1)
 
-if_some : {A : Type 0} (P : A → Type 0) (b : Bool) (x y : Option A) → (b ≡ true → AllSome P x) → (b ≡ false → AllSome P y) → AllSome P (if b then x else y)
+pub if_some : {A : Type 0} (P : A → Type 0) (b : Bool) (x y : Option A) → (b ≡ true → AllSome P x) → (b ≡ false → AllSome P y) → AllSome P (if b then x else y)
 if_some P true x y h k = h refl
 if_some P false x y h k = k refl
 
@@ -191,7 +191,7 @@ outcome_byte w c (Some x) all (inl e) = inl (ap (with_byte c) e)
 outcome_byte w c front None (inr (n, l)) = elim l [ ]
 outcome_byte w c front (Some x) (inr (n, l)) = inr (ap (with_byte c) n, l)
 
-outcome_if : {A : Type 0} (w : List ℕ) (b : Bool) (x y s t : Option (A × List ℕ)) → (b ≡ true → Outcome w x s) → (b ≡ false → Outcome w y t) → Outcome w (if b then x else y) (if b then s else t)
+pub outcome_if : {A : Type 0} (w : List ℕ) (b : Bool) (x y s t : Option (A × List ℕ)) → (b ≡ true → Outcome w x s) → (b ≡ false → Outcome w y t) → Outcome w (if b then x else y) (if b then s else t)
 outcome_if w true x y s t h k = h refl
 outcome_if w false x y s t h k = k refl
 
