@@ -9,3 +9,4 @@ pub mod Reading
 pub mod Answer
 pub mod Spelling
 pub mod Readable
+pub mod Turns
