@@ -314,3 +314,83 @@ command_suffix text = bind_some (λ (v : Verb). Unit {0}) (Tail text) (verb_of (
     either_some text (option_map (before_rest (from is_end text)) (plain_form v (after (until is_end text)))) (first_finished text (until is_end text) (opened v (after (until is_end text))))
       (each_some (Tail (from is_end text)) (Tail text) (option_map (before_rest (from is_end text)) (plain_form v (after (until is_end text)))) (map_suffix (plain_form v (after (until is_end text))) (from is_end text)) (λ z t. suffix_trans z.1 (from is_end text) text t (from_suffix is_end text)))
       (first_suffix text (until is_end text) (opened v (after (until is_end text)))))
+
+-- ---- what follows a command of a text that ends with ; ends with ; too
+
+abbrev pub Kept : {A : Type 0} → A × List ℕ → Type 0
+Kept x = Cut x.1
+
+closed_kept : (x : List ℕ × List ℕ) → Cut x.1 → AllSome Kept (closed x)
+closed_kept x h = if_some Kept (ends (skip x.1)) (Some (x.0, skip x.1)) None (λ e. skip_cut_kept x.1 h) (λ e. tt)
+
+self_some : {A : Type 0} (o : Option A) → AllSome (λ x. o ≡ Some x) o
+self_some None = tt
+self_some (Some x) = refl
+
+quoted_kept : (y : List ℕ) → Cut y → AllSome Kept (unquote y >>= closed)
+quoted_kept y h = bind_some (λ x. unquote y ≡ Some x) Kept (unquote y) closed (self_some (unquote y)) (λ x e. closed_kept x (closing_cut y x h e))
+
+text_kept : (one : Bool) (s : List ℕ) → Cut s → AllSome Kept (text_at one s)
+unfolding text_at
+text_kept one [] h = elim h [ ]
+text_kept one (c ∷ r) h = if_some Kept (c == 34) (unquote r >>= closed) (bare one (trim_end (until is_end (c ∷ r))) (from is_end (c ∷ r))) (λ e. quoted_kept r (behind_quote c r h (eqb-true c 34 e)))
+    (λ e. if_some Kept (is_nil (trim_end (until is_end (c ∷ r))) || (one && has breaks_word (trim_end (until is_end (c ∷ r))))) None (Some (trim_end (until is_end (c ∷ r)), from is_end (c ∷ r))) (λ f. tt) (λ f. from_cut_kept is_end refl (c ∷ r) h))
+
+map_kept : (m : Option Command) (r : List ℕ) → Cut r → AllSome Kept (option_map (before_rest r) m)
+map_kept None r h = tt
+map_kept (Some c) r h = h
+
+made_kept : (o : Opening) (one : Bool) (s : List ℕ) → Cut s → AllSome Kept (text_at one s >>= λ x. option_map (before_rest x.1) (made o x.0))
+made_kept o one s h = bind_some Kept Kept (text_at one s) (λ x. option_map (before_rest x.1) (made o x.0)) (text_kept one s h) (λ x k. map_kept (made o x.0) x.1 k)
+
+both_kept : (was : List ℕ) (name : List ℕ × List ℕ) → Cut name.1 → AllSome Kept (both_named was name)
+both_kept was name h = bind_some (λ (x : List ℕ). Unit {0}) Kept (argument was) (λ a. argument name.0 >>= λ b. Some (commands.Rename (Some a) b, name.1)) (any_some (argument was)) (λ a u. bind_some (λ (x : List ℕ). Unit {0}) Kept (argument name.0) (λ b. Some (commands.Rename (Some a) b, name.1)) (any_some (argument name.0)) (λ b v. h))
+
+renamed_kept : (s : List ℕ) → Cut s → AllSome Kept (renamed s)
+unfolding renamed
+renamed_kept s h = bind_some (λ x. word_at s ≡ Some x) Kept (word_at s) to_named (self_some (word_at s)) (λ x e.
+    bind_some (λ t. Cut t) Kept (past_keyword_to (skip x.1)) (new_named x.0) (keyword_kept (skip x.1) (skip_cut_kept x.1 (word_kept s x h e))) (λ t k.
+      bind_some Kept Kept (text_at false t) (both_named x.0) (text_kept false t k) (λ name j. both_kept x.0 name j)))
+
+finished_kept : (o : Opening) (s : List ℕ) → Cut s → AllSome Kept (finished o s)
+unfolding finished
+finished_kept openings.FocusOutput s h = made_kept openings.FocusOutput true s h
+finished_kept openings.MoveToWorkspace s h = made_kept openings.MoveToWorkspace false s h
+finished_kept openings.MoveToNumbered s h = made_kept openings.MoveToNumbered false s h
+finished_kept openings.MoveToOutput s h = made_kept openings.MoveToOutput true s h
+finished_kept openings.MoveWorkspace s h = made_kept openings.MoveWorkspace true s h
+finished_kept openings.MoveToMark s h = made_kept openings.MoveToMark false s h
+finished_kept openings.SwapMark s h = made_kept openings.SwapMark false s h
+finished_kept (openings.Mark add toggle) s h = made_kept (openings.Mark add toggle) false s h
+finished_kept openings.Unmark s h = made_kept openings.Unmark false s h
+finished_kept openings.Workspace s h = made_kept openings.Workspace false s h
+finished_kept openings.WorkspaceNumbered s h = made_kept openings.WorkspaceNumbered false s h
+finished_kept openings.RenameFocused s h = made_kept openings.RenameFocused false s h
+finished_kept openings.RenameNamed s h = renamed_kept s h
+finished_kept openings.Mode s h = made_kept openings.Mode false s h
+finished_kept openings.AppendLayout s h = made_kept openings.AppendLayout false s h
+finished_kept openings.TitleFormat s h = made_kept openings.TitleFormat false s h
+finished_kept openings.Nop s h = made_kept openings.Nop false s h
+finished_kept openings.Idle s h = made_kept openings.Idle false s h
+
+either_kept : (a b : Option (Command × List ℕ)) → AllSome Kept a → AllSome Kept b → AllSome Kept (first_of a b)
+either_kept None b h k = k
+either_kept (Some x) b h k = h
+
+first_kept : (text raw : List ℕ) (os : Opened) → Cut text → length raw < length text → AllSome Kept (first_finished text raw os)
+unfolding first_finished
+first_kept text raw [] h lt = tt
+first_kept text raw (o ∷ os) h lt =
+    let k : ℕ = length raw - length o.1 in
+    let cut : Cut (drop k text) = cut_suffix (drop k text) text h (drop_suffix k text) (omega (arith, length-drop k text)) in
+    either_kept (finished o.0 (drop k text)) (first_finished text raw os) (finished_kept o.0 (drop k text) cut) (first_kept text raw os h lt)
+
+pub command_kept : (text : List ℕ) → Cut text → AllSome Kept (command_at text)
+unfolding command_at verb_command
+command_kept text h =
+    let raw : List ℕ = until is_end text in
+    let rest : List ℕ = from is_end text in
+    let long : 1 ≤ length rest = cut_long rest (from_cut_kept is_end refl text h) in
+    let short : length raw < length text = omega (arith, ap length (until_from is_end text), length-append raw rest) in
+    bind_some (λ (v : Verb). Unit {0}) Kept (verb_of (word raw)) (verb_command text raw rest) (any_some (verb_of (word raw))) (λ v u.
+      either_kept (option_map (before_rest rest) (plain_form v (after raw))) (first_finished text raw (opened v (after raw))) (map_kept (plain_form v (after raw)) rest (from_cut_kept is_end refl text h)) (first_kept text raw (opened v (after raw)) h short))

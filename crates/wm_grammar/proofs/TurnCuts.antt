@@ -12,7 +12,7 @@ use Rattle.wm_grammar.specs.Pieces.{is_word}
 use Rattle.wm_grammar.specs.Openings.{command_at}
 use Rattle.wm_grammar.specs.Reading.{Commands, Groups, and_commands, before_commands, commands_at, criteria_part, group_of, group_at, and_groups, some_groups, groups_at, groups_of}
 use Rattle.wm_grammar.proofs.Cuts.{Cut, Suffix, suffix_refl, suffix_cons, suffix_trans, suffix_length, cut_suffix, cut_long, skip_cut, skip_cut_kept, skip_suffix, Ext, Quoted, Late, AllSome, if_some}
-use Rattle.wm_grammar.proofs.CutCommands.{bind_some, map_some, each_some, any_some, some_at, Tail, Weak, command_weak, command_suffix}
+use Rattle.wm_grammar.proofs.CutCommands.{bind_some, map_some, each_some, any_some, some_at, Tail, Weak, Kept, command_weak, command_suffix, command_kept}
 use Rattle.wm_grammar.proofs.CutCriteria.{Grows, criteria_grow, criteria_suffix}
 use Rattle.wm_grammar.specs.Turns.{command_turn, front_turn, turn_at}
 
@@ -81,3 +81,24 @@ front_turned (c ∷ r) w e h f = front_chosen (c == 59) (c ∷ r) w e (criteria_
 pub turned : (fresh : Bool) (u w e : List ℕ) → Cut u → turn_at fresh u ≡ Some e → Turned w (turn_at fresh (u ++ w)) e
 turned true u w e h f = rw (skip_cut u w h) (front_turned (skip u) w e (skip_cut_kept u h) f)
 turned false u w e h f = rw (skip_cut u w h) (command_turned (skip u) w e (skip_cut_kept u h) f)
+
+-- ---- a turn of a text that ends with ; stops before its end
+
+command_turn_kept : (s : List ℕ) → Cut s → AllSome (λ e. Cut e) (command_turn s)
+command_turn_kept s h = map_some Kept (λ e. Cut e) (command_at s) (λ x. x.1) (command_kept s h) (λ x k. k)
+
+behind_kept : (s r : List ℕ) → Cut s → Suffix r s → AllSome (λ e. Cut e) (command_turn (skip r))
+behind_kept s [] h t = by (command_turn (skip [])) refl
+  where
+    by : (o : Option (List ℕ)) → command_turn (skip []) ≡ o → AllSome (λ e. Cut e) o
+    by None f = tt
+    by (Some e) f = absurd (nothing_behind e f)
+behind_kept s (c ∷ r) h t = command_turn_kept (skip (c ∷ r)) (skip_cut_kept (c ∷ r) (cut_suffix (c ∷ r) s h t (omega arith)))
+
+front_kept : (s : List ℕ) → Cut s → AllSome (λ e. Cut e) (front_turn s)
+front_kept [] h = elim h [ ]
+front_kept (c ∷ r) h = if_some (λ e. Cut e) (c == 59) (Some (c ∷ r)) _ (λ e. h) (λ e. bind_some (Tail (c ∷ r)) (λ e. Cut e) (criteria_part (c ∷ r)) (λ k. command_turn (skip k.1)) (criteria_suffix (c ∷ r)) (λ k t. behind_kept (c ∷ r) k.1 h t))
+
+pub turn_kept : (fresh : Bool) (s : List ℕ) → Cut s → AllSome (λ e. Cut e) (turn_at fresh s)
+turn_kept true s h = front_kept (skip s) (skip_cut_kept s h)
+turn_kept false s h = command_turn_kept (skip s) (skip_cut_kept s h)

@@ -10,3 +10,4 @@ pub mod Answer
 pub mod Spelling
 pub mod Readable
 pub mod Turns
+pub mod Farthest
