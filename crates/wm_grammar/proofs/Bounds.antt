@@ -1,7 +1,7 @@
 -- No front of a text that reads and ends with ; goes farther than the search finds.
 use Rattle.std.proofs.Common.{◌≡◌, ℕ, zero, suc, ◌+◌, ◌-◌, ◌<◌, ◌≤◌, ◌⊎◌, Bool, true, false, List, [], ◌∷◌, ◌++◌, length, take, drop, get_or, Option, Some, None, refl, sym, ap, subst, ◌∙◌, append_assoc, arith, inl, inr}
-use Rattle.std.specs.Prelude.{if◌then◌else◌, ◌==◌, ◌||◌, ◌&&◌, not, option_map, is_some}
-use Rattle.std.proofs.lemmas.Bool.{eqb-true, ne_eqb, false≢true, and_parts}
+use Rattle.std.specs.Prelude.{IfSome, if◌then◌else◌, ◌==◌, ◌||◌, ◌&&◌, not, option_map, is_some}
+use Rattle.std.proofs.lemmas.Bool.{eqb-true, ne_eqb, false≢true, and_parts, false_from_ne_true}
 use Rattle.std.proofs.lemmas.List.{length-append, length-take, length-drop, take_at, take-append-drop, append-nil, take_all, take_more}
 use Rattle.wm_grammar.specs.declared.command.Command.{Command}
 use Rattle.wm_grammar.specs.declared.batch.Criteria.{Criteria}
@@ -10,7 +10,8 @@ use Rattle.wm_grammar.specs.Pieces.{◌>>=◌, first_of, has, skip}
 use Rattle.wm_grammar.specs.Openings.{command_at}
 use Rattle.wm_grammar.specs.Reading.{Commands, Groups, and_commands, before_commands, commands_at, criteria_part, group_of, group_at, and_groups, some_groups, groups_at, groups_of, is_whole, ends_group, IsReach}
 use Rattle.wm_grammar.specs.Turns.{command_turn, front_turn, turn_at}
-use Rattle.wm_grammar.specs.Farthest.{is_semicolon, before_quote, before_last_quote, inside, behind, farthest}
+use Rattle.wm_grammar.specs.Pieces.{is_semicolon}
+use Rattle.wm_grammar.specs.Farthest.{before_quote, before_last_quote, cut_off, inside, here, behind, farthest}
 use Rattle.wm_grammar.proofs.Cuts.{Cut, Suffix, suffix_length, cut_suffix, suffix_cons, suffix_trans, suffix_refl, Quoted, AllSome, if_some}
 use Rattle.wm_grammar.proofs.CutCommands.{bind_some, map_some, each_some, some_at}
 use Rattle.wm_grammar.proofs.TurnCuts.{Turned, turned, turn_suffix, turn_kept}
@@ -128,22 +129,28 @@ quote_shorter (c ∷ r) = quote_step c r (before_last_quote r) (quote_shorter r)
 abbrev Within : List ℕ → ℕ → Type 0
 Within t n = n ≤ length t
 
+cut_shorter : (t e : List ℕ) → AllSome (λ b. length b < length t) (cut_off t e)
+unfolding cut_off
+cut_shorter t e = bind_some (λ b. length b < length (take (length t - length e) t)) (λ b. length b < length t) (before_last_quote (take (length t - length e) t)) (λ b. if has is_semicolon b then Some b else None) (quote_shorter (take (length t - length e) t)) (λ b lt.
+    if_some (λ b. length b < length t) (has is_semicolon b) (Some b) None (λ f. omega (arith, length-take (length t - length e) t)) (λ f. tt))
+
 inside_bound : (go : Bool → List ℕ → Option ℕ) (fresh : Bool) (t e : List ℕ) → ((f : Bool) (s : List ℕ) → AllSome (Within s) (go f s)) → AllSome (Within t) (inside go fresh t e)
 unfolding inside
-inside_bound go fresh t e i = bind_some (λ b. length b < length (take (length t - length e) t)) (Within t) (before_last_quote (take (length t - length e) t)) _ (quote_shorter (take (length t - length e) t)) (λ b lt.
-    if_some (Within t) (has is_semicolon b) (option_map (λ k. k + (length t - length b)) (go fresh b)) None
-      (λ f. map_some (Within b) (Within t) (go fresh b) (λ k. k + (length t - length b)) (i fresh b) (λ k le. omega (arith, length-take (length t - length e) t)))
-      (λ f. tt))
+inside_bound go fresh t e i = bind_some (λ b. length b < length t) (Within t) (cut_off t e) (λ b. option_map (λ k. k + (length t - length b)) (go fresh b)) (cut_shorter t e) (λ b lt. map_some (Within b) (Within t) (go fresh b) (λ k. k + (length t - length b)) (i fresh b) (λ k le. omega arith))
+
+here_bound : (go : Bool → List ℕ → Option ℕ) (fresh : Bool) (t e : List ℕ) → Suffix e t → ((f : Bool) (s : List ℕ) → AllSome (Within s) (go f s)) → AllSome (Within t) (here go fresh t e)
+unfolding here
+here_bound go fresh t [] x i = inside_bound go fresh t [] i
+here_bound go fresh t (c ∷ r) x i =
+    let le : length (c ∷ r) ≤ length t = suffix_length (c ∷ r) t x in
+    if_some (Within t) (c == 59) (Some (length r)) (inside go fresh t (c ∷ r)) (λ g. omega arith) (λ g. inside_bound go fresh t (c ∷ r) i)
 
 behind_bound : (go : Bool → List ℕ → Option ℕ) (fresh : Bool) (t e : List ℕ) → Suffix e t → ((f : Bool) (s : List ℕ) → AllSome (Within s) (go f s)) → AllSome (Within t) (behind go fresh t e)
 unfolding behind
-behind_bound go fresh t [] x i = inside_bound go fresh t [] i
+behind_bound go fresh t [] x i = here_bound go fresh t [] x i
 behind_bound go fresh t (c ∷ r) x i =
     let le : length (c ∷ r) ≤ length t = suffix_length (c ∷ r) t x in
-    if_some (Within t) (c == 44) (first_of (go false r) (inside go fresh t (c ∷ r))) _
-      (λ f. first_some (Within t) (go false r) (inside go fresh t (c ∷ r)) (each_some (Within r) (Within t) (go false r) (i false r) (λ n k. omega arith)) (inside_bound go fresh t (c ∷ r) i))
-      (λ f. first_some (Within t) (go true r) (if c == 59 then Some (length r) else inside go fresh t (c ∷ r)) (each_some (Within r) (Within t) (go true r) (i true r) (λ n k. omega arith))
-        (if_some (Within t) (c == 59) (Some (length r)) (inside go fresh t (c ∷ r)) (λ g. omega arith) (λ g. inside_bound go fresh t (c ∷ r) i)))
+    first_some (Within t) (go (not (c == 44)) r) (here go fresh t (c ∷ r)) (each_some (Within r) (Within t) (go (not (c == 44)) r) (i (not (c == 44)) r) (λ n k. omega arith)) (here_bound go fresh t (c ∷ r) x i)
 
 pub farthest_bound : (n : ℕ) (fresh : Bool) (t : List ℕ) → AllSome (Within t) (farthest n fresh t)
 unfolding farthest
@@ -180,7 +187,7 @@ abbrev Found : Option ℕ → List ℕ → Type 0
 Found o w = (n : ℕ) × (o ≡ Some n) × (n ≤ length w)
 
 inside_is : (go : Bool → List ℕ → Option ℕ) (fresh : Bool) (t e b : List ℕ) (n : ℕ) → before_last_quote (take (length t - length e) t) ≡ Some b → has is_semicolon b ≡ true → go fresh b ≡ Some n → inside go fresh t e ≡ Some (n + (length t - length b))
-unfolding inside
+unfolding inside cut_off
 inside_is go fresh t e b n before semi got = rw (before, semi, got) refl
 
 inside_found : (go : Bool → List ℕ → Option ℕ) (fresh : Bool) (t e u w a b : List ℕ) → t ≡ u ++ w → w ≡ a ++ 34 ∷ (b ++ e) → Cut u → ((v : List ℕ) → length (u ++ v) < length t → Found (go fresh (u ++ v)) v) → Found (inside go fresh t e) w
@@ -211,14 +218,16 @@ if_found : (b : Bool) (o p : Option ℕ) (w : List ℕ) → Found o w → Found 
 if_found true o p w f g = f
 if_found false o p w f g = g
 
+here_found : (k : ℕ) (fresh : Bool) (t e w : List ℕ) → length e ≤ length w → Found (inside (farthest k) fresh t e) w → Found (here (farthest k) fresh t e) w
+unfolding here
+here_found k fresh t [] w le f = f
+here_found k fresh t (c ∷ r) w le f = if_found (c == 59) (Some (length r)) (inside (farthest k) fresh t (c ∷ r)) w (length r, refl, omega arith) f
+
 late_found : (k : ℕ) (fresh : Bool) (t e u w : List ℕ) → length e ≤ length w → Found (inside (farthest k) fresh t e) w → Found (behind (farthest k) fresh t e) w
 unfolding behind
-late_found k fresh t [] u w le f = f
+late_found k fresh t [] u w le f = here_found k fresh t [] w le f
 late_found k fresh t (c ∷ r) u w le f =
-    if_found (c == 44) (first_of (farthest k false r) (inside (farthest k) fresh t (c ∷ r))) _ w
-      (either_found (farthest k false r) (inside (farthest k) fresh t (c ∷ r)) w (each_some (Within r) (λ n. n ≤ length w) (farthest k false r) (farthest_bound k false r) (λ n h. omega arith)) f)
-      (either_found (farthest k true r) (if c == 59 then Some (length r) else inside (farthest k) fresh t (c ∷ r)) w (each_some (Within r) (λ n. n ≤ length w) (farthest k true r) (farthest_bound k true r) (λ n h. omega arith))
-        (if_found (c == 59) (Some (length r)) (inside (farthest k) fresh t (c ∷ r)) w (length r, refl, omega arith) f))
+    either_found (farthest k (not (c == 44)) r) (here (farthest k) fresh t (c ∷ r)) w (each_some (Within r) (λ n. n ≤ length w) (farthest k (not (c == 44)) r) (farthest_bound k (not (c == 44)) r) (λ n h. omega arith)) (here_found k fresh t (c ∷ r) w le f)
 
 first_found : (o p : Option ℕ) (w : List ℕ) → Found o w → Found (first_of o p) w
 first_found None p w f = absurd (none_found f)
@@ -227,17 +236,14 @@ first_found None p w f = absurd (none_found f)
     none_found f = absurd (let e : None ≡ Some f.0 = f.1 in cc)
 first_found (Some n) p w f = f
 
+here_semi : (k : ℕ) (fresh : Bool) (t w : List ℕ) (c : ℕ) → c ≡ 59 → here (farthest k) fresh t (c ∷ w) ≡ Some (length w)
+unfolding here
+here_semi k fresh t w c e = rw e refl
+
 exact_found : (k : ℕ) (fresh : Bool) (t w : List ℕ) (c : ℕ) (r : List ℕ) → Cut (c ∷ r) → (Cut r → Found (farthest k (not (c == 44)) (r ++ w)) w) → Found (behind (farthest k) fresh t (c ∷ r ++ w)) w
 unfolding behind
-exact_found k fresh t w c [] h i =
-    let comma : (c == 44) ≡ false = ap (λ (x : ℕ). x == 44) h in
-    let semi : (c == 59) ≡ true = ap (λ (x : ℕ). x == 59) h in
-    rw (comma, semi) (either_found (farthest k true w) (Some (length w)) w (farthest_bound k true w) (length w, refl, omega arith))
-exact_found k fresh t w c (d ∷ r) h i = by (c == 44) (i h)
-  where
-    by : (b : Bool) → Found (farthest k (not b) (d ∷ r ++ w)) w → Found (if b then first_of (farthest k false (d ∷ r ++ w)) (inside (farthest k) fresh t (c ∷ d ∷ r ++ w)) else first_of (farthest k true (d ∷ r ++ w)) (if c == 59 then Some (length (d ∷ r ++ w)) else inside (farthest k) fresh t (c ∷ d ∷ r ++ w))) w
-    by true f = first_found (farthest k false (d ∷ r ++ w)) (inside (farthest k) fresh t (c ∷ d ∷ r ++ w)) w f
-    by false f = first_found (farthest k true (d ∷ r ++ w)) (if c == 59 then Some (length (d ∷ r ++ w)) else inside (farthest k) fresh t (c ∷ d ∷ r ++ w)) w f
+exact_found k fresh t w c [] h i = rw (here_semi k fresh t w c h) (either_found (farthest k (not (c == 44)) w) (Some (length w)) w (farthest_bound k (not (c == 44)) w) (length w, refl, omega arith))
+exact_found k fresh t w c (d ∷ r) h i = first_found (farthest k (not (c == 44)) (d ∷ r ++ w)) (here (farthest k) fresh t (c ∷ d ∷ r ++ w)) w (i h)
 
 farthest_turn : (k : ℕ) (fresh : Bool) (t e : List ℕ) → turn_at fresh t ≡ Some e → farthest (suc k) fresh t ≡ behind (farthest k) fresh t e
 unfolding farthest
@@ -302,3 +308,75 @@ whole_found text m pos le h =
     let parts : u ++ w ≡ text = take-append-drop m text in
     let f = complete (suc (length text)) run.0 true u w (ends_cut u (omega arith) both.0) run.1 (omega (arith, ap length parts)) in
     (f.0, ap (λ (t : List ℕ). farthest (suc (length text)) true t) (sym parts) ∙ f.1, omega (arith, f.2, length-append u w, ap length parts, len))
+
+-- ---- the search as a loop
+
+if_some_from : (P : ℕ → Type 0) (o : Option ℕ) → AllSome P o → IfSome o P
+if_some_from P None h = tt
+if_some_from P (Some n) h = h
+
+pub farthest_within : (n : ℕ) (fresh : Bool) (t : List ℕ) (o : Option ℕ) → o ≡ farthest n fresh t → IfSome o (λ k. k ≤ length t)
+farthest_within n fresh t o e = subst (λ (p : Option ℕ). IfSome p (λ k. k ≤ length t)) (sym e) (if_some_from (Within t) (farthest n fresh t) (farthest_bound n fresh t))
+
+pub farthest_none : (n : ℕ) (fresh : Bool) (t : List ℕ) → n ≡ 0 → farthest n fresh t ≡ None
+unfolding farthest
+farthest_none zero fresh t e = refl
+farthest_none (suc n) fresh t e = absurd (omega arith)
+
+pub farthest_more : (n : ℕ) (fresh : Bool) (t : List ℕ) → 0 < n → farthest n fresh t ≡ (turn_at fresh t >>= behind (farthest (n - 1)) fresh t)
+unfolding farthest
+farthest_more zero fresh t h = absurd (omega arith)
+farthest_more (suc n) fresh t h = let same : n ≡ suc n - 1 = omega arith in ap (λ (k : ℕ). turn_at fresh t >>= behind (farthest k) fresh t) same
+
+pub first_assoc : (a b c : Option ℕ) → first_of (first_of a b) c ≡ first_of a (first_of b c)
+first_assoc None b c = refl
+first_assoc (Some x) b c = refl
+
+pub search_none : (n : ℕ) (fresh : Bool) (t : List ℕ) (best all : Option ℕ) → n ≤ 0 → first_of (farthest n fresh t) best ≡ all → best ≡ all
+search_none n fresh t best all z h = ap (λ (o : Option ℕ). first_of o best) (sym (farthest_none n fresh t (omega arith))) ∙ h
+
+pub search_stop : (n : ℕ) (fresh : Bool) (t : List ℕ) (best all : Option ℕ) → 0 < n → turn_at fresh t ≡ None → first_of (farthest n fresh t) best ≡ all → best ≡ all
+search_stop n fresh t best all pos e h = ap (λ (o : Option ℕ). first_of o best) (sym (farthest_more n fresh t pos ∙ ap (λ (o : Option (List ℕ)). o >>= behind (farthest (n - 1)) fresh t) e)) ∙ h
+
+behind_none : (go : Bool → List ℕ → Option ℕ) (fresh : Bool) (t e : List ℕ) → length e < 1 → behind go fresh t e ≡ here go fresh t e
+unfolding behind
+behind_none go fresh t [] lt = refl
+behind_none go fresh t (c ∷ r) lt = absurd (omega arith)
+
+behind_some : (go : Bool → List ℕ → Option ℕ) (fresh : Bool) (t e : List ℕ) → 1 ≤ length e → behind go fresh t e ≡ first_of (go (not (get_or e 0 0 == 44)) (take (length e - 1) (drop 1 e))) (here go fresh t e)
+unfolding behind
+behind_some go fresh t [] le = absurd (omega arith)
+behind_some go fresh t (c ∷ r) le = ap (λ (x : List ℕ). first_of (go (not (c == 44)) x) (here go fresh t (c ∷ r))) (sym (take_all (suc (length r) - 1) r (omega arith)))
+
+farthest_at : (n : ℕ) (fresh : Bool) (t e : List ℕ) → 0 < n → turn_at fresh t ≡ Some e → farthest n fresh t ≡ behind (farthest (n - 1)) fresh t e
+farthest_at n fresh t e pos f = farthest_more n fresh t pos ∙ ap (λ (o : Option (List ℕ)). o >>= behind (farthest (n - 1)) fresh t) f
+
+pub search_end : (n : ℕ) (fresh : Bool) (t e : List ℕ) (best found all : Option ℕ) → 0 < n → turn_at fresh t ≡ Some e → length e < 1 → found ≡ here (farthest (n - 1)) fresh t e → first_of (farthest n fresh t) best ≡ all → first_of found best ≡ all
+search_end n fresh t e best found all pos f lt g h = ap (λ (o : Option ℕ). first_of o best) (g ∙ sym (farthest_at n fresh t e pos f ∙ behind_none (farthest (n - 1)) fresh t e lt)) ∙ h
+
+pub search_more : (n : ℕ) (fresh : Bool) (t e : List ℕ) (best found all : Option ℕ) → 0 < n → turn_at fresh t ≡ Some e → 1 ≤ length e → found ≡ here (farthest (n - 1)) fresh t e → first_of (farthest n fresh t) best ≡ all → first_of (farthest (n - 1) (not (get_or e 0 0 == 44)) (take (length e - 1) (drop 1 e))) (first_of found best) ≡ all
+search_more n fresh t e best found all pos f le g h =
+    let next : Option ℕ = farthest (n - 1) (not (get_or e 0 0 == 44)) (take (length e - 1) (drop 1 e)) in
+    let whole : farthest n fresh t ≡ first_of next found = farthest_at n fresh t e pos f ∙ (behind_some (farthest (n - 1)) fresh t e le ∙ ap (λ (o : Option ℕ). first_of next o) (sym g)) in
+    sym (first_assoc next found best) ∙ (ap (λ (o : Option ℕ). first_of o best) (sym whole) ∙ h)
+
+-- ---- no place behind the one that was found
+
+some_same : (a b : ℕ) (o : Option ℕ) → o ≡ Some a → o ≡ Some b → a ≡ b
+some_same a b o e f = cc
+
+some_none : (a : ℕ) (o : Option ℕ) → o ≡ Some a → o ≡ None → ⊥
+some_none a o e f = absurd cc
+
+pub none_whole : (text : List ℕ) → farthest (length text + 1) true text ≡ None → (m : ℕ) → 0 < m → m ≤ length text → is_whole (take m text) ≡ false
+none_whole text none m pos le =
+    let same : length text + 1 ≡ suc (length text) = omega arith in
+    false_from_ne_true (is_whole (take m text)) (λ h. let f = whole_found text m pos le h in some_none f.0 (farthest (suc (length text)) true text) f.1 (ap (λ (k : ℕ). farthest k true text) (sym same) ∙ none))
+
+pub some_whole : (text : List ℕ) (b : ℕ) → farthest (length text + 1) true text ≡ Some b → (m : ℕ) → length text - b < m → m ≤ length text → is_whole (take m text) ≡ false
+some_whole text b some m pos le =
+    let same : length text + 1 ≡ suc (length text) = omega arith in
+    false_from_ne_true (is_whole (take m text)) (λ h.
+      let f = whole_found text m (omega arith) le h in
+      let found : f.0 ≡ b = some_same f.0 b (farthest (suc (length text)) true text) f.1 (ap (λ (k : ℕ). farthest k true text) (sym same) ∙ some) in
+      absurd (omega (arith, f.2, found)))

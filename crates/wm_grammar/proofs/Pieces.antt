@@ -1,10 +1,11 @@
 -- The pieces of a text: where they stop, what trimming leaves, what quoted text reads as.
 use Rattle.std.proofs.Common.{◌≡◌, ℕ, zero, suc, ◌+◌, ◌-◌, ◌<◌, ◌≤◌, Bool, true, false, cond, not, ◌||◌, ◌&&◌, List, [], ◌∷◌, ◌++◌, length, get_or, take, drop, Option, Some, None, refl, sym, ap, ◌∙◌, append_assoc, arith, rules}
 use Rattle.std.specs.Prelude.{if◌then◌else◌}
-use Rattle.std.specs.Prelude.{nat_le, IsUtf8}
+use Rattle.wm_grammar.specs.Farthest.{before_quote, before_last_quote}
+use Rattle.std.specs.Prelude.{◌==◌, nat_le, IsUtf8}
 use Rattle.std.specs.Str.{is_utf8}
 use Rattle.std.proofs.Common.{inl, inr}
-use Rattle.std.proofs.lemmas.Bool.{le-leb, lt-leb, cases_Bool}
+use Rattle.std.proofs.lemmas.Bool.{ne_eqb, le-leb, lt-leb, cases_Bool}
 use Rattle.std.proofs.lemmas.List.{take_all, take_more}
 use Rattle.std.proofs.lemmas.Str.{IsUtf8-from_is_utf8, is_utf8-from_IsUtf8}
 use Rattle.wm_grammar.specs.Pieces.{until, from, skip, trim_end, kept_before, is_blank, is_nil, unquote, with_byte, argument}
@@ -96,7 +97,7 @@ argument-long x lt = let t : nat_le (length x) 1024 ≡ false = lt-leb _ _ lt in
 
 -- ---- the last byte
 
-last_split : (s : List ℕ) → 1 ≤ length s → s ≡ take (length s - 1) s ++ get_or s (length s - 1) 0 ∷ []
+pub last_split : (s : List ℕ) → 1 ≤ length s → s ≡ take (length s - 1) s ++ get_or s (length s - 1) 0 ∷ []
 last_split s h = sym (take_all (length s - 1 + 1) s (omega arith)) ∙ take_more s (length s - 1) 0 (omega arith)
 
 pub trim_end-last_kept : (s : List ℕ) → 1 ≤ length s → is_blank (get_or s (length s - 1) 0) ≡ false → trim_end s ≡ s
@@ -124,3 +125,21 @@ head_tail (x ∷ xs) h = ap (λ (t : List ℕ). x ∷ t) (take_all (suc (length 
 pub unquote-step : (front rest behind : List ℕ) (byte : ℕ) (all : Option (List ℕ × List ℕ)) → 1 ≤ length rest → with_byte byte (unquote behind) ≡ unquote (get_or rest 0 0 ∷ take (length rest - 1) (drop 1 rest)) → with_front front (unquote rest) ≡ all → with_front (front ++ byte ∷ []) (unquote behind) ≡ all
 unquote-step front rest behind byte all h e i =
     with_front-byte front byte (unquote behind) ∙ (ap (λ (o : Option (List ℕ × List ℕ)). with_front front o) e ∙ (ap (λ (t : List ℕ). with_front front (unquote t)) (head_tail rest h) ∙ i))
+
+-- ---- the last quote
+
+quote_last : (xs : List ℕ) → before_last_quote (xs ++ 34 ∷ []) ≡ Some xs
+unfolding before_last_quote
+quote_last [] = refl
+quote_last (x ∷ xs) = ap (before_quote x) (quote_last xs)
+
+quote_other : (xs : List ℕ) (c : ℕ) → (c ≡ 34 → ⊥) → before_last_quote (xs ++ c ∷ []) ≡ before_last_quote xs
+unfolding before_last_quote
+quote_other [] c e = let miss : (c == 34) ≡ false = ne_eqb c 34 e in rw miss refl
+quote_other (x ∷ xs) c e = ap (before_quote x) (quote_other xs c e)
+
+pub last_quote_found : (s : List ℕ) → 1 ≤ length s → get_or s (length s - 1) 0 ≡ 34 → before_last_quote s ≡ Some (take (length s - 1) s)
+last_quote_found s h e = ap before_last_quote (last_split s h ∙ ap (λ (c : ℕ). take (length s - 1) s ++ c ∷ []) e) ∙ quote_last (take (length s - 1) s)
+
+pub last_quote_other : (s : List ℕ) → 1 ≤ length s → (get_or s (length s - 1) 0 ≡ 34 → ⊥) → before_last_quote (take (length s - 1) s) ≡ before_last_quote s
+last_quote_other s h e = sym (ap before_last_quote (last_split s h) ∙ quote_other (take (length s - 1) s) (get_or s (length s - 1) 0) e)

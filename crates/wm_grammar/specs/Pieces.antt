@@ -21,6 +21,10 @@ is_blank c = (c == 32) || (c == 9)
 abbrev pub is_end : ℕ → Bool
 is_end c = (c == 44) || (c == 59)
 
+-- what ends a group
+abbrev pub is_semicolon : ℕ → Bool
+is_semicolon c = c == 59
+
 -- what ends a word that is not quoted: a blank, , or ;
 abbrev pub is_gap : ℕ → Bool
 is_gap c = is_blank c || is_end c

@@ -14,6 +14,7 @@ mod plain;
 mod printing;
 mod reading;
 mod refusal;
+mod search;
 mod texts;
 mod verbs;
 mod words;

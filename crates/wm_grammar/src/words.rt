@@ -15,6 +15,8 @@ pub enum Stop {
     End,
     /// At a blank, `,` or `;`.
     Gap,
+    /// At `;`.
+    Group,
     /// At a blank, `=` or `]`.
     Name,
     /// At a blank, `]` or `"`.
@@ -33,6 +35,7 @@ impl Stop {
             Stop::Blank => blank,
             Stop::End => c == b',' || c == b';',
             Stop::Gap => blank || c == b',' || c == b';',
+            Stop::Group => c == b';',
             Stop::Name => blank || c == b'=' || c == b']',
             Stop::Value => blank || c == b']' || c == b'"',
             Stop::Break => blank || c == b'"',
