@@ -260,10 +260,10 @@ ended k j fresh u w [] h f run lt i kept x t = elim kept [ ]
 ended k j fresh u w (c ∷ r) h f run lt i kept x (inl g) =
     let le : length (c ∷ r) ≤ length u = suffix_length (c ∷ r) u x in
     by_eq w (farthest (suc k) fresh (u ++ w)) (behind (farthest k) fresh (u ++ w) (c ∷ r ++ w)) (farthest_turn k fresh (u ++ w) (c ∷ r ++ w) g)
-      (exact_found k fresh (u ++ w) w c r kept (λ cut. i j (not (c == 44)) r w cut run (omega (arith, length-append u w, length-append r w))))
+    (exact_found k fresh (u ++ w) w c r kept (λ cut. i j (not (c == 44)) r w cut run (omega (arith, length-append u w, length-append r w))))
 ended k j fresh u w (c ∷ r) h f run lt i kept x (inr (e, g, q)) =
     by_eq w (farthest (suc k) fresh (u ++ w)) (behind (farthest k) fresh (u ++ w) e) (farthest_turn k fresh (u ++ w) e g)
-      (late_found k fresh (u ++ w) e u w (quoted_length w e q) (inside_found (farthest k) fresh (u ++ w) e u w q.0 q.1 refl q.2 h (λ v short. i (suc j) fresh u v h (ap (ran (runs j)) f ∙ run) (omega arith))))
+    (late_found k fresh (u ++ w) e u w (quoted_length w e q) (inside_found (farthest k) fresh (u ++ w) e u w q.0 q.1 refl q.2 h (λ v short. i (suc j) fresh u v h (ap (ran (runs j)) f ∙ run) (omega arith))))
 
 complete : (k j : ℕ) (fresh : Bool) (u w : List ℕ) → Cut u → runs j fresh u ≡ true → length (u ++ w) < k → Found (farthest k fresh (u ++ w)) w
 complete zero j fresh u w h run lt = absurd (omega arith)
@@ -377,6 +377,6 @@ pub some_whole : (text : List ℕ) (b : ℕ) → farthest (length text + 1) true
 some_whole text b some m pos le =
     let same : length text + 1 ≡ suc (length text) = omega arith in
     false_from_ne_true (is_whole (take m text)) (λ h.
-      let f = whole_found text m (omega arith) le h in
-      let found : f.0 ≡ b = some_same f.0 b (farthest (suc (length text)) true text) f.1 (ap (λ (k : ℕ). farthest k true text) (sym same) ∙ some) in
-      absurd (omega (arith, f.2, found)))
+    let f = whole_found text m (omega arith) le h in
+    let found : f.0 ≡ b = some_same f.0 b (farthest (suc (length text)) true text) f.1 (ap (λ (k : ℕ). farthest k true text) (sym same) ∙ some) in
+    absurd (omega (arith, f.2, found)))

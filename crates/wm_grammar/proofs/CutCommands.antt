@@ -312,8 +312,8 @@ pub command_suffix : (text : List ℕ) → AllSome (Tail text) (command_at text)
 unfolding command_at verb_command
 command_suffix text = bind_some (λ (v : Verb). Unit {0}) (Tail text) (verb_of (word (until is_end text))) (verb_command text (until is_end text) (from is_end text)) (any_some (verb_of (word (until is_end text)))) (λ v u.
     either_some text (option_map (before_rest (from is_end text)) (plain_form v (after (until is_end text)))) (first_finished text (until is_end text) (opened v (after (until is_end text))))
-      (each_some (Tail (from is_end text)) (Tail text) (option_map (before_rest (from is_end text)) (plain_form v (after (until is_end text)))) (map_suffix (plain_form v (after (until is_end text))) (from is_end text)) (λ z t. suffix_trans z.1 (from is_end text) text t (from_suffix is_end text)))
-      (first_suffix text (until is_end text) (opened v (after (until is_end text)))))
+    (each_some (Tail (from is_end text)) (Tail text) (option_map (before_rest (from is_end text)) (plain_form v (after (until is_end text)))) (map_suffix (plain_form v (after (until is_end text))) (from is_end text)) (λ z t. suffix_trans z.1 (from is_end text) text t (from_suffix is_end text)))
+    (first_suffix text (until is_end text) (opened v (after (until is_end text)))))
 
 -- ---- what follows a command of a text that ends with ; ends with ; too
 
@@ -350,7 +350,7 @@ renamed_kept : (s : List ℕ) → Cut s → AllSome Kept (renamed s)
 unfolding renamed
 renamed_kept s h = bind_some (λ x. word_at s ≡ Some x) Kept (word_at s) to_named (self_some (word_at s)) (λ x e.
     bind_some (λ t. Cut t) Kept (past_keyword_to (skip x.1)) (new_named x.0) (keyword_kept (skip x.1) (skip_cut_kept x.1 (word_kept s x h e))) (λ t k.
-      bind_some Kept Kept (text_at false t) (both_named x.0) (text_kept false t k) (λ name j. both_kept x.0 name j)))
+    bind_some Kept Kept (text_at false t) (both_named x.0) (text_kept false t k) (λ name j. both_kept x.0 name j)))
 
 finished_kept : (o : Opening) (s : List ℕ) → Cut s → AllSome Kept (finished o s)
 unfolding finished
@@ -393,4 +393,4 @@ command_kept text h =
     let long : 1 ≤ length rest = cut_long rest (from_cut_kept is_end refl text h) in
     let short : length raw < length text = omega (arith, ap length (until_from is_end text), length-append raw rest) in
     bind_some (λ (v : Verb). Unit {0}) Kept (verb_of (word raw)) (verb_command text raw rest) (any_some (verb_of (word raw))) (λ v u.
-      either_kept (option_map (before_rest rest) (plain_form v (after raw))) (first_finished text raw (opened v (after raw))) (map_kept (plain_form v (after raw)) rest (from_cut_kept is_end refl text h)) (first_kept text raw (opened v (after raw)) h short))
+    either_kept (option_map (before_rest rest) (plain_form v (after raw))) (first_finished text raw (opened v (after raw))) (map_kept (plain_form v (after raw)) rest (from_cut_kept is_end refl text h)) (first_kept text raw (opened v (after raw)) h short))

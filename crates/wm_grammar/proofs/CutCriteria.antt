@@ -55,8 +55,8 @@ unquote_grows [] w = tt
 unquote_grows (c ∷ []) w = alone_grows (c == 34) c w refl
 unquote_grows (c ∷ d ∷ r) w = grows_if w (c == 34) (Some ([], d ∷ r)) _ (Some ([], d ∷ r ++ w)) _ (λ e. refl) (λ e.
     grows_if w ((c == 92) && ((d == 34) || (d == 92))) (with_byte d (unquote r)) (with_byte c (unquote (d ∷ r))) (with_byte d (unquote (r ++ w))) (with_byte c (unquote (d ∷ r ++ w)))
-      (λ f. grows_byte w d (unquote r) (unquote (r ++ w)) (unquote_grows r w))
-      (λ f. grows_byte w c (unquote (d ∷ r)) (unquote (d ∷ r ++ w)) (unquote_grows (d ∷ r) w)))
+    (λ f. grows_byte w d (unquote r) (unquote (r ++ w)) (unquote_grows r w))
+    (λ f. grows_byte w c (unquote (d ∷ r)) (unquote (d ∷ r ++ w)) (unquote_grows (d ∷ r) w)))
 
 -- ---- a piece that ends inside the front
 
@@ -186,8 +186,8 @@ keys_grow zero seen s w h = rw (skip_cut s w h) (closed_grows seen (skip s) w (c
 keys_grow (suc n) seen s w h =
     let cut : Cut (skip s) = skip_cut_kept s h in
     rw (skip_cut s w h) (bracket_chosen (skip s) w cut (closed_keys seen (skip s)) (key_at (skip s) >>= and_keys (keys_at n) seen) (closed_keys seen (skip s ++ w)) (key_at (skip s ++ w) >>= and_keys (keys_at n) seen)
-      (closed_grows seen (skip s) w (cut_long (skip s) cut))
-      (and_grows (keys_at n) seen (skip s) w cut (λ seen s k. keys_grow n seen s w k) (key_at (skip s)) (key_at (skip s ++ w)) (key_suffix (skip s)) (key_grows (skip s) w)))
+    (closed_grows seen (skip s) w (cut_long (skip s) cut))
+    (and_grows (keys_at n) seen (skip s) w cut (λ seen s k. keys_grow n seen s w k) (key_at (skip s)) (key_at (skip s ++ w)) (key_suffix (skip s)) (key_grows (skip s) w)))
 
 keys_suffix : (n : ℕ) (seen : List Key) (s : List ℕ) → AllSome (Tail s) (keys_at n seen s)
 unfolding keys_at
@@ -195,9 +195,9 @@ keys_suffix zero seen s = each_some (Tail (skip s)) (Tail s) (closed_keys seen (
 keys_suffix (suc n) seen s = if_some (Tail s) (starts 93 (skip s)) (closed_keys seen (skip s)) (key_at (skip s) >>= and_keys (keys_at n) seen)
     (λ e. each_some (Tail (skip s)) (Tail s) (closed_keys seen (skip s)) (closed_keys_suffix seen (skip s)) (λ z t. suffix_trans z.1 (skip s) s t (skip_suffix s)))
     (λ e. bind_some (Tail (skip s)) (Tail s) (key_at (skip s)) (and_keys (keys_at n) seen) (key_suffix (skip s)) (λ k t.
-      if_some (Tail s) (ends_key k.1 && not (has_place (place_of k.0) seen)) (keys_at n (seen ++ k.0 ∷ []) k.1) None
-        (λ f. each_some (Tail k.1) (Tail s) (keys_at n (seen ++ k.0 ∷ []) k.1) (keys_suffix n (seen ++ k.0 ∷ []) k.1) (λ z j. suffix_trans z.1 k.1 s j (suffix_trans k.1 (skip s) s t (skip_suffix s))))
-        (λ f. tt)))
+    if_some (Tail s) (ends_key k.1 && not (has_place (place_of k.0) seen)) (keys_at n (seen ++ k.0 ∷ []) k.1) None
+    (λ f. each_some (Tail k.1) (Tail s) (keys_at n (seen ++ k.0 ∷ []) k.1) (keys_suffix n (seen ++ k.0 ∷ []) k.1) (λ z j. suffix_trans z.1 k.1 s j (suffix_trans k.1 (skip s) s t (skip_suffix s))))
+    (λ f. tt)))
 
 -- ---- criteria
 

@@ -182,8 +182,8 @@ unquote_closing [] = tt
 unquote_closing (c ∷ []) = if_some (Closing (c ∷ [])) (c == 34) (Some ([], [])) None (λ e. ([], ap (λ (k : ℕ). k ∷ []) (eqb-true c 34 e))) (λ e. tt)
 unquote_closing (c ∷ d ∷ r) = if_some (Closing (c ∷ d ∷ r)) (c == 34) (Some ([], d ∷ r)) _ (λ e. ([], ap (λ (k : ℕ). k ∷ d ∷ r) (eqb-true c 34 e))) (λ e.
     if_some (Closing (c ∷ d ∷ r)) ((c == 92) && ((d == 34) || (d == 92))) (with_byte d (unquote r)) (with_byte c (unquote (d ∷ r)))
-      (λ f. byte_all (Closing r) (Closing (c ∷ d ∷ r)) d (unquote r) (unquote_closing r) (λ x h. (c ∷ d ∷ h.0, ap (λ (t : List ℕ). c ∷ d ∷ t) h.1)))
-      (λ f. byte_all (Closing (d ∷ r)) (Closing (c ∷ d ∷ r)) c (unquote (d ∷ r)) (unquote_closing (d ∷ r)) (λ x h. (c ∷ h.0, ap (λ (t : List ℕ). c ∷ t) h.1))))
+    (λ f. byte_all (Closing r) (Closing (c ∷ d ∷ r)) d (unquote r) (unquote_closing r) (λ x h. (c ∷ d ∷ h.0, ap (λ (t : List ℕ). c ∷ d ∷ t) h.1)))
+    (λ f. byte_all (Closing (d ∷ r)) (Closing (c ∷ d ∷ r)) c (unquote (d ∷ r)) (unquote_closing (d ∷ r)) (λ x h. (c ∷ h.0, ap (λ (t : List ℕ). c ∷ t) h.1))))
 
 outcome_byte : (w : List ℕ) (c : ℕ) (front all : Option (List ℕ × List ℕ)) → Outcome w front all → Outcome w (with_byte c front) (with_byte c all)
 outcome_byte w c None all (inl e) = inl (ap (with_byte c) e)
@@ -221,9 +221,9 @@ unquote_cut [] w h = elim h [ ]
 unquote_cut (c ∷ []) w h = subst (λ o. Outcome w o (unquote (c ∷ w))) (sym (alone_none c h)) (subst (λ o. Outcome w None o) (sym (semi_first c w h)) (late_here w c (unquote w) (unquote_closing w)))
 unquote_cut (c ∷ d ∷ []) w h = outcome_if w (c == 34) (Some ([], d ∷ [])) _ (Some ([], d ∷ w)) _ (λ e. inl refl) (λ e.
     outcome_if w ((c == 92) && ((d == 34) || (d == 92))) (with_byte d (unquote [])) (with_byte c (unquote (d ∷ []))) (with_byte d (unquote w)) (with_byte c (unquote (d ∷ w)))
-      (λ f. absurd (false≢true (sym (no_escape d h) ∙ and_second (c == 92) ((d == 34) || (d == 92)) f)))
-      (λ f. outcome_byte w c (unquote (d ∷ [])) (unquote (d ∷ w)) (unquote_cut (d ∷ []) w h)))
+    (λ f. absurd (false≢true (sym (no_escape d h) ∙ and_second (c == 92) ((d == 34) || (d == 92)) f)))
+    (λ f. outcome_byte w c (unquote (d ∷ [])) (unquote (d ∷ w)) (unquote_cut (d ∷ []) w h)))
 unquote_cut (c ∷ d ∷ e ∷ r) w h = outcome_if w (c == 34) (Some ([], d ∷ e ∷ r)) _ (Some ([], d ∷ e ∷ r ++ w)) _ (λ f. inl refl) (λ f.
     outcome_if w ((c == 92) && ((d == 34) || (d == 92))) (with_byte d (unquote (e ∷ r))) (with_byte c (unquote (d ∷ e ∷ r))) (with_byte d (unquote (e ∷ r ++ w))) (with_byte c (unquote (d ∷ e ∷ r ++ w)))
-      (λ g. outcome_byte w d (unquote (e ∷ r)) (unquote (e ∷ r ++ w)) (unquote_cut (e ∷ r) w h))
-      (λ g. outcome_byte w c (unquote (d ∷ e ∷ r)) (unquote (d ∷ e ∷ r ++ w)) (unquote_cut (d ∷ e ∷ r) w h)))
+    (λ g. outcome_byte w d (unquote (e ∷ r)) (unquote (e ∷ r ++ w)) (unquote_cut (e ∷ r) w h))
+    (λ g. outcome_byte w c (unquote (d ∷ e ∷ r)) (unquote (d ∷ e ∷ r ++ w)) (unquote_cut (d ∷ e ∷ r) w h)))

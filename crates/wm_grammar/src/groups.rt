@@ -34,7 +34,10 @@ fn commands_at(alloc: Global, text: &[u8]) -> Result<Option<(Vec<Command>, &[u8]
 
 /// The criteria at the front, where `[` stands there, and what follows.
 #[tactic(auto, unfolding(crate::specs::Reading::criteria_part))]
-pub fn criteria_part(alloc: Global, text: &[u8]) -> Result<Option<(Option<Criteria>, &[u8])>, NoMemory>
+pub fn criteria_part(
+    alloc: Global,
+    text: &[u8],
+) -> Result<Option<(Option<Criteria>, &[u8])>, NoMemory>
     ensures { IfOk result (λ o. option_map (λ x. (x.0, x.1.now)) o ≡ criteria_part text.now) }
 {
     let [b'[', inside @ ..] = text else {

@@ -37,7 +37,11 @@ fn front_turn(alloc: Global, text: &[u8]) -> Result<Option<&[u8]>, NoMemory>
 fn turn_at(alloc: Global, fresh: bool, text: &[u8]) -> Result<Option<&[u8]>, NoMemory>
     ensures { IfOk result (λ o. option_copied o ≡ turn_at fresh text.now) }
 {
-    if fresh { front_turn(alloc, skip(text)) } else { command_turn(alloc, skip(text)) }
+    if fresh {
+        front_turn(alloc, skip(text))
+    } else {
+        command_turn(alloc, skip(text))
+    }
 }
 
 /// What stands before the last `"`.
@@ -63,7 +67,11 @@ fn cut_off<'a>(text: &'a [u8], end: &[u8]) -> Option<&'a [u8]>
 {
     let turn = &text[..text.len().saturating_sub(end.len())];
     let front = before_last_quote(turn)?;
-    if stops_in(front, Stop::Group) { Some(front) } else { None }
+    if stops_in(front, Stop::Group) {
+        Some(front)
+    } else {
+        None
+    }
 }
 
 /// A place at the end of the turn, behind its `;`, or else inside it. Places are said by how many bytes follow.
@@ -81,7 +89,9 @@ fn here(
     if let [b';', more @ ..] = end {
         return Ok(Some(more.len()));
     }
-    let Some(front) = cut_off(text, end) else { return Ok(None) };
+    let Some(front) = cut_off(text, end) else {
+        return Ok(None)
+    };
     match farthest(alloc, left, fresh, front)? {
         Some(n) => Ok(Some(n + (text.len() - front.len()))),
         None => Ok(None),

@@ -143,50 +143,173 @@ fn corners(rt: HostRuntime) -> Result<(), Fail> {
 #[test]
 fn forms(rt: HostRuntime) -> Result<(), Fail> {
     for (text, want) in [
-        ("split h, split horizontal, split V", "split h, split h, split v"),
-        ("split vertical, split t, split toggle", "split v, split toggle, split toggle"),
-        ("layout default, layout splith, layout splitv", "layout default, layout splith, layout splitv"),
-        ("layout tabbed, layout stacking, layout stacked", "layout tabbed, layout stacked, layout stacked"),
-        ("layout toggle, layout toggle split, layout toggle all", "layout toggle, layout toggle split, layout toggle all"),
-        ("focus, focus right, focus up, focus down", "focus, focus right, focus up, focus down"),
+        (
+            "split h, split horizontal, split V",
+            "split h, split h, split v",
+        ),
+        (
+            "split vertical, split t, split toggle",
+            "split v, split toggle, split toggle",
+        ),
+        (
+            "layout default, layout splith, layout splitv",
+            "layout default, layout splith, layout splitv",
+        ),
+        (
+            "layout tabbed, layout stacking, layout stacked",
+            "layout tabbed, layout stacked, layout stacked",
+        ),
+        (
+            "layout toggle, layout toggle split, layout toggle all",
+            "layout toggle, layout toggle split, layout toggle all",
+        ),
+        (
+            "focus, focus right, focus up, focus down",
+            "focus, focus right, focus up, focus down",
+        ),
         ("focus parent, focus child", "focus parent, focus child"),
-        ("focus floating, focus tiling, focus mode_toggle", "focus floating, focus tiling, focus mode_toggle"),
-        ("focus output current, focus output \"a b\"", "focus output current, focus output \"a b\""),
-        ("focus output primary, focus output next", "focus output primary, focus output next"),
-        ("move right, move up 5, move down 7 px", "move right 10 px, move up 5 px, move down 7 px"),
-        ("move workspace next_on_output, move to workspace prev", "move container to workspace next_on_output, move container to workspace prev"),
-        ("move window workspace number 4, move container workspace w", "move container to workspace number \"4\", move container to workspace \"w\""),
-        ("move output primary, move to output x", "move container to output primary, move container to output \"x\""),
-        ("move workspace output next", "move workspace to output next"),
-        ("move mark m, move window to mark \"n o\"", "move container to mark \"m\", move container to mark \"n o\""),
-        ("move scratchpad, move container to scratchpad", "move scratchpad, move scratchpad"),
-        ("move window to position 1 px -2, move position center", "move position 1 px -2 px, move position center"),
-        ("swap with con_id 7, swap container with id 8", "swap container with con_id 7, swap container with id 8"),
-        ("swap with mark a, swap container with mark \"b\"", "swap container with mark \"a\", swap container with mark \"b\""),
-        ("resize grow width, resize shrink height 5 px", "resize grow width 10 px or 10 ppt, resize shrink height 5 px or 0 ppt"),
-        ("resize grow up 5 px or 6 ppt, resize shrink right", "resize grow up 5 px or 6 ppt, resize shrink right 10 px or 10 ppt"),
-        ("resize set 3 4, resize set 3 px 4 px", "resize set 3 px 4 px, resize set 3 px 4 px"),
-        ("floating enable, floating toggle", "floating enable, floating toggle"),
-        ("fullscreen, fullscreen disable", "fullscreen toggle, fullscreen disable"),
-        ("border normal, border normal 3, border pixel 1", "border normal 2, border normal 3, border pixel 1"),
-        ("border none, border toggle, border pixel", "border none, border toggle, border pixel 2"),
-        ("gaps inner current set 5, gaps outer all plus 6", "gaps inner current set 5, gaps outer all plus 6"),
-        ("gaps inner all minus 7, sticky toggle, sticky disable", "gaps inner all minus 7, sticky toggle, sticky disable"),
-        ("mark --replace --toggle x, mark --toggle y", "mark --toggle \"x\", mark --toggle \"y\""),
-        ("unmark, unmark \"x\", unmark y z", "unmark, unmark \"x\", unmark \"y z\""),
-        ("workspace prev, workspace prev_on_output", "workspace prev, workspace prev_on_output"),
-        ("workspace back_and_forth, workspace next_on_output", "workspace back_and_forth, workspace next_on_output"),
-        ("rename workspace to \"a b\", rename workspace c to d", "rename workspace to \"a b\", rename workspace \"c\" to \"d\""),
-        ("scratchpad show, mode default, mode \"m\"", "scratchpad show, mode \"default\", mode \"m\""),
-        ("append_layout l, title_format %title - %class", "append_layout \"l\", title_format \"%title - %class\""),
-        ("kill, kill window, kill client, exit", "kill, kill, kill, exit"),
+        (
+            "focus floating, focus tiling, focus mode_toggle",
+            "focus floating, focus tiling, focus mode_toggle",
+        ),
+        (
+            "focus output current, focus output \"a b\"",
+            "focus output current, focus output \"a b\"",
+        ),
+        (
+            "focus output primary, focus output next",
+            "focus output primary, focus output next",
+        ),
+        (
+            "move right, move up 5, move down 7 px",
+            "move right 10 px, move up 5 px, move down 7 px",
+        ),
+        (
+            "move workspace next_on_output, move to workspace prev",
+            "move container to workspace next_on_output, move container to workspace prev",
+        ),
+        (
+            "move window workspace number 4, move container workspace w",
+            "move container to workspace number \"4\", move container to workspace \"w\"",
+        ),
+        (
+            "move output primary, move to output x",
+            "move container to output primary, move container to output \"x\"",
+        ),
+        (
+            "move workspace output next",
+            "move workspace to output next",
+        ),
+        (
+            "move mark m, move window to mark \"n o\"",
+            "move container to mark \"m\", move container to mark \"n o\"",
+        ),
+        (
+            "move scratchpad, move container to scratchpad",
+            "move scratchpad, move scratchpad",
+        ),
+        (
+            "move window to position 1 px -2, move position center",
+            "move position 1 px -2 px, move position center",
+        ),
+        (
+            "swap with con_id 7, swap container with id 8",
+            "swap container with con_id 7, swap container with id 8",
+        ),
+        (
+            "swap with mark a, swap container with mark \"b\"",
+            "swap container with mark \"a\", swap container with mark \"b\"",
+        ),
+        (
+            "resize grow width, resize shrink height 5 px",
+            "resize grow width 10 px or 10 ppt, resize shrink height 5 px or 0 ppt",
+        ),
+        (
+            "resize grow up 5 px or 6 ppt, resize shrink right",
+            "resize grow up 5 px or 6 ppt, resize shrink right 10 px or 10 ppt",
+        ),
+        (
+            "resize set 3 4, resize set 3 px 4 px",
+            "resize set 3 px 4 px, resize set 3 px 4 px",
+        ),
+        (
+            "floating enable, floating toggle",
+            "floating enable, floating toggle",
+        ),
+        (
+            "fullscreen, fullscreen disable",
+            "fullscreen toggle, fullscreen disable",
+        ),
+        (
+            "border normal, border normal 3, border pixel 1",
+            "border normal 2, border normal 3, border pixel 1",
+        ),
+        (
+            "border none, border toggle, border pixel",
+            "border none, border toggle, border pixel 2",
+        ),
+        (
+            "gaps inner current set 5, gaps outer all plus 6",
+            "gaps inner current set 5, gaps outer all plus 6",
+        ),
+        (
+            "gaps inner all minus 7, sticky toggle, sticky disable",
+            "gaps inner all minus 7, sticky toggle, sticky disable",
+        ),
+        (
+            "mark --replace --toggle x, mark --toggle y",
+            "mark --toggle \"x\", mark --toggle \"y\"",
+        ),
+        (
+            "unmark, unmark \"x\", unmark y z",
+            "unmark, unmark \"x\", unmark \"y z\"",
+        ),
+        (
+            "workspace prev, workspace prev_on_output",
+            "workspace prev, workspace prev_on_output",
+        ),
+        (
+            "workspace back_and_forth, workspace next_on_output",
+            "workspace back_and_forth, workspace next_on_output",
+        ),
+        (
+            "rename workspace to \"a b\", rename workspace c to d",
+            "rename workspace to \"a b\", rename workspace \"c\" to \"d\"",
+        ),
+        (
+            "scratchpad show, mode default, mode \"m\"",
+            "scratchpad show, mode \"default\", mode \"m\"",
+        ),
+        (
+            "append_layout l, title_format %title - %class",
+            "append_layout \"l\", title_format \"%title - %class\"",
+        ),
+        (
+            "kill, kill window, kill client, exit",
+            "kill, kill, kill, exit",
+        ),
         ("nop, nop \"x\", exec, exec a b", "nop, nop, exec, exec"),
         ("open x, reload, restart \"now\"", "exec, exec, exec"),
-        ("[class=a instance=b window_role=c] nop", "[class=\"a\" instance=\"b\" window_role=\"c\" ] nop"),
-        ("[window_type=d machine=e title=f] nop", "[window_type=\"d\" machine=\"e\" title=\"f\" ] nop"),
-        ("[con_mark=g workspace=h id=5 con_id=6] nop", "[con_mark=\"g\" workspace=\"h\" id=5 con_id=6 ] nop"),
-        ("[urgent=first floating tiling all] nop", "[urgent=oldest floating tiling all ] nop"),
-        ("[urgent=newest] nop;[urgent=recent] nop", "[urgent=latest ] nop; [urgent=latest ] nop"),
+        (
+            "[class=a instance=b window_role=c] nop",
+            "[class=\"a\" instance=\"b\" window_role=\"c\" ] nop",
+        ),
+        (
+            "[window_type=d machine=e title=f] nop",
+            "[window_type=\"d\" machine=\"e\" title=\"f\" ] nop",
+        ),
+        (
+            "[con_mark=g workspace=h id=5 con_id=6] nop",
+            "[con_mark=\"g\" workspace=\"h\" id=5 con_id=6 ] nop",
+        ),
+        (
+            "[urgent=first floating tiling all] nop",
+            "[urgent=oldest floating tiling all ] nop",
+        ),
+        (
+            "[urgent=newest] nop;[urgent=recent] nop",
+            "[urgent=latest ] nop; [urgent=latest ] nop",
+        ),
     ] {
         let printed = told(&rt, text)?;
         assert_eq!(rt; printed.as_str(), want, "of {text}");
@@ -213,6 +336,48 @@ fn lengths(rt: HostRuntime) -> Result<(), Fail> {
         }
         let found = told(&rt, text.as_str())?;
         assert_eq!(rt; found.as_str() != "bad 0", reads, "of {keyword} and {len}");
+    }
+    Ok(())
+}
+
+/// The first text many times, then the second, then the third many times.
+fn joined(
+    rt: &HostRuntime,
+    first: &str,
+    count: usize,
+    middle: &str,
+    last: &str,
+) -> Result<String, Fail> {
+    let mut text = String::new(rt.alloc());
+    for _ in 0..count {
+        text.push_str(first)?;
+    }
+    text.push_str(middle)?;
+    for _ in 0..count {
+        text.push_str(last)?;
+    }
+    Ok(text)
+}
+
+/// Long texts are read, and stop reading, in a time that their length alone decides.
+#[test]
+fn long_texts(rt: HostRuntime) -> Result<(), Fail> {
+    for (first, count, middle, last, want) in [
+        ("nop;", 32768, "nop", ";nop", None),
+        ("nop;", 32768, "zzz;", "nop;", Some(131072)),
+        ("", 131072, "mark \"", "a;", Some(0)),
+        ("", 131072, "mark --add \"", "a;", Some(14)),
+        ("", 131072, "exec \"", "a;", Some(0)),
+        ("kill,", 20000, "zzz", ";", Some(0)),
+        ("mark --add \"a;b\", ", 10000, "zzz", ";zzz", Some(179996)),
+    ] {
+        let text = joined(&rt, first, count, middle, last)?;
+        let at = match read(rt.alloc(), text.as_str()) {
+            Ok(_) => None,
+            Err(ReadRefusal::Bad { at }) => Some(at),
+            Err(ReadRefusal::NoMemory) => Some(1),
+        };
+        assert_eq!(rt; at, want, "of {first} {middle} {last}");
     }
     Ok(())
 }
