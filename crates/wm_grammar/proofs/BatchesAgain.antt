@@ -1,6 +1,6 @@
 -- Printed batches are read again.
-use Rattle.std.proofs.Common.{◌≡◌, ℕ, zero, suc, ◌+◌, ◌-◌, ◌<◌, ◌≤◌, Bool, true, false, List, [], ◌∷◌, ◌++◌, length, drop, Option, Some, None, refl, sym, ap, ◌∙◌, append_assoc, arith, codes}
-use Rattle.std.specs.Prelude.{if◌then◌else◌, ◌==◌, ◌||◌, ◌&&◌, option_map, nat_le}
+use Rattle.std.proofs.Common.{◌≡◌, ℕ, zero, suc, ◌≤◌, Bool, true, false, List, [], ◌∷◌, ◌++◌, length, drop, Option, Some, None, refl, sym, ap, ◌∙◌, append_assoc, arith}
+use Rattle.std.specs.Prelude.{◌==◌, ◌||◌, ◌&&◌, option_map, nat_le}
 use Rattle.std.proofs.lemmas.Bool.{and_parts, leb-true, ne_eqb, eqb-true, true≢false}
 use Rattle.std.proofs.lemmas.List.{length-append}
 use Rattle.wm_base.specs.declared.plan.Border.TheVariants as borders
@@ -13,11 +13,10 @@ use Rattle.wm_grammar.specs.declared.command.Command.TheVariants as commands
 use Rattle.wm_grammar.specs.declared.batch.Criteria.{Criteria}
 use Rattle.wm_grammar.specs.declared.batch.Group.{Group}
 use Rattle.wm_grammar.specs.declared.batch.Batch.{Batch}
-use Rattle.wm_grammar.specs.Pieces.{◌>>=◌, is_nil, is_blank, is_end, ends, starts, skip}
-use Rattle.wm_grammar.specs.Openings.{command_at}
+use Rattle.wm_grammar.specs.Pieces.{is_blank, ends, starts, skip}
 use Rattle.wm_grammar.specs.Spelling.{spelled, move_text, position_text, sides_text, resize_text, gaps_text, renaming_text, criteria_text, commands_text, more_commands_text, group_text, groups_text, more_groups_text, spelling}
 use Rattle.wm_grammar.specs.Readable.{IsReadableCommand, AreReadableCommands, IsReadableGroup, AreReadableGroups, IsReadable}
-use Rattle.wm_grammar.specs.Reading.{Commands, Groups, and_commands, before_commands, commands_at, criteria_part, group_of, group_at, and_groups, some_groups, groups_at, groups_of, batch_of, Reads}
+use Rattle.wm_grammar.specs.Reading.{Commands, Groups, and_commands, before_commands, commands_at, group_at, some_groups, groups_at, groups_of, Reads}
 use Rattle.wm_grammar.proofs.Commands.{command_again}
 use Rattle.wm_grammar.proofs.KeysAgain.{criteria_again, behind_criteria}
 

@@ -1,18 +1,18 @@
 -- No front of a text that reads and ends with ; goes farther than the search finds.
-use Rattle.std.proofs.Common.{◌≡◌, ℕ, zero, suc, ◌+◌, ◌-◌, ◌<◌, ◌≤◌, ◌⊎◌, Bool, true, false, List, [], ◌∷◌, ◌++◌, length, take, drop, get_or, Option, Some, None, refl, sym, ap, subst, ◌∙◌, append_assoc, arith, inl, inr}
-use Rattle.std.specs.Prelude.{IfSome, if◌then◌else◌, ◌==◌, ◌||◌, ◌&&◌, not, option_map, is_some}
+use Rattle.std.proofs.Common.{◌≡◌, ℕ, zero, suc, ◌+◌, ◌-◌, ◌<◌, ◌≤◌, Bool, true, false, List, [], ◌∷◌, ◌++◌, length, take, drop, get_or, Option, Some, None, refl, sym, ap, subst, ◌∙◌, append_assoc, arith, inl, inr}
+use Rattle.std.specs.Prelude.{IfSome, if◌then◌else◌, ◌==◌, ◌||◌, not, option_map, is_some}
 use Rattle.std.proofs.lemmas.Bool.{eqb-true, ne_eqb, false≢true, and_parts, false_from_ne_true}
-use Rattle.std.proofs.lemmas.List.{length-append, length-take, length-drop, take_at, take-append-drop, append-nil, take_all, take_more}
+use Rattle.std.proofs.lemmas.List.{length-append, length-take, take_at, take-append-drop, take_all, take_more}
 use Rattle.wm_grammar.specs.declared.command.Command.{Command}
 use Rattle.wm_grammar.specs.declared.batch.Criteria.{Criteria}
 use Rattle.wm_grammar.specs.declared.batch.Group.{Group}
 use Rattle.wm_grammar.specs.Pieces.{◌>>=◌, first_of, has, skip}
 use Rattle.wm_grammar.specs.Openings.{command_at}
-use Rattle.wm_grammar.specs.Reading.{Commands, Groups, and_commands, before_commands, commands_at, criteria_part, group_of, group_at, and_groups, some_groups, groups_at, groups_of, is_whole, ends_group, IsReach}
+use Rattle.wm_grammar.specs.Reading.{Commands, Groups, and_commands, before_commands, commands_at, criteria_part, group_of, group_at, and_groups, some_groups, groups_at, groups_of, is_whole, ends_group}
 use Rattle.wm_grammar.specs.Turns.{command_turn, front_turn, turn_at}
 use Rattle.wm_grammar.specs.Pieces.{is_semicolon}
 use Rattle.wm_grammar.specs.Farthest.{before_quote, before_last_quote, cut_off, inside, here, behind, farthest}
-use Rattle.wm_grammar.proofs.Cuts.{Cut, Suffix, suffix_length, cut_suffix, suffix_cons, suffix_trans, suffix_refl, Quoted, AllSome, if_some}
+use Rattle.wm_grammar.proofs.Cuts.{Cut, Suffix, suffix_length, Quoted, AllSome, if_some}
 use Rattle.wm_grammar.proofs.CutCommands.{bind_some, map_some, each_some, some_at}
 use Rattle.wm_grammar.proofs.TurnCuts.{Turned, turned, turn_suffix, turn_kept}
 

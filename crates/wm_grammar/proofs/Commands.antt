@@ -1,46 +1,24 @@
 -- Every printed command is read again, whatever stands behind its end.
-use Rattle.std.proofs.Common.{◌≡◌, ℕ, zero, suc, ◌+◌, ◌-◌, ◌<◌, ◌≤◌, ◌^◌, Bool, true, false, List, [], ◌∷◌, ◌++◌, length, Option, Some, None, refl, sym, ap, ◌∙◌, append_assoc, arith, codes, decimal, ℤ, pos, negsuc}
-use Rattle.std.specs.Prelude.{if◌then◌else◌, ◌==◌, ◌||◌, ◌&&◌, option_map, nat_le, nat_abs, neg_ℤ}
-use Rattle.std.specs.Fmt.{signed_decimal}
-use Rattle.std.specs.Str.{is_utf8}
-use Rattle.std.proofs.lemmas.Bool.{le-leb, ne_eqb}
-use Rattle.wm_base.specs.declared.geometry.Dir.{Dir}
+use Rattle.std.proofs.Common.{◌≡◌, ℕ, Bool, true, false, List, ◌++◌, Option, Some, None, refl, ap, ◌∙◌, append_assoc, codes}
 use Rattle.wm_base.specs.declared.geometry.Dir.TheVariants as dirs
-use Rattle.wm_base.specs.declared.plan.Border.{Border}
-use Rattle.wm_base.specs.declared.plan.Border.TheVariants as borders
-use Rattle.wm_grammar.specs.declared.arguments.SplitArg.{SplitArg}
-use Rattle.wm_grammar.specs.declared.arguments.SplitArg.TheVariants as splits
-use Rattle.wm_grammar.specs.declared.arguments.LayoutArg.{LayoutArg}
-use Rattle.wm_grammar.specs.declared.arguments.LayoutArg.TheVariants as layouts
-use Rattle.wm_grammar.specs.declared.arguments.Cycle.{Cycle}
-use Rattle.wm_grammar.specs.declared.arguments.Cycle.TheVariants as cycles
-use Rattle.wm_grammar.specs.declared.arguments.Kind.{Kind}
-use Rattle.wm_grammar.specs.declared.arguments.Kind.TheVariants as kinds
-use Rattle.wm_grammar.specs.declared.arguments.OnOff.{OnOff}
-use Rattle.wm_grammar.specs.declared.arguments.OnOff.TheVariants as switches
 use Rattle.wm_grammar.specs.declared.arguments.OutArg.{OutArg}
 use Rattle.wm_grammar.specs.declared.arguments.OutArg.TheVariants as outs
 use Rattle.wm_grammar.specs.declared.arguments.Target.{Target}
 use Rattle.wm_grammar.specs.declared.arguments.Target.TheVariants as targets
 use Rattle.wm_grammar.specs.declared.arguments.SwapArg.{SwapArg}
 use Rattle.wm_grammar.specs.declared.arguments.SwapArg.TheVariants as swaps
-use Rattle.wm_grammar.specs.declared.arguments.Side.{Side}
-use Rattle.wm_grammar.specs.declared.arguments.Side.TheVariants as sides
-use Rattle.wm_grammar.specs.declared.arguments.GapOp.{GapOp}
-use Rattle.wm_grammar.specs.declared.arguments.GapOp.TheVariants as ops
 use Rattle.wm_grammar.specs.declared.command.Command.{Command}
 use Rattle.wm_grammar.specs.declared.command.Command.TheVariants as commands
 use Rattle.wm_grammar.specs.declared.verbs.Verb.{Verb}
 use Rattle.wm_grammar.specs.declared.verbs.Verb.TheVariants as verbs
 use Rattle.wm_grammar.specs.declared.opening.Opening.{Opening}
 use Rattle.wm_grammar.specs.declared.opening.Opening.TheVariants as openings
-use Rattle.wm_grammar.specs.Pieces.{◌>>=◌, first_of, is_nil, is_blank, is_end, until, from, has, skip, ends, word, after, is_word, says, choice, single, only, natural, integer, below_zero, above_zero, only_number, argument, unquote}
-use Rattle.wm_grammar.specs.Forms.{dir_words, sent_words, target_words, verb_of, plain_form, split_form, layout_form, whole, only_output, output_of, focus_word, focus_form, past_px, past_to, move_by, position_form, move_to_form, past_one_to, move_workspace_form, move_form, past_with, swap_form, hundredths, amounts, resize_by, resize_set, resize_form, fullscreen_form, width_form, border_form, gaps_form, kill_form, scratchpad_form}
-use Rattle.wm_grammar.specs.Openings.{opened, targets_opened, focus_opened, move_to_opened, move_opened, swap_opened, toggle_opened, mark_opened, rename_opened, finished, text_at, made, closed, before_rest, renamed, word_at, past_keyword_to, command_at, verb_command, first_finished}
-use Rattle.wm_grammar.specs.Spelling.{spelled, quoted, escaped, dir_text, move_text, position_text, sides_text, resize_text, gaps_text, renaming_text}
-use Rattle.wm_grammar.specs.Readable.{IsArgument, IsNumber, IsOutput, IsSentTo, IsShown, IsSwap, IsBorder, IsReadableCommand, IsMaybeArgument}
-use Rattle.wm_grammar.proofs.Numbers.{stops_at, until_past, from_past, until_through, number_word, number_after, number_some, number_other, natural_decimal, only_number_decimal, number_has, no_end, no_blank, number_clean, number_digits, NoDigit}
-use Rattle.wm_grammar.proofs.Again.{command_plain, command_quoted, IsOpening, quoted_again, closed_again, skip_end, ends_stops}
+use Rattle.wm_grammar.specs.Pieces.{until, from, has, skip, ends, is_word, single, argument}
+use Rattle.wm_grammar.specs.Forms.{verb_of, plain_form, only_output, focus_word, focus_form, past_to, position_form, move_to_form, past_one_to, move_workspace_form, move_form, border_form, kill_form, scratchpad_form}
+use Rattle.wm_grammar.specs.Openings.{made, command_at}
+use Rattle.wm_grammar.specs.Spelling.{spelled, quoted}
+use Rattle.wm_grammar.specs.Readable.{IsArgument, IsOutput, IsSentTo, IsShown, IsSwap, IsReadableCommand, IsMaybeArgument}
+use Rattle.wm_grammar.proofs.Again.{command_plain, command_quoted, IsOpening}
 use Rattle.wm_grammar.proofs.Places.{sides_again, position_again, renaming_again}
 use Rattle.wm_grammar.proofs.Spelled.{argument_again, split_again, layout_again, cycle_again, kind_again, focus_dir_again, floating_again, fullscreen_again, sticky_again, focus_output_opening, to_workspace_opening, to_numbered_opening, to_output_opening, workspace_to_opening, to_mark_opening, swap_opening, mark_both_opening, mark_add_opening, mark_toggle_opening, mark_opening, unmark_opening, workspace_opening, numbered_opening, rename_opening, mode_opening, append_opening, title_opening, border_again, con_again, window_again, gaps_again, move_again, resize_again}
 

@@ -1,5 +1,5 @@
 -- A command of a text that was cut behind a ;, against the command of the whole text.
-use Rattle.std.proofs.Common.{◌≡◌, ℕ, zero, suc, ◌+◌, ◌-◌, ◌<◌, ◌≤◌, ◌⊎◌, Bool, true, false, List, [], ◌∷◌, ◌++◌, length, take, drop, Option, Some, None, refl, sym, ap, subst, ◌∙◌, append_assoc, arith, inl, inr, codes}
+use Rattle.std.proofs.Common.{◌≡◌, ℕ, ◌-◌, ◌<◌, ◌≤◌, ◌⊎◌, Bool, true, false, List, [], ◌∷◌, ◌++◌, length, take, drop, Option, Some, None, refl, sym, ap, subst, ◌∙◌, append_assoc, arith, inl, inr, codes}
 use Rattle.std.specs.Prelude.{if◌then◌else◌, ◌==◌, ◌||◌, ◌&&◌, option_map}
 use Rattle.std.proofs.lemmas.Bool.{eqb-true}
 use Rattle.std.proofs.lemmas.List.{length-append, drop-append-le, take-append-drop, length-drop}
@@ -8,10 +8,10 @@ use Rattle.wm_grammar.specs.declared.command.Command.TheVariants as commands
 use Rattle.wm_grammar.specs.declared.verbs.Verb.{Verb}
 use Rattle.wm_grammar.specs.declared.opening.Opening.{Opening}
 use Rattle.wm_grammar.specs.declared.opening.Opening.TheVariants as openings
-use Rattle.wm_grammar.specs.Pieces.{◌>>=◌, first_of, is_nil, is_blank, is_end, is_gap, breaks_word, starts, until, from, has, skip, trim_end, ends, word, after, is_word, argument, unquote}
+use Rattle.wm_grammar.specs.Pieces.{◌>>=◌, first_of, is_nil, is_end, is_gap, breaks_word, until, from, has, skip, trim_end, ends, word, after, is_word, argument, unquote}
 use Rattle.wm_grammar.specs.Forms.{verb_of, plain_form}
-use Rattle.wm_grammar.specs.Openings.{Opened, opened, is_one_word, closed, bare, text_at, made, word_at, past_keyword_to, renamed, before_rest, finished, first_finished, verb_command, command_at}
-use Rattle.wm_grammar.proofs.Cuts.{Cut, Suffix, suffix_refl, suffix_cons, suffix_trans, suffix_length, cut_suffix, cut_long, until_cut, from_cut, from_suffix, from_cut_kept, skip_cut, skip_cut_kept, skip_suffix, ends_cut, Ext, Quoted, Late, Outcome, AllSome, outcome_bind, Closing, unquote_closing, unquote_cut, outcome_if, if_some}
+use Rattle.wm_grammar.specs.Openings.{Opened, opened, closed, bare, text_at, made, word_at, past_keyword_to, renamed, before_rest, finished, first_finished, verb_command, command_at}
+use Rattle.wm_grammar.proofs.Cuts.{Cut, Suffix, suffix_refl, suffix_cons, suffix_trans, cut_suffix, cut_long, until_cut, from_cut, from_suffix, from_cut_kept, skip_cut, skip_cut_kept, skip_suffix, ends_cut, Ext, Late, Outcome, AllSome, outcome_bind, Closing, unquote_closing, unquote_cut, outcome_if, if_some}
 
 -- ---- each value that is there
 

@@ -1,10 +1,9 @@
 -- Criteria of a text that was cut behind a ;, against those of the whole text.
-use Rattle.std.proofs.Common.{◌≡◌, ℕ, zero, suc, ◌+◌, ◌-◌, ◌<◌, ◌≤◌, ◌⊎◌, Bool, true, false, List, [], ◌∷◌, ◌++◌, length, take, drop, Option, Some, None, refl, sym, ap, subst, ◌∙◌, append_assoc, arith, inl, inr}
+use Rattle.std.proofs.Common.{◌≡◌, ℕ, zero, suc, ◌≤◌, Bool, true, false, List, [], ◌∷◌, ◌++◌, length, drop, Option, Some, None, refl, ap, arith}
 use Rattle.std.specs.Prelude.{if◌then◌else◌, ◌==◌, ◌||◌, ◌&&◌, not, option_map}
 use Rattle.std.proofs.lemmas.Bool.{eqb-true}
 use Rattle.wm_grammar.specs.declared.batch.Key.{Key}
 use Rattle.wm_grammar.specs.declared.keys.KeyName.{KeyName}
-use Rattle.wm_grammar.specs.declared.batch.Criteria.{Criteria}
 use Rattle.wm_grammar.specs.Pieces.{◌>>=◌, is_nil, is_blank, ends_name, ends_value, starts, until, from, skip, choice, unquote, with_byte}
 use Rattle.wm_grammar.specs.Openings.{before_rest}
 use Rattle.wm_grammar.specs.Criteria.{key_of, value_at, valued_at, key_at, place_of, has_place, ends_key, closed_keys, and_keys, keys_at, criteria_at, flag_words, name_words}

@@ -1,9 +1,9 @@
 -- Reading a text that was cut behind a ;, against reading it whole.
-use Rattle.std.proofs.Common.{◌≡◌, ℕ, zero, suc, ◌+◌, ◌-◌, ◌<◌, ◌≤◌, ◌⊎◌, Bool, true, false, List, [], ◌∷◌, ◌++◌, length, take, drop, Option, Some, None, refl, sym, ap, subst, ◌∙◌, append_assoc, arith, inl, inr}
+use Rattle.std.proofs.Common.{◌≡◌, ℕ, ◌≤◌, ◌⊎◌, Bool, true, false, List, [], ◌∷◌, ◌++◌, length, Option, Some, None, refl, sym, ap, subst, ◌∙◌, append_assoc, arith, inl, inr}
 use Rattle.std.specs.Prelude.{if◌then◌else◌, ◌==◌, ◌||◌, ◌&&◌, option_map}
-use Rattle.std.proofs.lemmas.Bool.{cases_Bool, eqb-true, or_cases, false≢true}
-use Rattle.std.proofs.lemmas.List.{length-append, append-nil, drop-append-le}
-use Rattle.wm_grammar.specs.Pieces.{◌>>=◌, first_of, is_nil, is_blank, is_end, is_gap, starts, until, from, has, skip, trim_end, ends, is_word, argument, unquote, with_byte}
+use Rattle.std.proofs.lemmas.Bool.{eqb-true, false≢true}
+use Rattle.std.proofs.lemmas.List.{length-append}
+use Rattle.wm_grammar.specs.Pieces.{◌>>=◌, is_blank, until, from, skip, ends, unquote, with_byte}
 
 -- ---- texts that end with ;
 

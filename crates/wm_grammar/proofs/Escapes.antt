@@ -1,12 +1,12 @@
 -- Texts with \ before each " and \.
-use Rattle.std.proofs.Common.{◌≡◌, ℕ, zero, suc, ◌+◌, ◌-◌, ◌<◌, ◌≤◌, Bool, true, false, List, [], ◌∷◌, ◌++◌, length, get_or, take, drop, Option, Some, None, refl, sym, ap, ◌∙◌, append_assoc, arith}
-use Rattle.std.specs.Prelude.{if◌then◌else◌, ◌==◌, ◌||◌}
+use Rattle.std.proofs.Common.{◌≡◌, ℕ, zero, suc, ◌<◌, ◌≤◌, true, false, List, [], ◌∷◌, ◌++◌, length, get_or, take, drop, refl, sym, ap, ◌∙◌, append_assoc, arith}
+use Rattle.std.specs.Prelude.{◌==◌}
 use Rattle.std.proofs.lemmas.List.{append-nil, drop_all, length-drop, get_or-drop}
 use Rattle.std.proofs.Common.{inl, inr}
 use Rattle.std.specs.Prelude.{IsUtf8, IsCharBoundary}
 use Rattle.std.proofs.lemmas.Bool.{or_cases, eqb-true, eqb-false}
 use Rattle.std.proofs.lemmas.Str.{IsUtf8-drop, IsCharBoundary-before_ascii, IsCharBoundary-after_ascii}
-use Rattle.wm_grammar.specs.Spelling.{is_special, escaped_byte, escaped}
+use Rattle.wm_grammar.specs.Spelling.{is_special, escaped}
 
 pub escaped_front : (xs : List ℕ) (n : ℕ) → n ≤ length xs → ((k : ℕ) → k < n → is_special (get_or xs k 0) ≡ false) → escaped xs ≡ take n xs ++ escaped (drop n xs)
 unfolding escaped

@@ -1,6 +1,6 @@
 -- One step of reading keys, commands and groups one after another.
-use Rattle.std.proofs.Common.{◌≡◌, ℕ, zero, suc, ◌+◌, ◌-◌, ◌<◌, ◌≤◌, get_or, Bool, true, false, not, ◌&&◌, List, [], ◌∷◌, ◌++◌, length, take, drop, Option, Some, None, refl, sym, ap, ◌∙◌, append_assoc, arith}
-use Rattle.std.specs.Prelude.{if◌then◌else◌, option_map, ◌==◌}
+use Rattle.std.proofs.Common.{◌≡◌, ℕ, zero, suc, ◌-◌, ◌<◌, ◌≤◌, get_or, true, false, List, [], ◌∷◌, ◌++◌, length, take, drop, Option, Some, None, refl, sym, ap, ◌∙◌, append_assoc, arith}
+use Rattle.std.specs.Prelude.{option_map, ◌==◌}
 use Rattle.std.proofs.lemmas.Bool.{eq-eqb, ne_eqb}
 use Rattle.std.proofs.lemmas.List.{take_all}
 use Rattle.wm_grammar.specs.declared.command.Command.{Command}
@@ -8,8 +8,8 @@ use Rattle.wm_grammar.specs.declared.batch.Key.{Key}
 use Rattle.wm_grammar.specs.declared.batch.Group.{Group}
 use Rattle.wm_grammar.specs.Pieces.{◌>>=◌, starts, skip}
 use Rattle.wm_grammar.specs.Openings.{command_at}
-use Rattle.wm_grammar.specs.Criteria.{keys_at, key_at, closed_keys, and_keys, ends_key, has_place, place_of}
-use Rattle.wm_grammar.specs.Reading.{Commands, Groups, commands_at, and_commands, before_commands, groups_at, some_groups, and_groups, group_at}
+use Rattle.wm_grammar.specs.Criteria.{keys_at, key_at, closed_keys, and_keys}
+use Rattle.wm_grammar.specs.Reading.{Commands, Groups, commands_at, and_commands, before_commands, groups_at, some_groups, group_at}
 
 -- ---- keys
 

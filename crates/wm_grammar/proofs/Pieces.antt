@@ -1,5 +1,5 @@
 -- The pieces of a text: where they stop, what trimming leaves, what quoted text reads as.
-use Rattle.std.proofs.Common.{◌≡◌, ℕ, zero, suc, ◌+◌, ◌-◌, ◌<◌, ◌≤◌, Bool, true, false, cond, not, ◌||◌, ◌&&◌, List, [], ◌∷◌, ◌++◌, length, get_or, take, drop, Option, Some, None, refl, sym, ap, ◌∙◌, append_assoc, arith, rules}
+use Rattle.std.proofs.Common.{◌≡◌, ℕ, zero, suc, ◌+◌, ◌-◌, ◌<◌, ◌≤◌, Bool, true, false, ◌&&◌, List, [], ◌∷◌, ◌++◌, length, get_or, take, drop, Option, Some, None, refl, sym, ap, ◌∙◌, append_assoc, arith}
 use Rattle.std.specs.Prelude.{if◌then◌else◌}
 use Rattle.wm_grammar.specs.Farthest.{before_quote, before_last_quote}
 use Rattle.std.specs.Prelude.{◌==◌, nat_le, IsUtf8}
@@ -8,7 +8,7 @@ use Rattle.std.proofs.Common.{inl, inr}
 use Rattle.std.proofs.lemmas.Bool.{ne_eqb, le-leb, lt-leb, cases_Bool}
 use Rattle.std.proofs.lemmas.List.{take_all, take_more}
 use Rattle.std.proofs.lemmas.Str.{IsUtf8-from_is_utf8, is_utf8-from_IsUtf8}
-use Rattle.wm_grammar.specs.Pieces.{until, from, skip, trim_end, kept_before, is_blank, is_nil, unquote, with_byte, argument}
+use Rattle.wm_grammar.specs.Pieces.{until, from, trim_end, kept_before, is_blank, unquote, with_byte, argument}
 
 -- ---- where a piece stops
 

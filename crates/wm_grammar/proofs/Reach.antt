@@ -1,5 +1,5 @@
 -- How far a text reads.
-use Rattle.std.proofs.Common.{◌≡◌, ℕ, zero, suc, ◌+◌, ◌-◌, ◌<◌, ◌≤◌, Bool, true, false, List, [], ◌∷◌, ◌++◌, length, take, drop, refl, sym, arith}
+use Rattle.std.proofs.Common.{◌≡◌, ℕ, ◌<◌, ◌≤◌, true, false, List, length, take, refl, arith}
 use Rattle.wm_grammar.specs.Pieces.{skip}
 use Rattle.wm_grammar.specs.Reading.{IsReach, is_whole, groups_of, groups_at}
 

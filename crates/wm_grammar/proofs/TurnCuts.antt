@@ -1,18 +1,15 @@
 -- The turns of reading a text: up to the end of each command, or over a blank group.
-use Rattle.std.proofs.Common.{◌≡◌, ℕ, zero, suc, ◌+◌, ◌-◌, ◌<◌, ◌≤◌, ◌⊎◌, Bool, true, false, List, [], ◌∷◌, ◌++◌, length, take, drop, Option, Some, None, refl, sym, ap, subst, ◌∙◌, append_assoc, arith, inl, inr}
-use Rattle.std.specs.Prelude.{if◌then◌else◌, ◌==◌, ◌||◌, ◌&&◌, not, option_map, is_some}
-use Rattle.std.proofs.lemmas.Bool.{eqb-true}
-use Rattle.std.proofs.lemmas.List.{length-append}
+use Rattle.std.proofs.Common.{◌≡◌, ℕ, ◌⊎◌, Bool, true, false, List, [], ◌∷◌, ◌++◌, Option, Some, None, refl, sym, ap, subst, ◌∙◌, arith, inl, inr}
+use Rattle.std.specs.Prelude.{if◌then◌else◌, ◌==◌, option_map}
 use Rattle.wm_grammar.specs.declared.command.Command.{Command}
 use Rattle.wm_grammar.specs.declared.batch.Criteria.{Criteria}
-use Rattle.wm_grammar.specs.declared.batch.Group.{Group}
-use Rattle.wm_grammar.specs.Pieces.{◌>>=◌, is_blank, is_end, starts, until, from, skip, word}
+use Rattle.wm_grammar.specs.Pieces.{◌>>=◌, until, from, skip}
 use Rattle.wm_grammar.specs.Forms.{verb_of}
 use Rattle.wm_grammar.specs.Pieces.{is_word}
 use Rattle.wm_grammar.specs.Openings.{command_at}
-use Rattle.wm_grammar.specs.Reading.{Commands, Groups, and_commands, before_commands, commands_at, criteria_part, group_of, group_at, and_groups, some_groups, groups_at, groups_of}
-use Rattle.wm_grammar.proofs.Cuts.{Cut, Suffix, suffix_refl, suffix_cons, suffix_trans, suffix_length, cut_suffix, cut_long, skip_cut, skip_cut_kept, skip_suffix, Ext, Quoted, Late, AllSome, if_some}
-use Rattle.wm_grammar.proofs.CutCommands.{bind_some, map_some, each_some, any_some, some_at, Tail, Weak, Kept, command_weak, command_suffix, command_kept}
+use Rattle.wm_grammar.specs.Reading.{criteria_part}
+use Rattle.wm_grammar.proofs.Cuts.{Cut, Suffix, suffix_refl, suffix_trans, cut_suffix, skip_cut, skip_cut_kept, skip_suffix, Quoted, AllSome, if_some}
+use Rattle.wm_grammar.proofs.CutCommands.{bind_some, map_some, each_some, Tail, Weak, Kept, command_weak, command_suffix, command_kept}
 use Rattle.wm_grammar.proofs.CutCriteria.{Grows, criteria_grow, criteria_suffix}
 use Rattle.wm_grammar.specs.Turns.{command_turn, front_turn, turn_at}
 

@@ -1,5 +1,5 @@
 -- What reading a text answers.
-use Rattle.std.specs.Prelude.{◌≡◌, ℕ, List, Option, None, Result, Ok, Err, ⊤}
+use Rattle.std.specs.Prelude.{◌≡◌, ℕ, List, None, Result, Ok, Err, ⊤}
 use Rattle.wm_grammar.specs.declared.batch.Batch.{Batch}
 use Rattle.wm_grammar.specs.declared.refusal.ReadRefusal.{ReadRefusal}
 use Rattle.wm_grammar.specs.declared.refusal.ReadRefusal.TheVariants as refusals

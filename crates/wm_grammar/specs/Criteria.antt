@@ -1,5 +1,5 @@
 -- Criteria: keys between brackets.
-use Rattle.std.specs.Prelude.{◌≡◌, ℕ, zero, suc, Bool, true, false, not, ◌||◌, ◌&&◌, ◌==◌, if◌then◌else◌, List, [], ◌∷◌, ◌++◌, drop, Option, Some, None, codes, option_map}
+use Rattle.std.specs.Prelude.{ℕ, zero, suc, Bool, true, false, not, ◌||◌, ◌&&◌, ◌==◌, if◌then◌else◌, List, [], ◌∷◌, ◌++◌, drop, Option, Some, None, codes, option_map}
 use Rattle.wm_grammar.specs.declared.batch.Key.{Key}
 use Rattle.wm_grammar.specs.declared.batch.Key.TheVariants as keys
 use Rattle.wm_grammar.specs.declared.keys.KeyName.{KeyName}

@@ -1,8 +1,7 @@
 -- The forms of commands that have no text of their own: keywords and numbers alone.
-use Rattle.std.specs.Prelude.{◌≡◌, ℕ, Bool, true, false, ◌||◌, ◌&&◌, ◌==◌, if◌then◌else◌, List, [], ◌∷◌, Option, Some, None, ℤ, codes, option_map}
+use Rattle.std.specs.Prelude.{ℕ, Bool, true, false, ◌||◌, ◌&&◌, if◌then◌else◌, List, [], ◌∷◌, Option, Some, None, codes, option_map}
 use Rattle.wm_base.specs.declared.geometry.Dir.{Dir}
 use Rattle.wm_base.specs.declared.geometry.Dir.TheVariants as dirs
-use Rattle.wm_base.specs.declared.plan.Border.{Border}
 use Rattle.wm_base.specs.declared.plan.Border.TheVariants as borders
 use Rattle.wm_grammar.specs.declared.arguments.SplitArg.{SplitArg}
 use Rattle.wm_grammar.specs.declared.arguments.SplitArg.TheVariants as splits
@@ -18,7 +17,6 @@ use Rattle.wm_grammar.specs.declared.arguments.OutArg.{OutArg}
 use Rattle.wm_grammar.specs.declared.arguments.OutArg.TheVariants as outs
 use Rattle.wm_grammar.specs.declared.arguments.Target.{Target}
 use Rattle.wm_grammar.specs.declared.arguments.Target.TheVariants as targets
-use Rattle.wm_grammar.specs.declared.arguments.SwapArg.{SwapArg}
 use Rattle.wm_grammar.specs.declared.arguments.SwapArg.TheVariants as swaps
 use Rattle.wm_grammar.specs.declared.arguments.Side.{Side}
 use Rattle.wm_grammar.specs.declared.arguments.Side.TheVariants as sides

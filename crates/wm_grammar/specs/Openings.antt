@@ -1,10 +1,7 @@
 -- The forms of commands that end in a text: their keywords, and the text.
-use Rattle.std.specs.Prelude.{◌≡◌, ℕ, ◌-◌, Bool, true, false, ◌||◌, ◌&&◌, ◌==◌, if◌then◌else◌, List, [], ◌∷◌, ◌++◌, length, drop, Option, Some, None, codes, option_map}
-use Rattle.wm_grammar.specs.declared.arguments.OutArg.{OutArg}
+use Rattle.std.specs.Prelude.{ℕ, ◌-◌, Bool, true, false, ◌||◌, ◌&&◌, if◌then◌else◌, List, [], ◌∷◌, ◌++◌, length, drop, Option, Some, None, codes, option_map}
 use Rattle.wm_grammar.specs.declared.arguments.OutArg.TheVariants as outs
-use Rattle.wm_grammar.specs.declared.arguments.Target.{Target}
 use Rattle.wm_grammar.specs.declared.arguments.Target.TheVariants as targets
-use Rattle.wm_grammar.specs.declared.arguments.SwapArg.{SwapArg}
 use Rattle.wm_grammar.specs.declared.arguments.SwapArg.TheVariants as swaps
 use Rattle.wm_grammar.specs.declared.command.Command.{Command}
 use Rattle.wm_grammar.specs.declared.command.Command.TheVariants as commands

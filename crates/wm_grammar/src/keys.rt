@@ -5,9 +5,10 @@ ghost use Rattle.wm_grammar.specs.Fitted.{piece_bytes};
 ghost use Rattle.wm_grammar.specs.Pieces.{choice};
 
 use crate::batch::Key;
+use crate::numbers::natural;
 use crate::reading::Piece;
 use crate::verbs::choice;
-use crate::words::{Stop, argument, cut, is_text, natural, past, skip, starts, unquote};
+use crate::words::{Stop, argument, cut, is_text, past, skip, starts, unquote};
 use std::alloc::Global;
 use wm_base::{NoMemory, Text};
 

@@ -9,11 +9,13 @@ mod groups;
 mod keys;
 mod keywords;
 mod moving;
+mod numbers;
 mod opening;
 mod plain;
 mod printing;
 mod reading;
 mod refusal;
+mod resizing;
 mod search;
 mod texts;
 mod verbs;
@@ -29,5 +31,7 @@ pub use command::Command;
 pub use refusal::ReadRefusal;
 pub use texts::{one_batch, one_reach, printed_again, read, readable};
 
+#[cfg(test)]
+mod size_tests;
 #[cfg(test)]
 mod tests;

@@ -4,8 +4,9 @@ ghost use Rattle.wm_grammar.specs.Forms.{move_by, position_form, move_to_form, p
 
 use crate::command::Command;
 use crate::keywords::{dir_of, sent_of};
+use crate::numbers::{integer, natural};
 use crate::plain::only_output;
-use crate::words::{after, integer, is_word, natural, says, single, split_word};
+use crate::words::{is_word, single, split_word};
 use wm_base::Dir;
 
 /// What follows the word `px`, or all where it does not stand first.

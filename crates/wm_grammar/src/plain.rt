@@ -1,6 +1,6 @@
 //! The forms of commands that have no text of their own: keywords and numbers alone.
 ghost use Rattle.std.specs.Prelude.{◌≡◌, option_copied};
-ghost use Rattle.wm_grammar.specs.Forms.{split_form, layout_form, only_output, focus_word, focus_form, resize_by, resize_set, resize_form, amounts, hundredths, fullscreen_form, width_form, border_form, gaps_form, kill_form, scratchpad_form, plain_form, swap_form, past_with, past_px};
+ghost use Rattle.wm_grammar.specs.Forms.{split_form, layout_form, only_output, focus_word, focus_form, fullscreen_form, width_form, border_form, gaps_form, kill_form, scratchpad_form, plain_form, swap_form, past_with};
 
 use crate::arguments::{Cycle, OnOff, OutArg, SwapArg};
 use crate::command::Command;
@@ -8,9 +8,11 @@ use crate::keywords::{
     cycle_of, dir_of, gap_op, is_all, is_outer, kind_of, layout_arg, on_off, output_of, side_of,
     split_arg, target_of,
 };
-use crate::moving::{move_form, past_px};
+use crate::moving::move_form;
+use crate::numbers::only_number;
+use crate::resizing::resize_form;
 use crate::verbs::Verb;
-use crate::words::{after, is_word, natural, only_number, says, single, split_word};
+use crate::words::{after, is_word, says, single, split_word};
 use wm_base::Border;
 
 /// The command of a verb and what follows it, where it has no text.
@@ -133,89 +135,6 @@ fn swap_form(rest: &[u8]) -> Option<Command>
         return only_number(after(more)).map(|n| Command::Swap(SwapArg::Window(n)));
     }
     None
-}
-
-#[tactic(auto, unfolding(crate::specs::Forms::resize_form))]
-fn resize_form(rest: &[u8]) -> Option<Command>
-    ensures { result ≡ resize_form rest.now }
-{
-    let (first, more) = split_word(rest);
-    if is_word(first, b"set") {
-        return resize_set(more);
-    }
-    if is_word(first, b"grow") {
-        return resize_by(true, more);
-    }
-    if is_word(first, b"shrink") {
-        return resize_by(false, more);
-    }
-    None
-}
-
-#[tactic(auto, unfolding(crate::specs::Forms::resize_set))]
-fn resize_set(rest: &[u8]) -> Option<Command>
-    ensures { result ≡ resize_set rest.now }
-{
-    let (first, more) = split_word(rest);
-    let width = natural(first)?;
-    let (second, more) = split_word(past_px(more));
-    let height = natural(second)?;
-    past_px(more)
-        .is_empty()
-        .then_some(Command::ResizeSet(width, height))
-}
-
-#[tactic(auto, unfolding(crate::specs::Forms::resize_by))]
-fn resize_by(grow: bool, rest: &[u8]) -> Option<Command>
-    ensures { result ≡ resize_by grow rest.now }
-{
-    let (first, more) = split_word(rest);
-    let side = side_of(first)?;
-    let (px, ppt) = amounts(more)?;
-    Some(Command::Resize {
-        grow,
-        side,
-        px,
-        ppt,
-    })
-}
-
-/// By how many pixels and hundredths to resize.
-#[tactic(auto, unfolding(crate::specs::Forms::amounts))]
-fn amounts(rest: &[u8]) -> Option<(u32, u32)>
-    ensures { result ≡ amounts rest.now }
-{
-    if rest.is_empty() {
-        return Some((10, 10));
-    }
-    let (first, more) = split_word(rest);
-    let px = natural(first)?;
-    if says(more, b"px") {
-        hundredths(px, after(more))
-    } else {
-        None
-    }
-}
-
-/// The pixels, and the hundredths behind them.
-#[tactic(auto, unfolding(crate::specs::Forms::hundredths))]
-fn hundredths(px: u32, rest: &[u8]) -> Option<(u32, u32)>
-    ensures { result ≡ hundredths px rest.now }
-{
-    if rest.is_empty() {
-        return Some((px, 0));
-    }
-    let (first, more) = split_word(rest);
-    if !is_word(first, b"or") {
-        return None;
-    }
-    let (second, more) = split_word(more);
-    let ppt = natural(second)?;
-    if says(more, b"ppt") {
-        after(more).is_empty().then_some((px, ppt))
-    } else {
-        None
-    }
 }
 
 #[tactic(auto, unfolding(crate::specs::Forms::fullscreen_form))]

@@ -1,6 +1,6 @@
-//! The pieces of a text on slices of its bytes: blanks, words, numbers and quoted arguments.
-ghost use Rattle.std.specs.Prelude.{◌≡◌, drop, ◌∷◌, [], ◌||◌, IfOk, option_map, option_copied, ◌≤◌, length, pos, neg_ℤ};
-ghost use Rattle.wm_grammar.specs.Pieces.{ends, is_text, starts, is_word, until, from, has, skip, trim_end, word, after, single, says, lower, natural, integer, argument, unquote, with_byte, only_number, digits_from, digit};
+//! The pieces of a text on slices of its bytes: blanks, words and quoted arguments.
+ghost use Rattle.std.specs.Prelude.{◌≡◌, ◌∷◌, ◌≤◌, length, drop, IfOk, option_map, option_copied};
+ghost use Rattle.wm_grammar.specs.Pieces.{ends, is_text, starts, is_word, until, from, has, skip, trim_end, word, after, single, says, lower, argument, unquote, with_byte};
 ghost use Rattle.wm_grammar.specs.Words.{stops};
 
 use std::alloc::Global;
@@ -184,57 +184,6 @@ pub fn ends(text: &[u8]) -> bool
     }
 }
 
-/// The number that 1 to 10 digits make, at most 4,294,967,295.
-#[tactic(auto, unfolding(crate::specs::Pieces::natural, crate::specs::Pieces::digits_from))]
-pub fn natural(word: &[u8]) -> Option<u32>
-    ensures { result ≡ natural word.now }
-{
-    if word.is_empty() || word.len() > 10 {
-        return None;
-    }
-    let mut n: u32 = 0;
-    let mut rest = word;
-    while let [c, more @ ..] = rest {
-        n = with_digit(n, *c)?;
-        rest = more;
-    }
-    Some(n)
-}
-
-/// Ten times the number and the value of the digit.
-#[tactic(auto, unfolding(crate::specs::Pieces::digits_from))]
-fn with_digit(n: u32, c: u8) -> Option<u32>
-    ensures { result ≡ digits_from n (c ∷ []) }
-{
-    if c < b'0' || c > b'9' {
-        return None;
-    }
-    u32::try_from(10 * n as u64 + (c - b'0') as u64).ok()
-}
-
-/// The number that such digits make, with `-` before them or not.
-#[tactic(auto, unfolding(crate::specs::Pieces::integer))]
-pub fn integer(word: &[u8]) -> Option<i64>
-    ensures { result ≡ integer word.now }
-{
-    match word {
-        [] => None,
-        [c, digits @ ..] => {
-            if *c == b'-' {
-                return natural(digits).map(|n| negative(n));
-            }
-            natural(word).map(|n| i64::from(n))
-        }
-    }
-}
-
-/// The number as one below 0.
-fn negative(n: u32) -> i64
-    ensures { result ≡ neg_ℤ (pos n) }
-{
-    -(n as i64)
-}
-
 /// The word of a text that has no other.
 #[tactic(auto, unfolding(crate::specs::Pieces::single))]
 pub fn single(text: &[u8]) -> Option<&[u8]>
@@ -242,13 +191,6 @@ pub fn single(text: &[u8]) -> Option<&[u8]>
 {
     let (first, rest) = split_word(text);
     if rest.is_empty() { Some(first) } else { None }
-}
-
-/// The number that is all of the text.
-pub fn only_number(text: &[u8]) -> Option<u32>
-    ensures { result ≡ only_number text.now }
-{
-    natural(single(text)?)
 }
 
 /// Whether the first word is this name, in any case.

@@ -1,9 +1,8 @@
-use Rattle.std.proofs.Common.{arith, ◌≡◌, ◌<◌, ◌≤◌, ◌∷◌, [], ◌++◌, List, ℕ, Some, Vec, refl, ap, ◌∙◌, ◌-◌, take, drop, length, get_or, suc}
+use Rattle.std.proofs.Common.{arith, ◌≡◌, ◌<◌, ◌≤◌, ◌∷◌, [], ◌++◌, List, ℕ, Some, refl, ap, ◌∙◌, ◌-◌, take, drop, length, get_or}
 use denote.Bor.{Bor}
-use Rattle.wm_grammar.specs.declared.batch.Group.{Group}
 use Rattle.wm_grammar.specs.Pieces.{skip}
-use Rattle.wm_grammar.specs.Reading.{groups_at, group_at}
-use Rattle.wm_grammar.proofs.Loops.{groups_step, groups_blank, with_groups}
+use Rattle.wm_grammar.specs.Reading.{group_at}
+use Rattle.wm_grammar.proofs.Loops.{groups_step, groups_blank}
 use Rattle.wm_grammar.proofs.groups.groups_of.Goals as goal
 use Rattle.wm_grammar.proofs.groups.groups_of.Goals.{then-first-eq59, else-first-eq59+in_ok-group+in-Some+in_ok-push}
 

@@ -1,5 +1,4 @@
-use Rattle.std.proofs.Common.{arith, ◌≡◌, ◌<◌, ◌≤◌, ◌-◌, Option, Some, None, ℕ, List, sym, ap, ◌∙◌}
-use Rattle.wm_grammar.specs.Pieces.{first_of}
+use Rattle.std.proofs.Common.{arith, ◌≡◌, ◌-◌, Some, None, ◌∙◌}
 use Rattle.wm_grammar.specs.Farthest.{here, farthest}
 use Rattle.wm_grammar.specs.Turns.{turn_at}
 use Rattle.wm_grammar.proofs.Bounds.{farthest_within, search_none, search_stop, search_end, search_more}

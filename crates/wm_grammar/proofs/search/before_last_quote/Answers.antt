@@ -1,4 +1,4 @@
-use Rattle.std.proofs.Common.{◌≡◌, ◌≤◌, ◌<◌, ◌-◌, length, arith, [], ap, ◌∙◌, sym, List, ℕ, refl, None, ◌∷◌}
+use Rattle.std.proofs.Common.{◌≡◌, ◌<◌, ◌-◌, length, arith, [], ◌∙◌, sym, List, ℕ, refl, None, ◌∷◌}
 use Rattle.std.proofs.lemmas.List.{length-take}
 use Rattle.wm_grammar.specs.Farthest.{before_last_quote}
 use Rattle.wm_grammar.proofs.Pieces.{last_quote_found, last_quote_other}

@@ -1,8 +1,6 @@
-use Rattle.std.proofs.Common.{arith, ◌≡◌, Some, ap, List}
-use Rattle.std.specs.Prelude.{option_map}
+use Rattle.std.proofs.Common.{arith}
 use Rattle.wm_grammar.specs.declared.batch.Batch.{Batch}
-use Rattle.wm_grammar.specs.declared.batch.Group.{Group}
-use Rattle.wm_grammar.specs.Reading.{groups_of, Reads}
+use Rattle.wm_grammar.specs.Reading.{Reads}
 use Rattle.wm_grammar.proofs.Fits.{readable}
 use Rattle.wm_grammar.proofs.texts.read.Goals as goal
 

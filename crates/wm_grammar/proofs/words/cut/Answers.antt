@@ -1,4 +1,3 @@
-use Rattle.std.proofs.Common.{arith}
 use Rattle.wm_grammar.specs.Words.{stops}
 use Rattle.wm_grammar.proofs.Pieces.{until_found, from_found, until_end, from_end}
 use Rattle.wm_grammar.proofs.words.cut.Goals as goal

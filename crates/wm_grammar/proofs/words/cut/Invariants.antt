@@ -1,4 +1,3 @@
-use Rattle.std.proofs.Common.{◌≡◌, ℕ, ◌<◌, false, get_or}
 use Rattle.wm_grammar.specs.Words.{stops}
 use Rattle.wm_grammar.proofs.Pieces.{NoneBefore}
 use Rattle.wm_grammar.proofs.words.cut.Given as goal

@@ -1,6 +1,5 @@
 use Rattle.std.proofs.Common.{◌≡◌, length}
-use Rattle.wm_grammar.specs.Pieces.{has, skip}
-use Rattle.wm_grammar.specs.Words.{stops}
+use Rattle.wm_grammar.specs.Pieces.{skip}
 use Rattle.wm_grammar.proofs.words.skip.Given as goal
 
 abbrev pub invariant-loop-rest : goal.invariant-loop-rest

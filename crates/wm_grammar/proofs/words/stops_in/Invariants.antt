@@ -1,5 +1,5 @@
 use Rattle.std.proofs.Common.{◌≡◌, length}
-use Rattle.wm_grammar.specs.Pieces.{has, skip}
+use Rattle.wm_grammar.specs.Pieces.{has}
 use Rattle.wm_grammar.specs.Words.{stops}
 use Rattle.wm_grammar.proofs.words.stops_in.Given as goal
 

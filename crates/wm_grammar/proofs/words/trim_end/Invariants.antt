@@ -1,6 +1,5 @@
 use Rattle.std.proofs.Common.{◌≡◌, length}
 use Rattle.wm_grammar.specs.Pieces.{trim_end}
-use Rattle.wm_grammar.specs.Words.{stops}
 use Rattle.wm_grammar.proofs.words.trim_end.Given as goal
 
 abbrev pub invariant-loop-rest : goal.invariant-loop-rest

@@ -1,4 +1,4 @@
-use Rattle.std.proofs.Common.{arith, ◌≡◌, ap, sym, ◌∙◌, ◌∷◌, [], ◌++◌, List, ℕ}
+use Rattle.std.proofs.Common.{arith, ◌≡◌, ap, ◌∙◌, ◌∷◌, [], ◌++◌, List, ℕ}
 use Rattle.wm_grammar.specs.Pieces.{unquote}
 use Rattle.wm_grammar.proofs.Pieces.{unquote-step, with_front}
 use Rattle.wm_grammar.proofs.words.unquote.Goals as goal

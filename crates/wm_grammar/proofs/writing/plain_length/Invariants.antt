@@ -1,4 +1,4 @@
-use Rattle.std.proofs.Common.{◌≡◌, ℕ, ◌<◌, ◌≤◌, false, get_or, length}
+use Rattle.std.proofs.Common.{◌≡◌, ℕ, ◌<◌, false, get_or}
 use Rattle.wm_grammar.specs.Spelling.{is_special}
 use Rattle.wm_grammar.proofs.writing.plain_length.Given as goal
 

@@ -1,6 +1,4 @@
-use Rattle.std.proofs.Common.{arith, ◌≡◌, ◌<◌, ◌≤◌, ◌∷◌, [], ◌++◌, List, ℕ, ap, ◌∙◌, sym, true, length, take, drop, get_or, string_bytes}
-use Rattle.std.specs.Prelude.{IsCharBoundary}
-use Rattle.wm_grammar.specs.Spelling.{escaped, is_special}
+use Rattle.std.proofs.Common.{arith, ◌≡◌, ◌<◌, ◌≤◌, ◌∷◌, [], ◌++◌, List, ℕ, ap, ◌∙◌, length, string_bytes}
 use Rattle.wm_grammar.proofs.Escapes.{escaped_step, escaped_end, tail_of, not_empty, is_empty}
 use Rattle.wm_grammar.proofs.writing.put_escaped.Goals as goal
 

@@ -1,11 +1,10 @@
 -- Printed numbers are read again, whatever follows them.
-use Rattle.std.proofs.Common.{◌≡◌, ℕ, zero, suc, ◌+◌, ◌-◌, ◌*◌, ◌/◌, ◌%◌, ◌^◌, ◌<◌, ◌≤◌, Bool, true, false, List, [], ◌∷◌, ◌++◌, length, Option, Some, None, refl, sym, ap, subst, ◌∙◌, append_assoc, arith, decimal, ℤ, pos, negsuc}
-use Rattle.std.specs.Prelude.{if◌then◌else◌, ◌==◌, ◌||◌, ◌&&◌, nat_le, nat_lt, nat_abs}
-use Rattle.std.specs.Fmt.{signed_decimal}
-use Rattle.std.proofs.lemmas.Bool.{or_parts, ne_eqb, eq-eqb, lt-ltb, le-ltb, le-leb, lt-leb}
+use Rattle.std.proofs.Common.{◌≡◌, ℕ, ◌+◌, ◌*◌, ◌/◌, ◌%◌, ◌^◌, ◌<◌, ◌≤◌, Bool, true, false, List, [], ◌∷◌, ◌++◌, length, Option, Some, None, refl, sym, ap, ◌∙◌, append_assoc, arith, decimal}
+use Rattle.std.specs.Prelude.{if◌then◌else◌, ◌==◌, nat_le, nat_lt}
+use Rattle.std.proofs.lemmas.Bool.{or_parts, ne_eqb, lt-ltb, le-ltb, le-leb, lt-leb}
 use Rattle.std.proofs.lemmas.Fmt.{decimal_by_steps, length-decimal-le}
-use Rattle.std.proofs.lemmas.List.{length-append, append-nil}
-use Rattle.wm_grammar.specs.Pieces.{◌>>=◌, is_blank, is_end, is_gap, is_nil, until, from, has, skip, word, after, is_word, lower, digit, digits_from, natural, integer, below_zero, above_zero, single, only_number}
+use Rattle.std.proofs.lemmas.List.{append-nil}
+use Rattle.wm_grammar.specs.Pieces.{◌>>=◌, is_blank, is_end, is_nil, until, from, has, skip, word, after, is_word, digit, digits_from, natural, single, only_number}
 
 -- ---- pieces that end where they were joined
 

@@ -1,6 +1,6 @@
 use Rattle.std.proofs.Common.{◌≡◌, length}
 use Rattle.wm_grammar.specs.Pieces.{digits_from}
-use Rattle.wm_grammar.proofs.words.natural.Given as goal
+use Rattle.wm_grammar.proofs.numbers.natural.Given as goal
 
 abbrev pub invariant-loop-rest : goal.invariant-loop-rest
 invariant-loop-rest l = digits_from l.n l.rest ≡ digits_from 0 l.word
