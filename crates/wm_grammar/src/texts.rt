@@ -1,0 +1,91 @@
+//! Reading a text as a batch.
+ghost use Rattle.std.specs.Prelude.{◌≡◌, ◌<◌, ◌≤◌, ℕ, List, false, length, take, IfOk};
+ghost use Rattle.wm_grammar.specs.Answer.{IsAnswer};
+ghost use Rattle.wm_grammar.specs.Readable.{IsReadable};
+ghost use Rattle.wm_grammar.specs.Spelling.{spelling};
+ghost use Rattle.wm_grammar.specs.Reading.{Reads, IsReach, is_whole};
+ghost use Rattle.wm_grammar.specs.declared.batch.Batch.{Batch};
+
+use crate::batch::Batch;
+use crate::groups::groups_of;
+use crate::refusal::ReadRefusal;
+use crate::search::farthest;
+use std::alloc::Global;
+use wm_base::{List, NoMemory};
+
+/// The batch of which the text is a spelling. The text is refused exactly where there is none, with the number
+/// of bytes at its front that are empty, or read and end with `;`.
+#[tactic(auto, using(crate::proofs::Fits::readable))]
+pub fn read(alloc: Global, text: &str) -> Result<Batch, ReadRefusal>
+    ensures answer { IsAnswer text.now result }
+    ensures readable { IfOk result (λ b. IsReadable b) }
+{
+    let bytes = text.as_bytes();
+    if let Some(groups) = groups_of(alloc, bytes)? {
+        return Ok(Batch {
+            groups: List::of(groups),
+        });
+    }
+    let at = reach(alloc, bytes)?;
+    Err(ReadRefusal::Bad { at })
+}
+
+/// The greatest number of bytes at the front that are empty, or read and end with `;`. The search finds a number
+/// that is not too small; it is the right one, so that the loop ends at once.
+fn reach(alloc: Global, text: &[u8]) -> Result<usize, NoMemory>
+    ensures { IfOk result (λ n. IsReach text.now n) }
+{
+    let mut n = bound(alloc, text)?;
+    while n > 0 {
+        if is_whole(alloc, &text[..n])? {
+            return Ok(n);
+        }
+        n -= 1;
+    }
+    Ok(0)
+}
+
+/// A number of bytes such that no more at the front read and end with `;`.
+fn bound(alloc: Global, text: &[u8]) -> Result<usize, NoMemory>
+    ensures within { IfOk result (λ n. n ≤ length text.now) }
+    ensures none { IfOk result (λ n. (m : ℕ) → n < m → m ≤ length text.now → is_whole (take m text.now) ≡ false) }
+{
+    match farthest(alloc, text.len() + 1, true, text)? {
+        Some(behind) => Ok(text.len() - behind),
+        None => Ok(0),
+    }
+}
+
+/// Whether the text is empty, or reads and ends with `;`.
+fn is_whole(alloc: Global, text: &[u8]) -> Result<bool, NoMemory>
+    ensures { IfOk result (λ b. b ≡ is_whole text.now) }
+{
+    if let [.., last] = text
+        && *last != b';'
+    {
+        return Ok(false);
+    }
+    Ok(groups_of(alloc, text)?.is_some())
+}
+
+/// A text is a spelling of at most one batch.
+pub fn one_batch()
+    ensures { (text : List ℕ) (a b : Batch) → Reads text a → Reads text b → a ≡ b }
+{}
+
+/// A text reads up to one place alone.
+pub fn one_reach()
+    ensures { (text : List ℕ) (m n : ℕ) → IsReach text m → IsReach text n → m ≡ n }
+{}
+
+/// A batch that some text reads as can be printed.
+#[tactic(auto, using(crate::proofs::Fits::readable))]
+pub fn readable()
+    ensures { (text : List ℕ) (b : Batch) → Reads text b → IsReadable b }
+{}
+
+/// A batch that can be printed is one that some text reads as, and its printed spelling is such a text.
+#[tactic(auto, using(crate::proofs::BatchesAgain::batch_again))]
+pub fn printed_again()
+    ensures { (b : Batch) → IsReadable b → Reads (spelling b) b }
+{}
