@@ -1,4 +1,4 @@
-//! The program i3replay: replays scripts of windows on the desktop of i3.
+//! The program i3replay: replays scripts of windows, and answers frames of i3-ipc, on the desktop of i3.
 #![tactic(auto)]
 
 use std::alloc::AllocError;
@@ -10,9 +10,10 @@ use wm_tool::{Status, tool};
 
 /// What `--help` writes.
 const HELP: &str = "\
-i3replay: replays scripts of windows on the desktop of i3.
+i3replay: replays scripts of windows, and answers frames of i3-ipc, on the desktop of i3.
 
 usage: i3replay replay < SCRIPT    write the answers and frames of a script
+       i3replay ipc < FRAMES       write the replies to the messages of i3-ipc
        i3replay --help             write this text
        i3replay --version          write the version
 
@@ -23,7 +24,10 @@ A script has one of these on each line:
   run layout splitv    lay the windows out one above another
   paint                write the frame
 
-Exit status: 0 done, 2 bad words, 3 bad script, 6 input too large, 7 read fault, 8 write fault, 9 no memory.
+Of the messages RUN_COMMAND with `layout splith`, `layout splitv`, `exit` or `nop` and GET_VERSION do what
+they say. The other types up to 12 are answered {\"success\":false}, and those above have no reply.
+
+Exit status: 0 done, 2 bad words, 3 bad script, 4 bad frames, 5 frames cut short, 6 input too large, 7 read fault, 8 write fault, 9 no memory.
 ";
 
 /// What `--version` writes.

@@ -13,7 +13,7 @@ use Rattle.wm_core.specs.declared.frame.Quad.{Quad}
 use Rattle.wm_core.specs.declared.frame.What.{What}
 use Rattle.wm_core.specs.declared.frame.What.TheVariants as shows
 use Rattle.wm_core.specs.declared.step.Step.{Step}
-use Rattle.wm_core.specs.declared.step.Step.TheVariants.{Map, Close, SetLayout}
+use Rattle.wm_core.specs.declared.step.Step.TheVariants.{Map, Close, SetLayout, Nop, Exit, Unread}
 use Rattle.wm_core.specs.History.{Entry, tree, has_no_pixels, limit_of}
 use Rattle.wm_core.specs.Schedule.{Turn, turn, done}
 
@@ -28,6 +28,9 @@ abbrev pub buffer_after : TreeValue → Step → ConId → Option Buffer → Opt
 buffer_after t (Map buffer) v before = if has_no_pixels buffer.size then before else given_by t buffer (limit_of t) v before
 buffer_after t (Close c) v before = before
 buffer_after t (SetLayout layout) v before = before
+buffer_after t Nop v before = before
+buffer_after t Exit v before = before
+buffer_after t (Unread at) v before = before
 
 -- the last buffer that v was mapped with in the history
 abbrev pub shown : TreeValue → List Entry → ConId → Option Buffer

@@ -15,9 +15,9 @@ use Rattle.wm_tree.specs.TreeValue.{TreeValue, opening, id, focused, parent, new
 use Rattle.wm_core.specs.declared.plan.Plan.{Plan}
 use Rattle.wm_core.specs.declared.step.Answer.{Answer}
 use Rattle.wm_core.specs.declared.step.Answer.TheVariants.{Done, Mapped, Replies, NoView, Empty, Full}
-use Rattle.wm_core.specs.declared.step.Reply.TheVariants as reply
+use Rattle.wm_json.specs.declared.replies.Reply.TheVariants as reply
 use Rattle.wm_core.specs.declared.step.Step.{Step}
-use Rattle.wm_core.specs.declared.step.Step.TheVariants.{Map, Close, SetLayout}
+use Rattle.wm_core.specs.declared.step.Step.TheVariants.{Map, Close, SetLayout, Nop, Exit, Unread}
 
 -- a step and the number of its caller
 pub record Entry : Type 0 where
@@ -83,12 +83,27 @@ abbrev pub answer_to : TreeValue → ℕ → Step → Answer
 answer_to t who (Map buffer) = if has_no_pixels buffer.size then Empty else map_answer t (limit_of t)
 answer_to t who (Close v) = if is_window t who v then Done else NoView
 answer_to t who (SetLayout layout) = Replies (reply.Ok ∷ [])
+answer_to t who Nop = Replies (reply.Ok ∷ [])
+answer_to t who Exit = Replies (reply.Ok ∷ [])
+answer_to t who (Unread at) = Replies (reply.Parse at ∷ [])
 
 -- the tree that the step leaves; a refused step leaves it as it was
 abbrev pub tree_after : TreeValue → ℕ → Step → TreeValue
 tree_after t who (Map buffer) = if has_no_pixels buffer.size then t else map_tree t who (limit_of t)
 tree_after t who (Close v) = if is_window t who v then detached v t else t
 tree_after t who (SetLayout layout) = with_space_layout (layout_target t) layout t
+tree_after t who Nop = t
+tree_after t who Exit = t
+tree_after t who (Unread at) = t
+
+-- a step that changes nothing
+abbrev pub LeavesAll : Step → Type 0
+LeavesAll Nop = Unit {0}
+LeavesAll Exit = Unit {0}
+LeavesAll (Unread at) = Unit {0}
+LeavesAll (Map buffer) = ⊥
+LeavesAll (Close v) = ⊥
+LeavesAll (SetLayout layout) = ⊥
 
 -- ---- the tree and the answers of a history
 

@@ -4,7 +4,7 @@ use Rattle.wm_base.specs.declared.geometry.Size.{Size}
 use Rattle.wm_base.specs.declared.plan.Layout.{Layout}
 use Rattle.wm_base.specs.declared.plan.Layout.TheVariants.{SplitH, SplitV, Tabbed, Stacked}
 use Rattle.wm_core.specs.declared.step.Step.{Step}
-use Rattle.wm_core.specs.declared.step.Step.TheVariants.{Map, Close, SetLayout}
+use Rattle.wm_core.specs.declared.step.Step.TheVariants.{Map, Close, SetLayout, Nop, Exit, Unread}
 
 -- a buffer's sides are at most 16,384
 pub record IsFitSize (s : Size) : Type 0 where
@@ -22,3 +22,6 @@ abbrev pub IsFitStep : Step → Type 0
 IsFitStep (Map buffer) = IsFitSize buffer.size
 IsFitStep (Close con) = Unit {0}
 IsFitStep (SetLayout layout) = IsSplit layout
+IsFitStep Nop = Unit {0}
+IsFitStep Exit = Unit {0}
+IsFitStep (Unread at) = Unit {0}

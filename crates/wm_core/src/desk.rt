@@ -3,23 +3,25 @@ ghost use Rattle.std.specs.Prelude.{◌≡◌, ◌+◌, ◌<◌, ◌^◌, [], �
 ghost use Rattle.wm_core.specs.Arranged.{arranged};
 ghost use Rattle.wm_core.specs.DeskValue.{next_desk, Stands};
 ghost use Rattle.wm_core.specs.Frame.{frame};
-ghost use Rattle.wm_core.specs.History.{answer, answer_to, has_no_pixels, is_window, layout_target, opening_of, History};
+ghost use Rattle.wm_core.specs.History.{answer, answer_to, has_no_pixels, is_window, layout_target, opening_of, Entry, History, LeavesAll};
 ghost use Rattle.wm_core.specs.Plan.{IsSound};
 ghost use Rattle.wm_core.specs.Sizes.{IsFitStep};
 ghost use Rattle.std.specs.Bool.{OnTrue};
 ghost use Rattle.wm_tree.specs.Look.{has};
 ghost use Rattle.wm_tree.specs.Limits.{IsOutputRect};
 ghost use Rattle.wm_tree.specs.TreeValue.{opening};
+ghost use Rattle.wm_core.specs.declared.step.Answer.TheVariants.{Replies};
 ghost use Rattle.wm_core.specs.declared.step.Step.TheVariants.{Map, Close, SetLayout};
 
 use crate::arrange::{Placed, arrange, same};
 use crate::frame::{Frame, painted};
 use crate::plan::Plan;
-use crate::step::{Answer, Reply, Step};
+use crate::step::{Answer, Step};
 use std::alloc::Global;
 use std::collections::BTreeMap;
 use std::marker::Model;
 use wm_base::{Buffer, ConId, Layout, List, NoMemory, Rect, Size};
+use wm_json::Reply;
 use wm_tree::{ConKind, NewCon, Tree, TreeRefusal};
 
 /// A desk. It stands for the history of the steps that were taken on it, from the opening of its plan.
@@ -76,6 +78,7 @@ impl Desk {
         requires fit { IsFitStep step.now }
         ensures answer { (history : History) → Stands self.old history →
             IfOk result (λ a. a ≡ answer (opening_of self.old.plan) history (record { who = who; step = step.now })) }
+        ensures there { IfOk result (λ a. a ≡ answer_to self.old.tree who step.now) }
         ensures stands { (history : History) → Stands self.old history →
             OnOk result (Stands self.new (record { who = who; step = step.now } ∷ history)) }
         ensures plan { self.new.plan ≡ self.old.plan }
@@ -86,6 +89,8 @@ impl Desk {
             Step::Map { buffer } => self.map(who, *buffer),
             Step::Close { con } => self.close(who, *con),
             Step::SetLayout(layout) => self.set_layout(who, *layout),
+            Step::Nop | Step::Exit => self.reply(Reply::Ok),
+            Step::Unread { at } => self.reply(Reply::Parse(*at)),
         }
     }
 
@@ -172,6 +177,21 @@ impl Desk {
         tree.set_layout(layout_target(&tree), layout);
         let newest = arrange(self.alloc, &tree)?;
         self.commit(tree, newest);
+        Ok(Answer::Replies(List::of(replies)))
+    }
+
+    /// Answers one command with this reply, and changes nothing.
+    fn reply(&mut self, reply: Reply) -> Result<Answer, NoMemory>
+        requires few { self.old.steps < 2 ^ 48 }
+        ensures answer { IfOk result (λ a. a ≡ Replies (reply ∷ [])) }
+        ensures stands { (history : History) → (entry : Entry) → LeavesAll entry.step → Stands self.old history →
+            OnOk result (Stands self.new (entry ∷ history)) }
+        ensures plan { self.new.plan ≡ self.old.plan }
+        ensures count { OnOk result (self.new.steps ≡ self.old.steps + 1) }
+        ensures err { OnErr result (self.new ≡ self.old) }
+    {
+        let replies = vec![in self.alloc; reply]?;
+        self.steps += 1;
         Ok(Answer::Replies(List::of(replies)))
     }
 

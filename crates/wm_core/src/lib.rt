@@ -13,5 +13,5 @@ mod text;
 pub use desk::Desk;
 pub use frame::{Frame, Quad, What};
 pub use plan::Plan;
-pub use step::{Answer, Reply, Step};
+pub use step::{Answer, Step};
 pub use text::frame_text;

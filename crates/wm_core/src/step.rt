@@ -1,5 +1,6 @@
 //! Steps that callers take, and their answers.
 use wm_base::{Buffer, ConId, Layout, Limit, List};
+use wm_json::Reply;
 
 /// One step of a caller.
 #[derive(Clone, Copy, Debug, PartialEq, Eq)]
@@ -11,12 +12,12 @@ pub enum Step {
     /// Lays the children of the focused container's parent, or of the focused workspace, out side by side
     /// or one above another.
     SetLayout(Layout),
-}
-
-/// The reply to a command.
-#[derive(Clone, Copy, Debug, PartialEq, Eq)]
-pub enum Reply {
-    Ok,
+    /// The command that does nothing.
+    Nop,
+    /// The command that asks the desk to end. Whoever reads the steps decides what that means.
+    Exit,
+    /// A command text that does not read; its first group that does not begins at this byte.
+    Unread { at: usize },
 }
 
 /// What a step is answered. A refused step changes nothing but the count of steps.
@@ -25,7 +26,7 @@ pub enum Answer {
     Done,
     /// The window was opened under this id.
     Mapped(ConId),
-    /// One reply for each command.
+    /// One reply for each command, or one for a text that does not read.
     Replies(List<Reply>),
     /// No open window of that id belongs to the caller.
     NoView,

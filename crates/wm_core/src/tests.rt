@@ -2,10 +2,11 @@
 ghost use Rattle.std.specs.Prelude.{◌≡◌, ◌+◌, ◌≤◌, IfOk, OnOk};
 ghost use Rattle.wm_core.specs.Sizes.{IsFitStep};
 
-use crate::{Answer, Desk, Plan, Reply, Step, frame_text};
+use crate::{Answer, Desk, Plan, Step, frame_text};
 use std::alloc::Global;
 use std::test::Fail;
-use wm_base::{Buffer, ConId, Ink, Layout, Limit, NoMemory, Size};
+use wm_base::{Buffer, ConId, Ink, Layout, NoMemory, Size};
+use wm_json::Reply;
 
 const AMBER: Step = Step::Map {
     buffer: Buffer {
@@ -96,27 +97,5 @@ fn refused_steps(rt: HostRuntime) -> Result<(), Fail> {
     assert!(rt; matches!(no_window, Answer::NoView));
     let want = "frame 1 2\nback 3 0,0 1000x800\nwindow 4 0,0 1000x800 e0b030 400x300\nend\n";
     assert_eq!(rt; text(alloc, &desk)?.as_str(), want);
-    Ok(())
-}
-
-/// Opens this many windows. Says whether each was opened.
-fn open_all(desk: &mut Desk, count: u32) -> Result<bool, NoMemory>
-    requires { desk.old.steps + count ≤ 1000 }
-    ensures { OnOk result (desk.new.steps ≤ 1000) }
-{
-    if count == 0 {
-        return Ok(true);
-    }
-    let opened = matches!(take(desk, 1, &AMBER)?, Answer::Mapped(_));
-    Ok(open_all(desk, count - 1)? && opened)
-}
-
-#[test]
-fn windows_up_to_their_limit(rt: HostRuntime) -> Result<(), Fail> {
-    let alloc = rt.alloc();
-    let mut desk = started(alloc)?;
-    assert!(rt; open_all(&mut desk, 256)?);
-    let refused = take(&mut desk, 1, &AMBER)?;
-    assert!(rt; matches!(refused, Answer::Full(Limit::Children)));
     Ok(())
 }

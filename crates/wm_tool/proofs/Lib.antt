@@ -1,4 +1,6 @@
 pub mod FieldLemmas
+pub mod FramesLemmas
+pub mod IpcLemmas
 pub mod LawLemmas
 pub mod RunLemmas
 pub mod ScriptLemmas

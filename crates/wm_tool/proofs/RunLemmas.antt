@@ -1,18 +1,17 @@
--- A script is run line by line, and what it tells is written in pieces.
+-- A desk takes steps one after another, and what they tell is written in pieces.
 use Rattle.std.proofs.Common.{◌≡◌, ◌∙◌, refl, ap, sym, subst, ℕ, ◌-◌, suc, get_or, ◌≤◌, List, [], ◌∷◌, ◌++◌, Option, None, Some, Result, Ok, Err, length, take, drop, arith, length-append, append_assoc}
 use Rattle.std.specs.Prelude.{pos, OnErr}
 use Rattle.std.proofs.lemmas.List.{append-nil, drop_all, take_all, take-append-drop}
 use Rattle.wm_tree.specs.TreeValue.{TreeValue, opening}
 use Rattle.wm_core.specs.DeskValue.{DeskValue, Stands}
-use Rattle.wm_core.specs.Frame.{frame}
-use Rattle.wm_core.specs.History.{History, answer, first_rect, opening_of}
+use Rattle.wm_core.specs.History.{History, first_rect, opening_of}
 use Rattle.wm_core.specs.Plan.{default_outputs}
-use Rattle.wm_core.specs.Text.{frame_text}
 use Rattle.wm_ports.specs.Told.{TakesAll, TakesPart}
 use Rattle.wm_tool.specs.declared.script.Line.{Line}
-use Rattle.wm_tool.specs.declared.script.Line.TheVariants.{Do, Paint}
-use Rattle.wm_tool.specs.Output.{answer_text, entry_of, out_from, start}
-use Rattle.wm_tool.specs.Running.{Ahead, Leads, Runs, Said, Writes, after, told}
+use Rattle.wm_frames.specs.declared.message.Message.{Message}
+use Rattle.wm_tool.specs.Ipc.{after_request, replied, replies_from, request_of}
+use Rattle.wm_tool.specs.Output.{after, out_from, start, told}
+use Rattle.wm_tool.specs.Running.{Ahead, Leads, Runs, Said, Writes}
 
 -- ---- the beginning
 
@@ -20,30 +19,38 @@ begins_ahead : (old : Option (List ℕ)) (whole : List ℕ) → Ahead old old wh
 begins_ahead None whole = tt
 begins_ahead (Some t) whole = record { said = []; taken = ap (λ xs. Some xs) (sym (append-nil t)); makes = refl }
 
-pub begins : (old : Option (List ℕ)) (desk : DeskValue) (lines : List Line) → Stands desk [] → Runs old old desk [] lines (out_from [] lines)
-begins old desk lines stands = record { history = []; stands = stands; ahead = begins_ahead old (out_from [] lines) }
+pub begins : (old : Option (List ℕ)) (desk : DeskValue) (tells : History → List ℕ) → Stands desk [] → Runs old old desk [] tells (tells [])
+begins old desk tells stands = record { history = []; stands = stands; ahead = begins_ahead old (tells []) }
 
--- ---- one line
+-- ---- one line or message
 
-told_first : (tree : TreeValue) (history : History) (line : Line) (rest : List Line) (desk : DeskValue) → opening_of desk.plan ≡ start
-    → out_from history (line ∷ rest) ≡ told desk history line ++ out_from (after line history) rest
-told_first tree history (Do step) rest desk e = ap (λ t. answer_text (answer t history (entry_of step)) ++ out_from (entry_of step ∷ history) rest) (sym e)
-told_first tree history Paint rest desk e = ap (λ t. frame_text (frame t history) ++ out_from history rest) (sym e)
-
-runs_line : (old now : Option (List ℕ)) (desk next : DeskValue) (piece text : List ℕ) (line : Line) (rest : List Line) (whole : List ℕ)
-    → Runs old now desk piece (line ∷ rest) whole → desk.plan.outputs ≡ default_outputs → Leads desk next line piece text → Runs old now next text rest whole
-runs_line old now desk next piece text line rest whole runs plan leads =
+-- what is told first is run
+runs_on : (old now : Option (List ℕ)) (desk next : DeskValue) (piece text : List ℕ) (next_history : History → History) (says tells later : History → List ℕ) (whole : List ℕ)
+    → ((history : History) → tells history ≡ says history ++ later (next_history history)) → Runs old now desk piece tells whole → Leads desk next next_history says piece text
+    → Runs old now next text later whole
+runs_on old now desk next piece text next_history says tells later whole first runs leads =
     let led = leads runs.history runs.stands in
-    let opens : opening_of desk.plan ≡ start = ap (λ outputs. opening (first_rect (record { x = pos 0; y = pos 0; w = 0; h = 0 }) outputs)) plan in
     record {
-      history = after line runs.history;
+      history = next_history runs.history;
       stands = led.0;
       ahead = subst (λ xs. Ahead old now xs whole)
-          (ap (λ xs. piece ++ xs) (told_first start runs.history line rest desk opens)
-          ∙ (sym (append_assoc piece (told desk runs.history line) (out_from (after line runs.history) rest))
-          ∙ ap (λ xs. xs ++ out_from (after line runs.history) rest) (sym led.1)))
+          (ap (λ xs. piece ++ xs) (first runs.history)
+          ∙ (sym (append_assoc piece (says runs.history) (later (next_history runs.history)))
+          ∙ ap (λ xs. xs ++ later (next_history runs.history)) (sym led.1)))
           runs.ahead;
     }
+
+opens : (desk : DeskValue) → desk.plan.outputs ≡ default_outputs → start ≡ opening_of desk.plan
+opens desk plan = sym (ap (λ outputs. opening (first_rect (record { x = pos 0; y = pos 0; w = 0; h = 0 }) outputs)) plan)
+
+pub runs_message : (old now : Option (List ℕ)) (desk next : DeskValue) (piece text : List ℕ) (m : Message) (queue rest : List Message) (whole : List ℕ)
+    → queue ≡ m ∷ rest → desk.plan.outputs ≡ default_outputs → Leads desk next (after_request (request_of m)) (replied (opening_of desk.plan) m) piece text
+    → Runs old now desk piece (replies_from queue) whole → Runs old now next text (replies_from rest) whole
+runs_message old now desk next piece text m queue rest whole first plan leads runs =
+    runs_on old now desk next piece text (after_request (request_of m)) (replied (opening_of desk.plan) m) (replies_from (m ∷ rest)) (replies_from rest) whole
+    (λ history. ap (λ tree. replied tree m history ++ replies_from rest (after_request (request_of m) history)) (opens desk plan))
+    (subst (λ ms. Runs old now desk piece (replies_from ms) whole) first runs)
+    leads
 
 -- ---- writing
 
@@ -57,10 +64,10 @@ write_ahead None now new piece rest whole a takes = tt
 write_ahead (Some t) now new piece rest whole a takes = write_said t now new piece rest whole a takes
 
 -- a first part of the piece is written, and the rest of it is held
-pub writes : (old now new : Option (List ℕ)) (desk : DeskValue) (piece held : List ℕ) (rest : List Line) (whole : List ℕ)
-    → Runs old now desk piece rest whole → Writes now new piece held → Runs old new desk held rest whole
-writes old now new desk piece held rest whole runs w =
-    let ahead = out_from runs.history rest in
+pub writes : (old now new : Option (List ℕ)) (desk : DeskValue) (piece held : List ℕ) (tells : History → List ℕ) (whole : List ℕ)
+    → Runs old now desk piece tells whole → Writes now new piece held → Runs old new desk held tells whole
+writes old now new desk piece held tells whole runs w =
+    let ahead = tells runs.history in
     record {
       history = runs.history;
       stands = runs.stands;
@@ -71,7 +78,7 @@ writes old now new desk piece held rest whole runs w =
           w.taken;
     }
 
-none_taken : (now : Option (List ℕ)) → TakesAll now now []
+pub none_taken : (now : Option (List ℕ)) → TakesAll now now []
 none_taken None = tt
 none_taken (Some t) = ap (λ xs. Some xs) (sym (append-nil t))
 
@@ -102,9 +109,9 @@ stops_ahead None now ahead whole a = tt
 stops_ahead (Some t) now ahead whole a = part_of t now a.said ahead whole a.taken a.makes
 
 -- a run that stops has written a first part
-pub stops : (old now : Option (List ℕ)) (desk : DeskValue) (piece : List ℕ) (rest : List Line) (whole : List ℕ)
-    → Runs old now desk piece rest whole → TakesPart old now whole
-stops old now desk piece rest whole runs = stops_ahead old now (piece ++ out_from runs.history rest) whole runs.ahead
+pub stops : (old now : Option (List ℕ)) (desk : DeskValue) (piece : List ℕ) (tells : History → List ℕ) (whole : List ℕ)
+    → Runs old now desk piece tells whole → TakesPart old now whole
+stops old now desk piece tells whole runs = stops_ahead old now (piece ++ tells runs.history) whole runs.ahead
 
 split_piece : (said piece rest : List ℕ) (n : ℕ) → (said ++ take n piece) ++ (drop n piece ++ rest) ≡ said ++ (piece ++ rest)
 split_piece said piece rest n =
@@ -123,9 +130,9 @@ fail_ahead None now new piece rest whole a takes = tt
 fail_ahead (Some t) now new piece rest whole a takes = fail_said t now new piece rest whole a takes
 
 -- a run whose sink fails has written a first part
-pub fails : (old now new : Option (List ℕ)) (desk : DeskValue) (piece : List ℕ) (rest : List Line) (whole : List ℕ)
-    → Runs old now desk piece rest whole → TakesPart now new piece → TakesPart old new whole
-fails old now new desk piece rest whole runs takes = fail_ahead old now new piece (out_from runs.history rest) whole runs.ahead takes
+pub fails : (old now new : Option (List ℕ)) (desk : DeskValue) (piece : List ℕ) (tells : History → List ℕ) (whole : List ℕ)
+    → Runs old now desk piece tells whole → TakesPart now new piece → TakesPart old new whole
+fails old now new desk piece tells whole runs takes = fail_ahead old now new piece (tells runs.history) whole runs.ahead takes
 
 -- ---- the end
 
@@ -136,7 +143,7 @@ end_ahead (Some t) now new piece whole a takes =
     s.taken ∙ ap (λ xs. Some (t ++ xs)) (sym (append-nil s.said) ∙ s.makes)
 
 -- a run to the end has written all, with its last piece
-pub ends : (old now new : Option (List ℕ)) (desk : DeskValue) (piece whole : List ℕ) → Runs old now desk piece [] whole → TakesAll now new piece → TakesAll old new whole
+pub ends : (old now new : Option (List ℕ)) (desk : DeskValue) (piece whole : List ℕ) → Runs old now desk piece (λ history. []) whole → TakesAll now new piece → TakesAll old new whole
 ends old now new desk piece whole runs takes = end_ahead old now new piece whole runs.ahead takes
 
 pub on_err : {A : Type 0} {E : Type 0} {P : Type 0} (r : Result A E) → P → OnErr r P
@@ -151,8 +158,13 @@ first_and_rest d (line ∷ rest) h = ap (λ xs. line ∷ xs) (sym (take_all (suc
 
 -- the first line of what is left is run
 pub runs_first : (old now : Option (List ℕ)) (desk next : DeskValue) (piece text : List ℕ) (d : Line) (rest : List Line) (whole : List ℕ)
-    → Runs old now desk piece rest whole → 1 ≤ length rest → desk.plan.outputs ≡ default_outputs → Leads desk next (get_or rest 0 d) piece text
-    → Runs old now next text (take (length rest - 1) (drop 1 rest)) whole
+    → Runs old now desk piece (out_from rest) whole → 1 ≤ length rest → desk.plan.outputs ≡ default_outputs
+    → Leads desk next (after (get_or rest 0 d)) (told (opening_of desk.plan) (get_or rest 0 d)) piece text
+    → Runs old now next text (out_from (take (length rest - 1) (drop 1 rest))) whole
 runs_first old now desk next piece text d rest whole runs some plan leads =
-    runs_line old now desk next piece text (get_or rest 0 d) (take (length rest - 1) (drop 1 rest)) whole
-    (subst (λ lines. Runs old now desk piece lines whole) (first_and_rest d rest some) runs) plan leads
+    let line = get_or rest 0 d in
+    let later = take (length rest - 1) (drop 1 rest) in
+    runs_on old now desk next piece text (after line) (told (opening_of desk.plan) line) (out_from (line ∷ later)) (out_from later) whole
+    (λ history. ap (λ tree. told tree line history ++ out_from later (after line history)) (opens desk plan))
+    (subst (λ lines. Runs old now desk piece (out_from lines) whole) (first_and_rest d rest some) runs)
+    leads

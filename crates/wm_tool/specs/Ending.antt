@@ -1,68 +1,120 @@
 -- How runs end, and why.
-use Rattle.std.specs.Prelude.{◌≡◌, ℕ, ◌<◌, ◌≤◌, ◌⊎◌, Bool, false, bytes_eq, List, [], ◌∷◌, Option, None, Some, Result, Ok, Err, length, codes, string_bytes, ⊤, String}
+use Rattle.std.specs.Prelude.{◌≡◌, ℕ, zero, suc, ◌<◌, ◌≤◌, ◌⊎◌, if◌then◌else◌, bytes_eq, List, [], ◌∷◌, Option, None, Some, Result, Ok, Err, length, codes, string_bytes, ⊤, String}
 use Rattle.std.specs.declared.alloc.Global.{Global}
 use Rattle.wm_defs.specs.Counts.{Rose}
+use Rattle.wm_frames.specs.Reading.{Ending, ending, rest, magic, too_long}
 use Rattle.wm_ports.specs.Told.{ReadsCount, ReadsPart, TakesAll, TakesPart}
 use Rattle.wm_tool.specs.declared.replay.Stop.{Stop}
 use Rattle.wm_tool.specs.declared.replay.Stop.TheVariants as stops
+use Rattle.wm_tool.specs.declared.run.Command.{Command}
+use Rattle.wm_tool.specs.declared.run.Command.TheVariants.{Replay, Ipc}
 use Rattle.wm_tool.specs.declared.script.Line.{Line}
 use Rattle.wm_tool.specs.declared.status.Status.{Status}
-use Rattle.wm_tool.specs.declared.status.Status.TheVariants.{Done, BadWords, BadScript, TooLarge, ReadFault, WriteFault, NoMemory}
+use Rattle.wm_tool.specs.declared.status.Status.TheVariants.{Done, BadWords, BadScript, BadFrames, Truncated, TooLarge, ReadFault, WriteFault, NoMemory}
+use Rattle.wm_tool.specs.Ipc.{out_ipc}
 use Rattle.wm_tool.specs.Output.{out}
 use Rattle.wm_tool.specs.Script.{script}
 
--- the words are `replay` alone
-abbrev pub is_replay : List (String Global) → Bool
-is_replay [] = false
-is_replay (word ∷ []) = bytes_eq (string_bytes word) (codes "replay")
-is_replay (first ∷ second ∷ words) = false
+abbrev pub command_named : List ℕ → Option Command
+command_named word = if bytes_eq word (codes "replay") then Some Replay else (if bytes_eq word (codes "ipc") then Some Ipc else None)
 
--- a script was stopped by a fault of the sink, whose count of faults rose, or by want of memory
+-- the command of the words, which is one word alone
+abbrev pub command : List (String Global) → Option Command
+command [] = None
+command (word ∷ []) = command_named (string_bytes word)
+command (first ∷ second ∷ words) = None
+
+-- a run was stopped by a fault of the sink, whose count of faults rose, or by want of memory
 abbrev pub HasStopped : ℕ → ℕ → Stop → Type 0
 HasStopped old new stops.WriteFault = Rose old new
 HasStopped old new stops.NoMemory = ⊤
 
 -- the status of a run
-abbrev pub ending : Result (Unit {0}) Status → Status
-ending (Ok done) = Done
-ending (Err status) = status
+abbrev pub ending_of : Result (Unit {0}) Status → Status
+ending_of (Ok done) = Done
+ending_of (Err status) = status
 
--- ---- what was read and written
+-- ---- what the bytes alone say
 
--- all of an input within the size was read, and it is a script
-pub record ReadsScript (bytes : List ℕ) (new : Option (List ℕ)) : Type 0 where
-  pub lines : List Line
+abbrev pub script_ending : Result (List Line) ℕ → Status
+script_ending (Ok lines) = Done
+script_ending (Err line) = BadScript line
+
+abbrev pub rest_ending : ℕ → Status
+rest_ending zero = Done
+rest_ending (suc n) = Truncated (suc n)
+
+abbrev pub frames_ending : Ending → Status
+frames_ending (rest count) = rest_ending count
+frames_ending (magic at) = BadFrames at
+frames_ending (too_long at len) = BadFrames at
+
+-- how a run on these bytes ends, unless a fault or want of memory stops it
+abbrev pub ends : Command → List ℕ → Status
+ends Replay bytes = script_ending (script bytes)
+ends Ipc bytes = frames_ending (ending bytes)
+
+-- all that a run on these bytes writes
+abbrev pub output : Command → List ℕ → List ℕ
+output Replay bytes = out bytes
+output Ipc bytes = out_ipc bytes
+
+-- the bytes are refused before anything is run
+abbrev pub IsRefused : Status → Type 0
+IsRefused (BadScript line) = ⊤
+IsRefused status = ⊥
+
+-- ---- how a run on bytes that were read ends
+
+-- a run on these bytes has ended so only where they say so, or where a fault or want of memory stopped it
+abbrev pub EndsOn : Command → List ℕ → Status → Type 0
+EndsOn c bytes Done = ends c bytes ≡ Done
+EndsOn c bytes (BadScript line) = ends c bytes ≡ BadScript line
+EndsOn c bytes (BadFrames at) = ends c bytes ≡ BadFrames at
+EndsOn c bytes (Truncated left) = ends c bytes ≡ Truncated left
+EndsOn c bytes WriteFault = IsRefused (ends c bytes) → ⊥
+EndsOn c bytes NoMemory = ⊤
+EndsOn c bytes BadWords = ⊥
+EndsOn c bytes (TooLarge read) = ⊥
+EndsOn c bytes ReadFault = ⊥
+
+-- what a run on these bytes that ended so wrote
+abbrev pub WritesOn : Command → List ℕ → Status → Option (List ℕ) → Option (List ℕ) → Type 0
+WritesOn c bytes Done old new = TakesAll old new (output c bytes)
+WritesOn c bytes (BadFrames at) old new = TakesAll old new (output c bytes)
+WritesOn c bytes (Truncated left) old new = TakesAll old new (output c bytes)
+WritesOn c bytes WriteFault old new = TakesPart old new (output c bytes)
+WritesOn c bytes NoMemory old new = TakesPart old new (output c bytes)
+WritesOn c bytes (BadScript line) old new = new ≡ old
+WritesOn c bytes BadWords old new = new ≡ old
+WritesOn c bytes (TooLarge read) old new = new ≡ old
+WritesOn c bytes ReadFault old new = new ≡ old
+
+-- ---- what a run read and wrote of what its source and its sink tell
+
+-- all of an input within the size was read, and the run on it has ended so
+pub record ReadsWhole (c : Command) (bytes : List ℕ) (new : Option (List ℕ)) (status : Status) : Type 0 where
   pub whole : new ≡ Some []
   pub within : length bytes ≤ 16777216
-  pub is_script : script bytes ≡ Ok lines
-
--- all of an input within the size was read, and this line of it is the first one outside the grammar
-pub record ReadsBadLine (bytes : List ℕ) (new : Option (List ℕ)) (line : ℕ) : Type 0 where
-  pub whole : new ≡ Some []
-  pub within : length bytes ≤ 16777216
-  pub bad : script bytes ≡ Err line
+  pub ended : EndsOn c bytes status
 
 -- what a run that ended so read of the bytes that its source told
-abbrev pub HasRead : Status → Option (List ℕ) → Option (List ℕ) → Type 0
-HasRead (TooLarge read) old new = (16777216 < read) × ReadsCount old new read
-HasRead status None new = ⊤
-HasRead Done (Some bytes) new = ReadsScript bytes new
-HasRead BadWords (Some bytes) new = new ≡ Some bytes
-HasRead (BadScript line) (Some bytes) new = ReadsBadLine bytes new line
-HasRead ReadFault (Some bytes) new = ReadsPart (Some bytes) new
-HasRead WriteFault (Some bytes) new = ReadsScript bytes new
-HasRead NoMemory (Some bytes) new = ReadsPart (Some bytes) new
+abbrev pub HasRead : Command → Status → Option (List ℕ) → Option (List ℕ) → Type 0
+HasRead c (TooLarge read) old new = (16777216 < read) × ReadsCount old new read
+HasRead c ReadFault old new = ReadsPart old new
+HasRead c NoMemory old new = ReadsPart old new
+HasRead c status None new = ⊤
+HasRead c Done (Some bytes) new = ReadsWhole c bytes new Done
+HasRead c (BadScript line) (Some bytes) new = ReadsWhole c bytes new (BadScript line)
+HasRead c (BadFrames at) (Some bytes) new = ReadsWhole c bytes new (BadFrames at)
+HasRead c (Truncated left) (Some bytes) new = ReadsWhole c bytes new (Truncated left)
+HasRead c WriteFault (Some bytes) new = ReadsWhole c bytes new WriteFault
+HasRead c BadWords (Some bytes) new = new ≡ Some bytes
 
 -- what a run that ended so wrote, where its source told these bytes
-abbrev pub HasWritten : Status → Option (List ℕ) → Option (List ℕ) → Option (List ℕ) → Type 0
-HasWritten status None old new = ⊤
-HasWritten Done (Some bytes) old new = TakesAll old new (out bytes)
-HasWritten WriteFault (Some bytes) old new = TakesPart old new (out bytes)
-HasWritten NoMemory (Some bytes) old new = TakesPart old new (out bytes)
-HasWritten BadWords (Some bytes) old new = new ≡ old
-HasWritten (BadScript line) (Some bytes) old new = new ≡ old
-HasWritten (TooLarge read) (Some bytes) old new = new ≡ old
-HasWritten ReadFault (Some bytes) old new = new ≡ old
+abbrev pub HasWritten : Command → Status → Option (List ℕ) → Option (List ℕ) → Option (List ℕ) → Type 0
+HasWritten c status None old new = ⊤
+HasWritten c status (Some bytes) old new = WritesOn c bytes status old new
 
 -- ---- what stays as it was
 
@@ -89,11 +141,7 @@ HasRisen status source_old source_new sink_old sink_new = ⊤
 
 -- ---- runs without a fault
 
-abbrev pub ending_of : Result (List Line) ℕ → Status
-ending_of (Ok lines) = Done
-ending_of (Err line) = BadScript line
-
--- an input within the size ends as its script says, unless memory runs out
-abbrev pub EndsAs : Status → Option (List ℕ) → Type 0
-EndsAs status None = ⊤
-EndsAs status (Some bytes) = length bytes ≤ 16777216 → (status ≡ NoMemory) ⊎ (status ≡ ending_of (script bytes))
+-- an input within the size ends as its bytes say, unless memory runs out
+abbrev pub EndsAs : Command → Status → Option (List ℕ) → Type 0
+EndsAs c status None = ⊤
+EndsAs c status (Some bytes) = length bytes ≤ 16777216 → (status ≡ NoMemory) ⊎ (status ≡ ends c bytes)

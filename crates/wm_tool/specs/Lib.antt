@@ -1,4 +1,5 @@
 pub mod Ending
+pub mod Ipc
 pub mod Output
 pub mod Running
 pub mod Script

@@ -5,8 +5,7 @@ use Rattle.wm_base.specs.ErrorText.{word_of}
 use Rattle.wm_tree.specs.TreeValue.{TreeValue, opening}
 use Rattle.wm_core.specs.declared.step.Answer.{Answer}
 use Rattle.wm_core.specs.declared.step.Answer.TheVariants.{Done, Mapped, Replies, NoView, Empty, Full}
-use Rattle.wm_core.specs.declared.step.Reply.{Reply}
-use Rattle.wm_core.specs.declared.step.Reply.TheVariants as reply
+use Rattle.wm_json.specs.Replies.{replies_text}
 use Rattle.wm_core.specs.declared.step.Step.{Step}
 use Rattle.wm_core.specs.Frame.{frame}
 use Rattle.wm_core.specs.History.{Entry, History, answer, first_rect}
@@ -15,17 +14,6 @@ use Rattle.wm_core.specs.Text.{frame_text, new_line}
 use Rattle.wm_tool.specs.declared.script.Line.{Line}
 use Rattle.wm_tool.specs.declared.script.Line.TheVariants.{Do, Paint}
 use Rattle.wm_tool.specs.Script.{script}
-
-abbrev pub reply_text : Reply → List ℕ
-reply_text reply.Ok = codes "{\"success\":true}"
-
-abbrev pub more_replies : List Reply → List ℕ
-more_replies [] = codes "]"
-more_replies (r ∷ rs) = codes "," ++ (reply_text r ++ more_replies rs)
-
-abbrev pub replies_text : List Reply → List ℕ
-replies_text [] = codes "[]"
-replies_text (r ∷ rs) = codes "[" ++ (reply_text r ++ more_replies rs)
 
 -- the line that tells an answer
 abbrev pub answer_text : Answer → List ℕ
@@ -44,14 +32,23 @@ start = opening (first_rect (record { x = pos 0; y = pos 0; w = 0; h = 0 }) defa
 abbrev pub entry_of : Step → Entry
 entry_of step = record { who = 0; step = step }
 
--- what is written for the lines after a history: the answer of each step, and a frame where it is to be painted
-abbrev pub out_from : History → List Line → List ℕ
-out_from history [] = []
-out_from history (Do step ∷ lines) = answer_text (answer start history (entry_of step)) ++ out_from (entry_of step ∷ history) lines
-out_from history (Paint ∷ lines) = frame_text (frame start history) ++ out_from history lines
+-- the history after a line
+abbrev pub after : Line → History → History
+after (Do step) history = entry_of step ∷ history
+after Paint history = history
+
+-- what a line tells after a history: the answer of a step, or a frame where it is to be painted
+abbrev pub told : TreeValue → Line → History → List ℕ
+told tree (Do step) history = answer_text (answer tree history (entry_of step))
+told tree Paint history = frame_text (frame tree history)
+
+-- what is written for the lines after a history
+abbrev pub out_from : List Line → History → List ℕ
+out_from [] history = []
+out_from (line ∷ lines) history = told start line history ++ out_from lines (after line history)
 
 abbrev pub out_by : Result (List Line) ℕ → List ℕ
-out_by (Ok lines) = out_from [] lines
+out_by (Ok lines) = out_from lines []
 out_by (Err n) = []
 
 -- what is written for the bytes of a script; nothing where a line is outside the grammar

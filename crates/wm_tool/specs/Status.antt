@@ -15,6 +15,8 @@ abbrev pub status_number : Status → ℕ
 status_number status.Done = 0
 status_number status.BadWords = 2
 status_number (status.BadScript line) = 3
+status_number (status.BadFrames at) = 4
+status_number (status.Truncated bytes) = 5
 status_number (status.TooLarge read) = 6
 status_number status.ReadFault = 7
 status_number status.WriteFault = 8
@@ -25,6 +27,8 @@ abbrev pub status_text : Status → List ℕ
 status_text status.Done = []
 status_text status.BadWords = codes "bad words"
 status_text (status.BadScript line) = codes "bad script, line " ++ decimal line
+status_text (status.BadFrames at) = codes "bad frame at byte " ++ decimal at
+status_text (status.Truncated bytes) = codes "truncated, " ++ (decimal bytes ++ codes " bytes left")
 status_text (status.TooLarge read) = codes "input too large"
 status_text status.ReadFault = codes "read fault"
 status_text status.WriteFault = codes "write fault"

@@ -1,58 +1,32 @@
 //! The lines that tell answers.
-ghost use Rattle.std.specs.Prelude.{◌≡◌, ◌++◌, OnOk, string_bytes};
-ghost use Rattle.wm_tool.specs.Output.{answer_text, more_replies, replies_text, reply_text};
+ghost use Rattle.std.specs.Prelude.{◌≡◌, ◌++◌, OnOk};
+ghost use Rattle.wm_tool.specs.Output.{answer_text};
 
-use std::alloc::AllocError;
-use wm_core::{Answer, Reply};
+use std::alloc::Global;
+use wm_base::NoMemory;
+use wm_core::Answer;
+use wm_json::replies_json;
 
 /// Adds the line that tells the answer.
-pub fn push_answer(text: &mut String, answer: &Answer) -> Result<(), AllocError>
-    ensures { OnOk result (string_bytes text.new ≡ string_bytes text.old ++ answer_text answer.now) }
+pub fn push_answer(alloc: Global, piece: &mut Vec<u8>, answer: &Answer) -> Result<(), NoMemory>
+    ensures { OnOk result (piece.new.items ≡ piece.old.items ++ answer_text answer.now) }
 {
     match answer {
-        Answer::Done => text.push_str("ok\n"),
-        Answer::Mapped(id) => writeln!(text, "ok {}", id.0),
+        Answer::Done => piece.extend_from_slice(b"ok\n")?,
+        Answer::Mapped(id) => {
+            let line = format!(in alloc; "ok {}\n", id.0)?;
+            piece.extend_from_slice(line.as_bytes())?;
+        }
         Answer::Replies(replies) => {
-            push_replies(text, replies.items())?;
-            text.push('\n')
+            piece.extend_from_slice(&replies_json(alloc, replies.items())?)?;
+            piece.push(b'\n')?;
         }
-        Answer::NoView => text.push_str("no-view\n"),
-        Answer::Empty => text.push_str("empty\n"),
-        Answer::Full(limit) => writeln!(text, "full {}", limit.word()),
-    }
-}
-
-/// Adds the replies as a JSON array.
-fn push_replies(text: &mut String, replies: &[Reply]) -> Result<(), AllocError>
-    ensures { OnOk result (string_bytes text.new ≡ string_bytes text.old ++ replies_text replies.now) }
-{
-    match replies {
-        [] => text.push_str("[]"),
-        [first, more @ ..] => {
-            text.push('[')?;
-            push_reply(text, *first)?;
-            push_more(text, more)
+        Answer::NoView => piece.extend_from_slice(b"no-view\n")?,
+        Answer::Empty => piece.extend_from_slice(b"empty\n")?,
+        Answer::Full(limit) => {
+            let line = format!(in alloc; "full {}\n", limit.word())?;
+            piece.extend_from_slice(line.as_bytes())?;
         }
     }
-}
-
-/// Adds the replies after the first one, and the end of the array.
-fn push_more(text: &mut String, replies: &[Reply]) -> Result<(), AllocError>
-    ensures { OnOk result (string_bytes text.new ≡ string_bytes text.old ++ more_replies replies.now) }
-{
-    let mut rest = replies;
-    while let [reply, after @ ..] = rest {
-        text.push(',')?;
-        push_reply(text, *reply)?;
-        rest = after;
-    }
-    text.push(']')
-}
-
-fn push_reply(text: &mut String, reply: Reply) -> Result<(), AllocError>
-    ensures { OnOk result (string_bytes text.new ≡ string_bytes text.old ++ reply_text reply) }
-{
-    match reply {
-        Reply::Ok => text.push_str("{\"success\":true}"),
-    }
+    Ok(())
 }

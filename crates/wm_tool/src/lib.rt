@@ -1,10 +1,12 @@
-//! The tool behind the program i3replay: it replays scripts.
+//! The tool behind the program i3replay: it replays scripts and answers frames.
 #![tactic(auto)]
 
 mod answers;
 mod fields;
+mod ipc;
 mod laws;
 mod replay;
+mod request;
 mod run;
 mod script;
 mod status;
@@ -13,5 +15,7 @@ pub use laws::{bad_line_is_first, script_is_its_lines};
 pub use run::tool;
 pub use status::Status;
 
+#[cfg(test)]
+mod ipc_tests;
 #[cfg(test)]
 mod tests;

@@ -1,10 +1,11 @@
 //! The lines of a script are run, and what they tell is written in pieces.
-ghost use Rattle.std.specs.Prelude.{◌≡◌, ℕ, List, Option, ◌+◌, ◌<◌, ◌≤◌, ◌^◌, [], ◌++◌, All, IfErr, OnErr, OnOk, length, string_bytes};
+ghost use Rattle.std.specs.Prelude.{◌≡◌, ℕ, List, Option, ◌+◌, ◌<◌, ◌≤◌, ◌^◌, [], ◌++◌, All, IfErr, OnErr, OnOk, length};
+ghost use Rattle.wm_core.specs.History.{opening_of};
 ghost use Rattle.wm_core.specs.Plan.{default_outputs};
 ghost use Rattle.wm_defs.specs.Counts.{Rose};
 ghost use Rattle.wm_ports.specs.Told.{TakesAll, TakesPart};
 ghost use Rattle.wm_tool.specs.Ending.{HasStopped};
-ghost use Rattle.wm_tool.specs.Output.{out_from};
+ghost use Rattle.wm_tool.specs.Output.{after, out_from, told};
 ghost use Rattle.wm_tool.specs.Running.{Leads, Runs, Writes};
 ghost use Rattle.wm_tool.specs.Script.{IsFitLine};
 ghost use Rattle.wm_tool.specs.declared.replay.Stop.TheVariants as stops;
@@ -54,14 +55,14 @@ impl From<AllocError> for Stop {
 pub fn replay<W: Sink>(alloc: Global, lines: &[Line], sink: &mut W) -> Result<(), Stop>
     requires few { length lines.now ≤ 16777216 }
     requires fit { All IsFitLine lines.now }
-    ensures ok { OnOk result (TakesAll (W.taken sink.old) (W.taken sink.new) (out_from [] lines.now)) }
-    ensures part { OnErr result (TakesPart (W.taken sink.old) (W.taken sink.new) (out_from [] lines.now)) }
+    ensures ok { OnOk result (TakesAll (W.taken sink.old) (W.taken sink.new) (out_from lines.now [])) }
+    ensures part { OnErr result (TakesPart (W.taken sink.old) (W.taken sink.new) (out_from lines.now [])) }
     ensures err { IfErr result (HasStopped (W.faults sink.old) (W.faults sink.new)) }
 {
     let mut desk = Desk::start(alloc, Plan::standard(alloc)?)?;
-    let mut piece = String::new(alloc);
+    let mut piece = Vec::new(alloc);
     run_lines(alloc, lines, &mut desk, &mut piece, sink)?;
-    write_all(sink, piece.as_bytes())?;
+    write_all(sink, &piece)?;
     Ok(())
 }
 
@@ -70,17 +71,17 @@ fn run_lines<W: Sink>(
     alloc: Global,
     lines: &[Line],
     desk: &mut Desk,
-    piece: &mut String,
+    piece: &mut Vec<u8>,
     sink: &mut W,
 ) -> Result<(), Stop>
     requires few { desk.old.steps + length lines.now ≤ 16777216 }
     requires fit { All IsFitLine lines.now }
     requires plan { desk.old.plan.outputs ≡ default_outputs }
     ensures ok { (old : Option (List ℕ)) → (whole : List ℕ) →
-        Runs old (W.taken sink.old) desk.old (string_bytes piece.old) lines.now whole →
-        OnOk result (Runs old (W.taken sink.new) desk.new (string_bytes piece.new) [] whole) }
+        Runs old (W.taken sink.old) desk.old piece.old.items (out_from lines.now) whole →
+        OnOk result (Runs old (W.taken sink.new) desk.new piece.new.items (λ _. []) whole) }
     ensures part { (old : Option (List ℕ)) → (whole : List ℕ) →
-        Runs old (W.taken sink.old) desk.old (string_bytes piece.old) lines.now whole →
+        Runs old (W.taken sink.old) desk.old piece.old.items (out_from lines.now) whole →
         OnErr result (TakesPart old (W.taken sink.new) whole) }
     ensures err { IfErr result (HasStopped (W.faults sink.old) (W.faults sink.new)) }
     ensures counted { W.faults sink.old ≤ W.faults sink.new }
@@ -95,24 +96,24 @@ fn run_lines<W: Sink>(
 }
 
 /// Writes the piece, where it is long enough.
-fn write_long<W: Sink>(piece: &mut String, sink: &mut W) -> Result<(), Failed>
-    ensures ok { OnOk result (Writes (W.taken sink.old) (W.taken sink.new) (string_bytes piece.old) (string_bytes piece.new)) }
-    ensures part { OnErr result (TakesPart (W.taken sink.old) (W.taken sink.new) (string_bytes piece.old)) }
+fn write_long<W: Sink>(piece: &mut Vec<u8>, sink: &mut W) -> Result<(), Failed>
+    ensures ok { OnOk result (Writes (W.taken sink.old) (W.taken sink.new) piece.old.items piece.new.items) }
+    ensures part { OnErr result (TakesPart (W.taken sink.old) (W.taken sink.new) piece.old.items) }
     ensures failed { OnErr result (Rose (W.faults sink.old) (W.faults sink.new)) }
     ensures counted { W.faults sink.old ≤ W.faults sink.new }
 {
     if piece.len() >= PIECE {
-        write_all(sink, piece.as_bytes())?;
+        write_all(sink, piece)?;
         piece.clear();
     }
     Ok(())
 }
 
 /// Runs one line on the desk, and adds what it tells.
-fn run_line(alloc: Global, desk: &mut Desk, line: &Line, piece: &mut String) -> Result<(), Stop>
+fn run_line(alloc: Global, desk: &mut Desk, line: &Line, piece: &mut Vec<u8>) -> Result<(), Stop>
     requires few { desk.old.steps < 2 ^ 48 }
     requires fit { IsFitLine line.now }
-    ensures ok { OnOk result (Leads desk.old desk.new line.now (string_bytes piece.old) (string_bytes piece.new)) }
+    ensures ok { OnOk result (Leads desk.old desk.new (after line.now) (told (opening_of desk.old.plan) line.now) piece.old.items piece.new.items) }
     ensures steps { OnOk result (desk.new.steps ≤ desk.old.steps + 1) }
     ensures plan { OnOk result (desk.new.plan ≡ desk.old.plan) }
     ensures err { IfErr result (λ stop. stop ≡ stops.NoMemory) }
@@ -120,11 +121,11 @@ fn run_line(alloc: Global, desk: &mut Desk, line: &Line, piece: &mut String) -> 
     match line {
         Line::Do(step) => {
             let answer = desk.step(0, step)?;
-            push_answer(piece, &answer)?;
+            push_answer(alloc, piece, &answer)?;
         }
         Line::Paint => {
             let frame = desk.frame()?;
-            piece.push_str(&frame_text(alloc, &frame)?)?;
+            piece.extend_from_slice(frame_text(alloc, &frame)?.as_bytes())?;
         }
     }
     Ok(())

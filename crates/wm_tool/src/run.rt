@@ -1,65 +1,147 @@
 //! The tool: its words, what it reads, and how its run ends.
-ghost use Rattle.std.specs.Prelude.{◌≡◌, ◌≢◌, ◌↔◌, false, true};
+ghost use Rattle.std.specs.Prelude.{◌≡◌, ◌≢◌, ◌≤◌, ◌↔◌, ℕ, [], length, IfOk, IfSome, None, OnOk};
 ghost use Rattle.wm_defs.specs.Counts.{Rose};
-ghost use Rattle.wm_tool.specs.Ending.{ending, is_replay, EndsAs, HasRead, HasRisen, HasWritten, OnUnread, OnUnwritten};
+ghost use Rattle.wm_tool.specs.Ending.{command, ending_of, ends, EndsAs, EndsOn, HasRead, HasRisen, HasWritten, OnUnread, OnUnwritten, rest_ending, WritesOn};
+ghost use Rattle.wm_frames.specs.Decoding.{Stands};
+ghost use Rattle.wm_frames.specs.Reading.{messages};
+ghost use Rattle.wm_tool.specs.declared.run.Command.TheVariants as commands;
 ghost use Rattle.wm_tool.specs.declared.status.Status.TheVariants as status;
 
+use crate::ipc::answer_all;
 use crate::replay::replay;
 use crate::script::read_script;
 use crate::status::Status;
 use std::alloc::Global;
+use wm_base::NoMemory;
+use wm_frames::{Decoder, FrameFault};
 use wm_ports::{Sink, Source, read_to_limit};
 
 /// How long an input is at most, in bytes.
 const MOST: usize = 16_777_216;
 
-/// Runs the tool with these words. The only ones are `replay` alone: the script that the source gives is
-/// replayed, and what it tells goes to the sink as it is made.
+/// What the tool can do.
+#[derive(Clone, Copy, Debug, PartialEq, Eq)]
+pub enum Command {
+    /// Reads a script, and writes the answers of its steps and its frames.
+    Replay,
+    /// Reads frames of i3-ipc, and writes the replies to their messages.
+    Ipc,
+}
+
+/// Runs the tool with these words, which are `replay` or `ipc` alone: the script or the frames that the source gives
+/// are read to their end, and what they tell goes to the sink as it is made.
 pub fn tool<R: Source, W: Sink>(
     alloc: Global,
     words: &[String],
     source: &mut R,
     sink: &mut W,
 ) -> Status
-    ensures words { result ≡ status.BadWords ↔ is_replay words.now ≡ false }
+    ensures words { result ≡ status.BadWords ↔ command words.now ≡ None }
     ensures unread { OnUnread result (source.new ≡ source.old) }
     ensures unwritten { OnUnwritten result (sink.new ≡ sink.old) }
-    ensures read { HasRead result (R.rest source.old) (R.rest source.new) }
-    ensures written { HasWritten result (R.rest source.old) (W.taken sink.old) (W.taken sink.new) }
+    ensures read { IfSome (command words.now) (λ c. HasRead c result (R.rest source.old) (R.rest source.new)) }
+    ensures written { IfSome (command words.now) (λ c.
+        HasWritten c result (R.rest source.old) (W.taken sink.old) (W.taken sink.new)) }
     ensures faults { HasRisen result (R.faults source.old) (R.faults source.new) (W.faults sink.old) (W.faults sink.new) }
-    ensures whole { is_replay words.now ≡ true →
+    ensures whole { IfSome (command words.now) (λ c.
         (Rose (R.faults source.old) (R.faults source.new) → ⊥) →
-        (Rose (W.faults sink.old) (W.faults sink.new) → ⊥) → EndsAs result (R.rest source.old) }
+        (Rose (W.faults sink.old) (W.faults sink.new) → ⊥) → EndsAs c result (R.rest source.old)) }
 {
-    if !is_replay(words) {
+    let Some(command) = named(words) else {
         return Status::BadWords;
-    }
-    match replay_all(alloc, source, sink) {
+    };
+    match run(alloc, command, source, sink) {
         Ok(()) => Status::Done,
         Err(status) => status,
     }
 }
 
-/// Whether the words are `replay` alone.
-fn is_replay(words: &[String]) -> bool
-    ensures { result ≡ is_replay words.now }
+/// The command of the words.
+fn named(words: &[String]) -> Option<Command>
+    ensures { result ≡ command words.now }
 {
-    match words {
-        [word] => word.as_str() == "replay",
-        _ => false,
+    let [word] = words else {
+        return None;
+    };
+    match word.as_str() {
+        "replay" => Some(Command::Replay),
+        "ipc" => Some(Command::Ipc),
+        _ => None,
     }
 }
 
-/// Replays the script that the source gives.
-fn replay_all<R: Source, W: Sink>(alloc: Global, source: &mut R, sink: &mut W) -> Result<(), Status>
-    ensures words { ending result ≢ status.BadWords }
-    ensures unwritten { OnUnwritten (ending result) (sink.new ≡ sink.old) }
-    ensures read { HasRead (ending result) (R.rest source.old) (R.rest source.new) }
-    ensures written { HasWritten (ending result) (R.rest source.old) (W.taken sink.old) (W.taken sink.new) }
-    ensures faults { HasRisen (ending result) (R.faults source.old) (R.faults source.new) (W.faults sink.old) (W.faults sink.new) }
+/// Reads what the source gives, and runs the command on it.
+fn run<R: Source, W: Sink>(
+    alloc: Global,
+    command: Command,
+    source: &mut R,
+    sink: &mut W,
+) -> Result<(), Status>
+    ensures words { ending_of result ≢ status.BadWords }
+    ensures unwritten { OnUnwritten (ending_of result) (sink.new ≡ sink.old) }
+    ensures read { HasRead command (ending_of result) (R.rest source.old) (R.rest source.new) }
+    ensures written { HasWritten command (ending_of result) (R.rest source.old) (W.taken sink.old) (W.taken sink.new) }
+    ensures faults { HasRisen (ending_of result) (R.faults source.old) (R.faults source.new) (W.faults sink.old) (W.faults sink.new) }
 {
     let bytes = read_to_limit(alloc, source, MOST)?;
-    let lines = read_script(alloc, &bytes)?;
+    match command {
+        Command::Replay => replay_script(alloc, &bytes, sink),
+        Command::Ipc => answer_frames(alloc, &bytes, sink),
+    }
+}
+
+/// Replays the script that the bytes are.
+fn replay_script<W: Sink>(alloc: Global, bytes: &[u8], sink: &mut W) -> Result<(), Status>
+    requires within { length bytes.now ≤ 16777216 }
+    ensures ends { EndsOn commands.Replay bytes.now (ending_of result) }
+    ensures unwritten { OnUnwritten (ending_of result) (sink.new ≡ sink.old) }
+    ensures written { WritesOn commands.Replay bytes.now (ending_of result) (W.taken sink.old) (W.taken sink.new) }
+    ensures faults { (old new : ℕ) → HasRisen (ending_of result) old new (W.faults sink.old) (W.faults sink.new) }
+{
+    let lines = read_script(alloc, bytes)?;
     replay(alloc, &lines, sink)?;
     Ok(())
+}
+
+/// Answers the messages of the frames that the bytes are.
+fn answer_frames<W: Sink>(alloc: Global, bytes: &[u8], sink: &mut W) -> Result<(), Status>
+    requires within { length bytes.now ≤ 16777216 }
+    ensures ends { EndsOn commands.Ipc bytes.now (ending_of result) }
+    ensures unwritten { OnUnwritten (ending_of result) (sink.new ≡ sink.old) }
+    ensures written { WritesOn commands.Ipc bytes.now (ending_of result) (W.taken sink.old) (W.taken sink.new) }
+    ensures faults { (old new : ℕ) → HasRisen (ending_of result) old new (W.faults sink.old) (W.faults sink.new) }
+{
+    let mut decoder = Decoder::new(alloc);
+    let ending = feed_all(&mut decoder, bytes)?;
+    answer_all(alloc, &mut decoder, sink)?;
+    match ending {
+        Status::Done => Ok(()),
+        status => Err(status),
+    }
+}
+
+/// Feeds the bytes to a new decoder, and says how a run on them ends.
+fn feed_all(decoder: &mut Decoder, bytes: &[u8]) -> Result<Status, NoMemory>
+    requires fresh { Stands [] [] decoder.old }
+    requires within { length bytes.now ≤ 16777216 }
+    ensures ends { IfOk result (λ status. status ≡ ends commands.Ipc bytes.now) }
+    ensures queue { OnOk result (decoder.new.queue ≡ messages bytes.now) }
+{
+    match decoder.feed(bytes) {
+        Ok(()) => Ok(frames_left(decoder.rest())),
+        Err(FrameFault::Magic { at }) => Ok(Status::BadFrames { at }),
+        Err(FrameFault::TooLong { at, len: _ }) => Ok(Status::BadFrames { at }),
+        Err(FrameFault::NoMemory) => Err(NoMemory),
+    }
+}
+
+/// How a run ends on whole frames and this many bytes behind them.
+fn frames_left(bytes: usize) -> Status
+    ensures { result ≡ rest_ending bytes }
+{
+    if bytes == 0 {
+        Status::Done
+    } else {
+        Status::Truncated { bytes }
+    }
 }

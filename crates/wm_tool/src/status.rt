@@ -1,10 +1,12 @@
 //! How a run of the tool ended.
 ghost use Rattle.std.specs.Prelude.{◌≡◌};
 ghost use Rattle.wm_tool.specs.Status.{of_read, of_script, of_stop, status_number, status_text};
+ghost use Rattle.wm_tool.specs.declared.status.Status.TheVariants as status;
 
 use crate::replay::Stop;
 use crate::script::ScriptRefusal;
 use std::fmt;
+use wm_base::NoMemory;
 use wm_ports::ReadFault;
 
 /// How a run of the tool ended. Its number is the exit status of the program.
@@ -16,6 +18,11 @@ pub enum Status {
     BadWords,
     /// This line, counted from 1, is the first one outside the grammar. Nothing was written.
     BadScript { line: u64 },
+    /// No frame begins at this byte, or the one that does has a payload of more than 262,144 bytes. The replies to
+    /// the messages before it were written.
+    BadFrames { at: u64 },
+    /// The frames end with a part of one, of this many bytes. The replies to the messages before it were written.
+    Truncated { bytes: usize },
     /// A byte after the 16,777,216th was read; this many were read. Nothing was written.
     TooLarge { read: u64 },
     /// The source failed. Nothing was written.
@@ -27,7 +34,7 @@ pub enum Status {
 }
 
 impl Status {
-    /// The exit status of the program: 0, 2 or 3, and 6 to 9.
+    /// The exit status of the program: 0, or 2 to 9.
     pub fn number(self) -> u8
         ensures { result ≡ status_number self }
     {
@@ -35,6 +42,8 @@ impl Status {
             Status::Done => 0,
             Status::BadWords => 2,
             Status::BadScript { line: _ } => 3,
+            Status::BadFrames { at: _ } => 4,
+            Status::Truncated { bytes: _ } => 5,
             Status::TooLarge { read: _ } => 6,
             Status::ReadFault => 7,
             Status::WriteFault => 8,
@@ -54,6 +63,8 @@ impl fmt::Display for Status {
             Status::Done => Ok(()),
             Status::BadWords => f.write_str("bad words"),
             Status::BadScript { line } => write!(f, "bad script, line {line}"),
+            Status::BadFrames { at } => write!(f, "bad frame at byte {at}"),
+            Status::Truncated { bytes } => write!(f, "truncated, {bytes} bytes left"),
             Status::TooLarge { read: _ } => f.write_str("input too large"),
             Status::ReadFault => f.write_str("read fault"),
             Status::WriteFault => f.write_str("write fault"),
@@ -93,5 +104,13 @@ impl From<Stop> for Status {
             Stop::WriteFault => Status::WriteFault,
             Stop::NoMemory => Status::NoMemory,
         }
+    }
+}
+
+impl From<NoMemory> for Status {
+    ghost from_gives = { λ _ s. s ≡ status.NoMemory };
+
+    fn from(_error: NoMemory) -> Status {
+        Status::NoMemory
     }
 }

@@ -11,8 +11,19 @@ fn replayed(
     failing_read: u64,
     failing_write: u64,
 ) -> Result<(Status, Vec<u8>), Fail> {
-    let words = vec![in alloc; String::from_str(alloc, "replay")?]?;
-    let mut source = MemSource::new(script, vec![in alloc; failing_read]?);
+    ran(alloc, "replay", script, failing_read, failing_write)
+}
+
+/// How a run of this command over this input ended, and what it wrote.
+pub fn ran(
+    alloc: Global,
+    word: &str,
+    input: Vec<u8>,
+    failing_read: u64,
+    failing_write: u64,
+) -> Result<(Status, Vec<u8>), Fail> {
+    let words = vec![in alloc; String::from_str(alloc, word)?]?;
+    let mut source = MemSource::new(input, vec![in alloc; failing_read]?);
     let mut sink = MemSink::new(alloc, 10_000_000, vec![in alloc; failing_write]?)?;
     let status = tool(alloc, &words, &mut source, &mut sink);
     let mut written = Vec::new(alloc);
@@ -98,7 +109,7 @@ fn ports_that_fail(rt: HostRuntime) -> Result<(), Fail> {
 fn a_sink_that_fails_at_a_later_piece(rt: HostRuntime) -> Result<(), Fail> {
     let (ended, all) = replayed(rt.alloc(), repeated(rt.alloc(), "paint\n", 6000)?, 0, 0)?;
     assert_eq!(rt; ended, Status::Done);
-    for call in 1..4 {
+    for call in 1..=4 {
         let paints = repeated(rt.alloc(), "paint\n", 6000)?;
         let (ended, part) = replayed(rt.alloc(), paints, 0, call)?;
         assert_eq!(rt; ended, Status::WriteFault);
@@ -113,6 +124,12 @@ fn statuses_and_their_texts(rt: HostRuntime) -> Result<(), Fail> {
         (Status::Done, 0, ""),
         (Status::BadWords, 2, "bad words"),
         (Status::BadScript { line: 12 }, 3, "bad script, line 12"),
+        (Status::BadFrames { at: 7 }, 4, "bad frame at byte 7"),
+        (
+            Status::Truncated { bytes: 17 },
+            5,
+            "truncated, 17 bytes left",
+        ),
         (Status::TooLarge { read: 16_777_217 }, 6, "input too large"),
         (Status::ReadFault, 7, "read fault"),
         (Status::WriteFault, 8, "write fault"),

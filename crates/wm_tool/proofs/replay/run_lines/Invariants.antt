@@ -1,5 +1,6 @@
-use Rattle.std.proofs.Common.{◌≡◌, ℕ, ◌+◌, ◌≤◌, List, Option, All, length, string_bytes}
+use Rattle.std.proofs.Common.{◌≡◌, ℕ, ◌+◌, ◌≤◌, List, Option, All, length}
 use Rattle.wm_core.specs.Plan.{default_outputs}
+use Rattle.wm_tool.specs.Output.{out_from}
 use Rattle.wm_tool.specs.Running.{Runs}
 use Rattle.wm_tool.specs.Script.{IsFitLine}
 use Rattle.wm_tool.proofs.replay.run_lines.Given as goal
@@ -10,8 +11,8 @@ invariant-loop-rest g l = record {
   few : l.desk.steps + length l.rest ≤ 16777216;
   fit : All IsFitLine l.rest;
   plan : l.desk.plan.outputs ≡ default_outputs;
-  runs : (old : Option (List ℕ)) (whole : List ℕ) → Runs old (g.W.Sink.taken l.initial.sink) l.initial.desk (string_bytes l.initial.piece) l.lines whole
-      → Runs old (g.W.Sink.taken l.sink) l.desk (string_bytes l.piece) l.rest whole;
+  runs : (old : Option (List ℕ)) (whole : List ℕ) → Runs old (g.W.Sink.taken l.initial.sink) l.initial.desk l.initial.piece.items (out_from l.lines) whole
+      → Runs old (g.W.Sink.taken l.sink) l.desk l.piece.items (out_from l.rest) whole;
   counted : g.W.Sink.faults l.initial.sink ≤ g.W.Sink.faults l.sink;
 }
 

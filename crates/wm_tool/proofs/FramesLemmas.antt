@@ -1,0 +1,99 @@
+-- How a run on frames ends, from what a decoder says of them.
+use Rattle.std.proofs.Common.{◌≡◌, ◌∙◌, refl, ap, sym, subst, ℕ, zero, suc, ◌+◌, ◌-◌, ◌≤◌, List, [], ◌∷◌, Option, None, Some, length, drop, min, arith}
+use Rattle.wm_frames.specs.declared.message.Message.{Message}
+use Rattle.wm_frames.specs.declared.message.FrameFault.{FrameFault}
+use Rattle.wm_frames.specs.declared.message.FrameFault.TheVariants.{Magic, TooLong}
+use Rattle.wm_frames.specs.declared.front.Front.{Front}
+use Rattle.wm_frames.specs.declared.front.Front.TheVariants.{Whole, Part, Wrong, Long}
+use Rattle.wm_frames.specs.Decoding.{Decoding, Stands, capped, fault_of, rest_of}
+use Rattle.wm_frames.specs.Front.{front_of}
+use Rattle.wm_frames.specs.Reading.{Ending, Reading, rest, magic, too_long, ending, ending_at, messages, place, read_up_to, reading, tail, taken}
+use Rattle.wm_ports.specs.Told.{TakesAll}
+use Rattle.wm_tool.specs.declared.run.Command.TheVariants.{Ipc}
+use Rattle.wm_tool.specs.declared.status.Status.{Status}
+use Rattle.wm_tool.specs.declared.status.Status.TheVariants as status
+use Rattle.wm_tool.specs.Ending.{EndsOn, HasRisen, IsRefused, OnUnwritten, WritesOn, ends, frames_ending, rest_ending}
+use Rattle.wm_tool.specs.Ipc.{out_ipc}
+
+-- ---- there are no more messages than bytes
+
+few_taken : (n : ℕ) (bytes : List ℕ) (again : List ℕ → Reading) → ((after : List ℕ) → length (again after).messages ≤ n) → (front : Front) → length (taken bytes again front).messages ≤ suc n
+few_taken n bytes again few (Whole len) = omega (arith, few (drop (14 + len) bytes))
+few_taken n bytes again few Part = omega arith
+few_taken n bytes again few Wrong = omega arith
+few_taken n bytes again few (Long len) = omega arith
+
+few_read : (n : ℕ) (bytes : List ℕ) → length (read_up_to n bytes).messages ≤ n
+few_read zero bytes = omega arith
+few_read (suc n) bytes = few_taken n bytes (λ after. read_up_to n after) (few_read n) (front_of bytes)
+
+pub few_messages : (bytes : List ℕ) → length (messages bytes) ≤ length bytes
+unfolding reading
+few_messages bytes = few_read (length bytes) bytes
+
+-- ---- the end of the frames
+
+left_ends : (at count : ℕ) (front : Front) (tail left : List ℕ) → count ≡ length tail → left ≡ rest_of (ending_at at count front) tail → fault_of (ending_at at count front) ≡ None
+    → rest_ending (length left) ≡ frames_ending (ending_at at count front)
+left_ends at count (Whole len) tail left counted is none = ap (λ bytes. rest_ending (length bytes)) is ∙ ap rest_ending (sym counted)
+left_ends at count Part tail left counted is none = ap (λ bytes. rest_ending (length bytes)) is ∙ ap rest_ending (sym counted)
+left_ends at count Wrong tail left counted is none = cc
+left_ends at count (Long len) tail left counted is none = cc
+
+-- what a decoder has left is where the frames end
+pub fed_left : (bytes : List ℕ) (d : Decoding) → Stands bytes [] d → d.fault ≡ None → rest_ending (length d.rest) ≡ ends Ipc bytes
+fed_left bytes d s none = left_ends (place bytes) (length (tail bytes)) (front_of (tail bytes)) (tail bytes) d.rest refl s.left (sym s.fault ∙ none)
+
+abbrev place_of : Option FrameFault → ℕ
+place_of (Some (Magic at)) = at
+place_of (Some (TooLong at len)) = at
+place_of other = 0
+
+uncapped : (at : ℕ) → at ≤ 16777216 → capped at ≡ at
+uncapped at small = omega (arith, small)
+
+magic_ends : (at count there : ℕ) (front : Front) → at ≤ 16777216 → fault_of (ending_at at count front) ≡ Some (Magic there) → status.BadFrames there ≡ frames_ending (ending_at at count front)
+magic_ends at count there (Whole len) small e = cc
+magic_ends at count there Part small e = cc
+magic_ends at count there Wrong small e = ap (λ n. status.BadFrames n) (sym (ap place_of e) ∙ uncapped at small)
+magic_ends at count there (Long len) small e = cc
+
+long_ends : (at count there len : ℕ) (front : Front) → at ≤ 16777216 → fault_of (ending_at at count front) ≡ Some (TooLong there len) → status.BadFrames there ≡ frames_ending (ending_at at count front)
+long_ends at count there len (Whole n) small e = cc
+long_ends at count there len Part small e = cc
+long_ends at count there len Wrong small e = cc
+long_ends at count there len (Long n) small e = ap (λ n. status.BadFrames n) (sym (ap place_of e) ∙ uncapped at small)
+
+small_place : (bytes : List ℕ) → length bytes ≤ 16777216 → place bytes ≤ 16777216
+small_place bytes small = omega (arith, small)
+
+-- the fault that a decoder answers is where the frames end
+pub fed_magic : (bytes : List ℕ) (d : Decoding) (at : ℕ) → Stands bytes [] d → length bytes ≤ 16777216 → d.fault ≡ Some (Magic at) → status.BadFrames at ≡ ends Ipc bytes
+fed_magic bytes d at s small e = magic_ends (place bytes) (length (tail bytes)) at (front_of (tail bytes)) (small_place bytes small) (sym s.fault ∙ e)
+
+pub fed_long : (bytes : List ℕ) (d : Decoding) (at len : ℕ) → Stands bytes [] d → length bytes ≤ 16777216 → d.fault ≡ Some (TooLong at len) → status.BadFrames at ≡ ends Ipc bytes
+fed_long bytes d at len s small e = long_ends (place bytes) (length (tail bytes)) at len (front_of (tail bytes)) (small_place bytes small) (sym s.fault ∙ e)
+
+-- ---- what follows from the end
+
+by_frames : (P : Status → Type 0) → P status.Done → ((count : ℕ) → P (status.Truncated count)) → ((at : ℕ) → P (status.BadFrames at)) → (e : Ending) → P (frames_ending e)
+by_frames P done truncated bad (rest zero) = done
+by_frames P done truncated bad (rest (suc n)) = truncated (suc n)
+by_frames P done truncated bad (magic at) = bad at
+by_frames P done truncated bad (too_long at len) = bad at
+
+-- a run that answered all messages, and ends as the frames end
+pub frames_ended : (bytes : List ℕ) (s : Status) (old new : Option (List ℕ)) → s ≡ ends Ipc bytes → TakesAll old new (out_ipc bytes) → EndsOn Ipc bytes s × WritesOn Ipc bytes s old new
+frames_ended bytes s old new e takes =
+    let Holds : Status → Type 0 = λ z. z ≡ ends Ipc bytes → EndsOn Ipc bytes z × WritesOn Ipc bytes z old new in
+    subst Holds (sym e)
+    (by_frames Holds (λ e. (sym e, takes)) (λ count e. (sym e, takes)) (λ at e. (sym e, takes)) (ending bytes)) e
+
+pub frames_refuse_nothing : (bytes : List ℕ) (s : Status) (same : Type 0) (a b c d : ℕ) → s ≡ ends Ipc bytes → OnUnwritten s same × HasRisen s a b c d
+frames_refuse_nothing bytes s same a b c d e =
+    let Holds : Status → Type 0 = λ z. OnUnwritten z same × HasRisen z a b c d in
+    subst Holds (sym e) (by_frames Holds (tt, tt) (λ count. (tt, tt)) (λ at. (tt, tt)) (ending bytes))
+
+-- frames are not refused before they are run
+pub frames_are_run : (bytes : List ℕ) → IsRefused (ends Ipc bytes) → ⊥
+frames_are_run bytes = by_frames (λ z. IsRefused z → ⊥) (λ r. r) (λ count r. r) (λ at r. r) (ending bytes)
