@@ -1,11 +1,10 @@
 -- The test of two arrangements tells whether they are one.
-use Rattle.std.proofs.Common.{◌≡◌, ℕ, ℤ, Bool, true, false, ◌&&◌, List, eqb, refl, ap, ◌∙◌}
+use Rattle.std.proofs.Common.{◌≡◌, ℕ, ℤ, Bool, List, eqb, refl, ap, ◌∙◌}
 use Rattle.std.proofs.lemmas.Bool.Decides.{Decides-and, Decides-int_eq, Decides-eqb}
 use Rattle.std.proofs.lemmas.Slice.Eq.{slice_eq-Decides}
 use Rattle.std.specs.Bool.{Decides}
 use Rattle.std.specs.Ordering.{int_eq}
 use Rattle.wm_base.specs.declared.geometry.Rect.{Rect}
-use Rattle.wm_base.specs.declared.ids.ConId.{ConId}
 use Rattle.wm_core.specs.declared.arrange.Placed.{Placed}
 use Rattle.wm_core.specs.declared.arrange.PartKind.{PartKind}
 use Rattle.wm_core.specs.declared.arrange.PartKind.TheVariants.{Back, Area, Content}

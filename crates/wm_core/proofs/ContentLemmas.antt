@@ -1,5 +1,5 @@
 -- The contents of an arrangement are windows of its tree, so buffers that agree there paint one frame.
-use Rattle.std.proofs.Common.{◌≡◌, ℕ, ◌+◌, eqb, Bool, true, false, cond, ◌||◌, List, [], ◌∷◌, ◌++◌, Option, Some, None, refl, ap, ap₂, ◌∙◌}
+use Rattle.std.proofs.Common.{◌≡◌, ℕ, ◌+◌, eqb, Bool, true, false, cond, ◌||◌, List, [], ◌∷◌, ◌++◌, Option, Some, None, refl, ap, ap₂}
 use Rattle.std.proofs.lemmas.Bool.{eq-eqb}
 use Rattle.wm_base.specs.declared.geometry.Axis.{Axis}
 use Rattle.wm_base.specs.declared.geometry.Rect.{Rect}

@@ -1,5 +1,5 @@
 -- Going along a row of children.
-use Rattle.std.proofs.Common.{◌≡◌, Bool, true, false, cond, ℕ, zero, suc, ◌+◌, ◌-◌, ◌≤◌, List, [], ◌∷◌, ◌++◌, Option, Some, None, sum, take, drop, refl, ap, sym, subst, ◌∙◌, append_assoc, arith, add-one}
+use Rattle.std.proofs.Common.{◌≡◌, Bool, true, false, cond, ℕ, zero, suc, ◌+◌, ◌-◌, ◌≤◌, List, [], ◌∷◌, ◌++◌, Some, sum, take, drop, refl, ap, sym, subst, ◌∙◌, append_assoc, arith, add-one}
 use Rattle.std.proofs.lemmas.List.Sums.{sum_by-cons, sum_by-take-le}
 use Rattle.wm_base.specs.declared.geometry.Axis.{Axis}
 use Rattle.wm_base.specs.declared.ids.ConId.{ConId}
@@ -8,7 +8,6 @@ use Rattle.wm_tree.specs.declared.part.Part.{Part}
 use Rattle.wm_tree.specs.Forest.{Forest, end, con}
 use Rattle.wm_tree.specs.Limits.{IsWithinLimits}
 use Rattle.wm_tree.specs.Look.{same, node_in, first_part, first_kids, first_floats, rest_of, row_length, share_of, share_sum}
-use Rattle.wm_core.specs.declared.arrange.Placed.{Placed}
 use Rattle.wm_core.specs.Arranged.{shares, row_parts, window_parts, child_area, cut_between}
 
 -- how many children of the row stand before the rest of it

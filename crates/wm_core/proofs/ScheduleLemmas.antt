@@ -1,9 +1,8 @@
 -- Laws of the schedule: what has begun stays so as the history grows, and one more entry brings a new transaction or none.
-use Rattle.std.proofs.Common.{◌≡◌, ℕ, zero, suc, ◌+◌, ◌≤◌, ◌<◌, leb, Bool, true, false, not, cond, ◌&&◌, ◌⊎◌, inl, inr, ⊎_elim, List, [], ◌∷◌, length, Option, Some, None, is_some, refl, ap, sym, subst, ◌∙◌, arith, add-one}
+use Rattle.std.proofs.Common.{◌≡◌, ℕ, zero, suc, ◌+◌, ◌≤◌, ◌<◌, leb, Bool, true, false, cond, ◌&&◌, ◌⊎◌, inl, inr, ⊎_elim, List, [], ◌∷◌, length, Option, Some, None, is_some, refl, ap, sym, ◌∙◌, arith}
 use Rattle.std.specs.Option.{option_map}
 use Rattle.std.proofs.lemmas.Bool.{le-leb, lt-leb, cases_lt}
 use Rattle.wm_tree.specs.TreeValue.{TreeValue}
-use Rattle.wm_core.specs.declared.arrange.Placed.{Placed}
 use Rattle.wm_core.specs.Arranged.{same_parts}
 use Rattle.wm_core.specs.History.{Entry}
 use Rattle.wm_core.specs.Schedule.{arrangement, or_here, first_when, Turn, turn_from, differs, next_turn, turn, greatest, done}

@@ -1,5 +1,5 @@
 -- A desk that stood for a history stands for it with one more entry.
-use Rattle.std.proofs.Common.{◌≡◌, ℕ, suc, ◌+◌, ◌≤◌, Bool, true, false, cond, eqb, List, [], ◌∷◌, length, Option, Some, None, refl, ap, ap₂, add-one, sym, subst, ◌∙◌, arith}
+use Rattle.std.proofs.Common.{◌≡◌, ℕ, ◌+◌, ◌≤◌, Bool, true, false, cond, eqb, List, ◌∷◌, Option, Some, None, refl, ap, ap₂, add-one, sym, subst, ◌∙◌, arith}
 use Rattle.std.proofs.lemmas.Bool.{eqb-true}
 use Rattle.std.proofs.lemmas.Bool.Decides.{nat_tests}
 use Rattle.std.specs.Ordering.{nat_cmp}
@@ -18,7 +18,7 @@ use Rattle.wm_core.specs.Frame.{shown, buffer_after, frame, frame_at, quads}
 use Rattle.wm_core.specs.declared.step.Step.{Step}
 use Rattle.wm_core.specs.declared.step.Step.TheVariants.{Map, Close, SetLayout, Nop, Exit, Unread}
 use Rattle.wm_core.specs.History.{Entry, opening_of, tree, tree_after, LeavesAll}
-use Rattle.wm_core.specs.Schedule.{Turn, arrangement, turn, turn_from, done}
+use Rattle.wm_core.specs.Schedule.{Turn, arrangement, turn}
 use Rattle.wm_core.proofs.ArrangedLemmas.{parts-decide}
 use Rattle.wm_core.proofs.ContentLemmas.{contents_there, quads_same, all_weaker, AllContents}
 use Rattle.wm_core.proofs.ScheduleLemmas.{turn_stays, none_begins, one_begins, then_none, done_is}

@@ -1,5 +1,5 @@
 -- The value of a desk, and the histories that it stands for.
-use Rattle.std.specs.Prelude.{◌≡◌, ℕ, suc, ◌+◌, ◌≤◌, Bool, true, if◌then◌else◌, List, [], ◌∷◌, length, Option, None, Some, refl}
+use Rattle.std.specs.Prelude.{◌≡◌, ℕ, suc, ◌+◌, true, if◌then◌else◌, List, length, Option, None, Some, refl}
 use Rattle.std.specs.Coded.{Coded, code_by, coded×, coded_ℕ, coded_list}
 use Rattle.std.specs.Ordering.{nat_cmp}
 use Rattle.std.specs.BTreeMap.{is_at}
@@ -16,7 +16,7 @@ use Rattle.wm_core.specs.declared.plan.Plan.{Plan}
 use Rattle.wm_core.specs.Arranged.{arranged, same_parts}
 use Rattle.wm_core.specs.Frame.{shown}
 use Rattle.wm_core.specs.History.{Entry, opening_of, tree}
-use Rattle.wm_core.specs.Schedule.{Turn, arrangement, turn}
+use Rattle.wm_core.specs.Schedule.{arrangement, turn}
 
 pub record DeskValue : Type 0 where
   -- the opening plan

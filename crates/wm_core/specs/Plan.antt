@@ -1,5 +1,5 @@
 -- When a plan is sound.
-use Rattle.std.specs.Prelude.{◌≡◌, ℕ, ◌*◌, ◌≤◌, ℤ, pos, negsuc, ◌≤ℤ◌, List, [], ◌∷◌, codes}
+use Rattle.std.specs.Prelude.{◌*◌, ◌≤◌, pos, List, [], ◌∷◌, codes}
 use Rattle.wm_base.specs.declared.geometry.Rect.{Rect}
 use Rattle.wm_base.specs.declared.geometry.Edges.{Edges}
 use Rattle.wm_base.specs.declared.plan.Border.{Border}

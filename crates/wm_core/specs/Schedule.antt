@@ -1,5 +1,5 @@
 -- The schedule of transactions: each begins at the first place of the whole history at which the arrangement differs.
-use Rattle.std.specs.Prelude.{ℕ, zero, suc, ◌+◌, nat_le, Bool, true, false, not, ◌&&◌, if◌then◌else◌, List, [], ◌∷◌, length, Option, None, Some, is_some}
+use Rattle.std.specs.Prelude.{ℕ, zero, suc, ◌+◌, nat_le, Bool, not, ◌&&◌, if◌then◌else◌, List, [], ◌∷◌, length, Option, None, Some, is_some}
 use Rattle.std.specs.Option.{option_map}
 use Rattle.wm_tree.specs.TreeValue.{TreeValue}
 use Rattle.wm_core.specs.declared.arrange.Placed.{Placed}

@@ -4,7 +4,6 @@ use Rattle.std.specs.Fmt.{decimal, signed_decimal}
 use Rattle.wm_defs.specs.Hex.{six_hex}
 use Rattle.wm_base.specs.declared.geometry.Rect.{Rect}
 use Rattle.wm_base.specs.declared.geometry.Size.{Size}
-use Rattle.wm_base.specs.declared.ids.Buffer.{Buffer}
 use Rattle.wm_core.specs.declared.frame.Frame.{Frame}
 use Rattle.wm_core.specs.declared.frame.Quad.{Quad}
 use Rattle.wm_core.specs.declared.frame.What.{What}

@@ -2,7 +2,7 @@
 use Rattle.std.proofs.Common.{◌≡◌, ◌∙◌, refl, ap, sym, subst, ℕ, ◌-◌, suc, get_or, ◌≤◌, List, [], ◌∷◌, ◌++◌, Option, None, Some, Result, Ok, Err, length, take, drop, arith, length-append, append_assoc}
 use Rattle.std.specs.Prelude.{pos, OnErr}
 use Rattle.std.proofs.lemmas.List.{append-nil, drop_all, take_all, take-append-drop}
-use Rattle.wm_tree.specs.TreeValue.{TreeValue, opening}
+use Rattle.wm_tree.specs.TreeValue.{opening}
 use Rattle.wm_core.specs.DeskValue.{DeskValue, Stands}
 use Rattle.wm_core.specs.History.{History, first_rect, opening_of}
 use Rattle.wm_core.specs.Plan.{default_outputs}

@@ -1,5 +1,5 @@
 -- What the tool writes for a stream of i3-ipc frames.
-use Rattle.std.specs.Prelude.{◌≡◌, ℕ, ◌+◌, ◌<◌, ◌^◌, ◌==◌, nat_le, false, if◌then◌else◌, bytes_eq, List, [], ◌∷◌, ◌++◌, Option, None, Some, codes}
+use Rattle.std.specs.Prelude.{ℕ, ◌<◌, ◌^◌, ◌==◌, nat_le, false, if◌then◌else◌, bytes_eq, List, [], ◌∷◌, ◌++◌, Option, None, Some, codes}
 use Rattle.std.specs.Str.{is_utf8}
 use Rattle.std.specs.Str.Lossy.{utf8_valid_len}
 use Rattle.wm_base.specs.declared.plan.Layout.TheVariants.{SplitH, SplitV}

@@ -1,5 +1,5 @@
-use Rattle.std.proofs.Common.{◌≡◌, ◌+◌, ◌-◌, ◌≤◌, ◌++◌, ℕ, sum, take, drop}
-use Rattle.wm_tree.specs.Forest.{Forest, node_count}
+use Rattle.std.proofs.Common.{◌≡◌, ◌≤◌, ◌++◌, sum, take, drop}
+use Rattle.wm_tree.specs.Forest.{node_count}
 use Rattle.wm_tree.specs.Limits.{IsWithinLimits}
 use Rattle.wm_tree.specs.Look.{row_length}
 use Rattle.wm_core.specs.Arranged.{shares, row_parts}

@@ -1,4 +1,4 @@
-use Rattle.std.proofs.Common.{◌≡◌, ◌∙◌, Bool, eqb, ◌&&◌, List, [], ◌∷◌, refl, ap, ap₂}
+use Rattle.std.proofs.Common.{◌≡◌, ◌∙◌, eqb, ◌&&◌, List, [], ◌∷◌, refl, ap, ap₂}
 use Rattle.std.specs.Cmp.Lexicographic.{pointwise}
 use Rattle.wm_core.specs.declared.arrange.Placed.{Placed}
 use denote.Enum.Bare.{sameb}

@@ -1,4 +1,4 @@
-use Rattle.std.proofs.Common.{◌≡◌, ℕ, List, [], Option, ◌∙◌, ap, arith, length, refl, subst, sym}
+use Rattle.std.proofs.Common.{[], ◌∙◌, ap, arith, length, refl, subst}
 use Rattle.wm_core.specs.History.{opening_of}
 use Rattle.wm_ports.specs.Told.{TakesAll, TakesPart}
 use Rattle.wm_tool.specs.Ipc.{after_request, replied, replies_from, request_of}

@@ -1,4 +1,4 @@
-use Rattle.std.proofs.Common.{◌≡◌, ℕ, ◌+◌, ◌≤◌, List, [], Option, length}
+use Rattle.std.proofs.Common.{◌≡◌, ℕ, ◌+◌, ◌≤◌, List, [], length}
 use Rattle.wm_core.specs.Plan.{default_outputs}
 use Rattle.wm_tool.specs.Ipc.{replies_from}
 use Rattle.wm_tool.specs.Running.{Runs}

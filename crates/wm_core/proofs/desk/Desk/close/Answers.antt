@@ -1,5 +1,5 @@
-use Rattle.std.proofs.Common.{◌≡◌, true, false, Result, Ok, Err, IsOk, is_err, ap, ◌∙◌, refl, sym, rules}
-use Rattle.wm_tree.specs.TreeValue.{TreeValue, detached}
+use Rattle.std.proofs.Common.{◌≡◌, true, false, Result, Ok, Err, IsOk, is_err, ap, ◌∙◌, refl, sym}
+use Rattle.wm_tree.specs.TreeValue.{detached}
 use Rattle.wm_core.specs.DeskValue.{DeskValue}
 use Rattle.wm_core.specs.History.{is_window}
 use Rattle.wm_core.specs.declared.step.Step.TheVariants.{Close}
