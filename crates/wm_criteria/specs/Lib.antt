@@ -1,2 +1,6 @@
 pub mod Plain
 pub mod Building
+pub mod Patterns
+pub mod Forms
+pub mod Verdict
+pub mod Prepared

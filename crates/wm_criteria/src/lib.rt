@@ -2,11 +2,19 @@
 #![tactic(auto)]
 
 mod build;
+mod form;
 mod list_build;
+mod patterns;
 mod plain;
+mod prepare;
+mod prepared;
 mod regex_build;
+mod verdict;
 
 pub use build::{Build, BuildFault};
 pub use list_build::ListBuild;
 pub use plain::{is_plain, plain_search};
+pub use prepare::prepare_bare;
+pub use prepared::Prepared;
 pub use regex_build::RegexBuild;
+pub use verdict::Verdict;
