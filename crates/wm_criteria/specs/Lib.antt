@@ -4,3 +4,4 @@ pub mod Patterns
 pub mod Forms
 pub mod Verdict
 pub mod Prepared
+pub mod Stop

@@ -1,6 +1,7 @@
 -- The patterns of a text: the values of its keys that are searched, in the order of the text.
-use Rattle.std.specs.Prelude.{ℕ, ◌+◌, Bool, not, ◌==◌, if◌then◌else◌, List, [], ◌∷◌, ◌++◌, Option, Some, None, codes, option_and_then}
-use Rattle.std.specs.List.{filter_map, list_any, slice_get}
+use Rattle.std.specs.Prelude.{ℕ, ◌+◌, ◌==◌, if◌then◌else◌, List, [], ◌∷◌, Option, Some, None, codes, option_and_then}
+use Rattle.std.specs.List.{flat_map, slice_get}
+use Rattle.std.specs.Option.{option_to_list}
 use Rattle.std.specs.Str.{bytes_eq}
 use Rattle.wm_grammar.specs.Reading.{groups_of}
 use Rattle.wm_grammar.specs.declared.batch.Key.{Key}
@@ -38,13 +39,12 @@ criteria_keys (Some criteria) = criteria.keys
 abbrev pub keys_of : Group → List Key
 keys_of g = criteria_keys g.criteria
 
--- the patterns of keys, and of groups
+-- the patterns of keys, and of groups, in their order
 abbrev pub key_patterns : List Key → List (List ℕ)
-key_patterns ks = filter_map pattern_of ks
+key_patterns ks = flat_map (λ k. option_to_list (pattern_of k)) ks
 
 abbrev pub patterns_of : List Group → List (List ℕ)
-patterns_of [] = []
-patterns_of (g ∷ gs) = key_patterns (keys_of g) ++ patterns_of gs
+patterns_of gs = flat_map (λ g. key_patterns (keys_of g)) gs
 
 -- pattern number n of the text, counted from 0
 abbrev pub pattern_at : List ℕ → ℕ → Option (List ℕ)
@@ -58,3 +58,8 @@ unless_plain (Some p) = if is_plain p then None else Some p
 -- the pattern of a key, where it has to be built
 abbrev pub to_build : Key → Option (List ℕ)
 to_build k = unless_plain (pattern_of k)
+
+-- the pattern of this number among some, of which the first has that number
+abbrev pub numbered : ℕ → List (List ℕ) → ℕ → Option (List ℕ)
+numbered first [] n = None
+numbered first (p ∷ ps) n = if n == first then Some p else numbered (first + 1) ps n

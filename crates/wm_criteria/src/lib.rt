@@ -3,6 +3,7 @@
 
 mod build;
 mod form;
+mod forms;
 mod list_build;
 mod patterns;
 mod plain;
