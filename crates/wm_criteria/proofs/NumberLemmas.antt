@@ -1,13 +1,19 @@
 -- The numbers of patterns, and what stops at one of them.
-use Rattle.std.proofs.Common.{◌≡◌, ℕ, ◌+◌, ◌-◌, ◌<◌, ◌≤◌, Bool, true, false, List, [], ◌∷◌, ◌++◌, length, take, drop, get_or, take_all, Option, Some, None, IsTrue, refl, sym, ◌∙◌, ap, subst, arith, append_assoc, append-nil, length-append, ne_eqb, eqb-true}
-use Rattle.std.specs.Prelude.{◌==◌, is_some, map, if◌then◌else◌, Result, Ok, Err, IsErrAnd}
-use Rattle.std.specs.List.{flat_map}
+use Rattle.std.proofs.Common.{◌≡◌, ℕ, zero, suc, ◌+◌, ◌-◌, ◌<◌, ◌≤◌, Bool, true, false, List, [], ◌∷◌, ◌++◌, length, take, drop, get_or, take_all, Option, Some, None, IsTrue, refl, sym, ◌∙◌, ap, subst, arith, append_assoc, append-nil, length-append, ne_eqb, eq-eqb, eqb-true, zero-add}
+use Rattle.std.specs.Prelude.{◌==◌, is_some, map, option_map, option_and_then, if◌then◌else◌, Result, Ok, Err, IsErrAnd}
+use Rattle.std.specs.List.{flat_map, slice_get}
 use Rattle.std.specs.Option.{option_to_list}
 use Rattle.wm_criteria.specs.declared.forms.Stop.{Stop}
 use Rattle.wm_criteria.specs.declared.forms.Stop.TheVariants.{Refused, NoMemory}
 use Rattle.wm_criteria.specs.Building.{Tells}
-use Rattle.wm_criteria.specs.Patterns.{numbered, unless_plain}
+use Rattle.wm_criteria.specs.Patterns.{numbered, pattern_at, patterns_of, unless_plain}
 use Rattle.wm_criteria.specs.Stop.{IsStop, stop_texts}
+use Rattle.wm_criteria.specs.Verdict.{IsVerdict, refused_patterns}
+use Rattle.wm_criteria.specs.declared.verdict.Verdict.TheVariants.{PatternRefused}
+use Rattle.wm_criteria.proofs.CountLemmas.{patterns_within}
+use Rattle.wm_grammar.specs.Reading.{Reads, groups_of}
+use Rattle.wm_grammar.specs.declared.batch.Batch.{Batch}
+use Rattle.wm_grammar.specs.declared.batch.Group.{Group}
 
 -- the patterns ys, numbered from second on, are among xs, numbered from first on
 pub record IsAmong (first : ℕ) (xs : List (List ℕ)) (second : ℕ) (ys : List (List ℕ)) : Type 0 where
@@ -111,3 +117,33 @@ tells_stop old mid new first xs second ys e a h kept told = subst (λ (s : List 
 pub handed_on : {X : Type 0} (r : Result X Stop) (e : Stop) → IsErrAnd r (λ x. x ≡ e) → r ≡ Err e
 handed_on (Ok x) e h = absurd h
 handed_on (Err x) e h = ap (λ (y : Stop). Err y) h
+
+-- ---- numbers among all the patterns of a text
+
+numbered_get : (first k : ℕ) (ps : List (List ℕ)) → numbered first ps (first + k) ≡ slice_get ps k
+numbered_get first k [] = refl
+numbered_get first zero (p ∷ ps) = let same : (first + 0 == first) ≡ true = eq-eqb (first + 0) first (omega arith) in rw same refl
+numbered_get first (suc k) (p ∷ ps) =
+    let other : (first + suc k == first) ≡ false = ne_eqb (first + suc k) first (λ (e : first + suc k ≡ first). let no : ⊥ = absurd (omega arith) in no) in
+    let place : first + suc k ≡ first + 1 + k = omega arith in
+    rw other (ap (λ (n : ℕ). numbered (first + 1) ps n) place ∙ numbered_get (first + 1) k ps)
+
+groups_read : (o : Option (List Group)) (b : Batch) → option_map (λ gs. record { groups = gs }) o ≡ Some b → o ≡ Some b.groups
+groups_read None b e = cc
+groups_read (Some gs) b e = let same : record { groups = gs } ≡ b = cc in ap (λ (x : Batch). Some x.groups) same
+
+-- of a text that reads, the pattern of a number is the one among those of its groups
+pub pattern_read : (text : List ℕ) (b : Batch) (n : ℕ) → Reads text b → numbered 0 (patterns_of b.groups) n ≡ pattern_at text n
+pattern_read text b n reads =
+    let groups : groups_of text ≡ Some b.groups = groups_read (groups_of text) b reads in
+    ap (λ (k : ℕ). numbered 0 (patterns_of b.groups) k) (sym (zero-add n)) ∙ (numbered_get 0 n (patterns_of b.groups) ∙ sym (ap (option_and_then (λ gs. slice_get (patterns_of gs) n)) groups))
+
+-- and there are no more patterns than bytes
+pub patterns_few : (text : List ℕ) (b : Batch) → Reads text b → length (patterns_of b.groups) ≤ length text
+patterns_few text b reads = patterns_within text b.groups (groups_read (groups_of text) b reads)
+
+pub stop_read : (text : List ℕ) (b : Batch) (n : ℕ) → Reads text b → IsStop 0 (patterns_of b.groups) (Refused n) → IsVerdict text (PatternRefused n)
+stop_read text b n reads h = subst (λ (o : Option (List ℕ)). IsTrue (is_some (unless_plain o))) (pattern_read text b n reads) h
+
+pub texts_read : (text : List ℕ) (b : Batch) (n : ℕ) → Reads text b → stop_texts 0 (patterns_of b.groups) (Refused n) ≡ refused_patterns text (PatternRefused n)
+texts_read text b n reads = ap (λ (o : Option (List ℕ)). option_to_list o) (pattern_read text b n reads)
