@@ -149,7 +149,7 @@ behind_suffix : (r s : List ℕ) → Suffix r s → Suffix (drop 1 r) s
 behind_suffix [] s h = h
 behind_suffix (c ∷ r) s h = suffix_trans r (c ∷ r) s (suffix_cons c r r (suffix_refl r)) h
 
-key_suffix : (s : List ℕ) → AllSome (Tail s) (key_at s)
+pub key_suffix : (s : List ℕ) → AllSome (Tail s) (key_at s)
 unfolding key_at
 key_suffix s = if_some (Tail s) (starts 61 (from ends_name s)) _ _
     (λ e. bind_some (λ (n : KeyName). Unit {0}) (Tail s) (choice name_words (until ends_name s)) (λ name. valued_at name (drop 1 (from ends_name s))) (any_some (choice name_words (until ends_name s))) (λ name u. each_some (Tail (drop 1 (from ends_name s))) (Tail s) (valued_at name (drop 1 (from ends_name s))) (valued_suffix name (drop 1 (from ends_name s))) (λ z t. suffix_trans z.1 (drop 1 (from ends_name s)) s t (behind_suffix (from ends_name s) s (from_suffix ends_name s)))))
