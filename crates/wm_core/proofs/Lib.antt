@@ -1,4 +1,5 @@
 pub mod ArrangedLemmas
+pub mod CommandLemmas
 pub mod ContentLemmas
 pub mod RowLemmas
 pub mod ScheduleLemmas

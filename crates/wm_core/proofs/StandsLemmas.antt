@@ -15,9 +15,7 @@ use Rattle.wm_core.specs.declared.frame.Quad.{Quad}
 use Rattle.wm_core.specs.Arranged.{arranged, same_parts}
 use Rattle.wm_core.specs.DeskValue.{DeskValue, Stands, buffer_in, next_desk}
 use Rattle.wm_core.specs.Frame.{shown, buffer_after, frame, frame_at, quads}
-use Rattle.wm_core.specs.declared.step.Step.{Step}
-use Rattle.wm_core.specs.declared.step.Step.TheVariants.{Map, Close, SetLayout, Nop, Exit, Unread}
-use Rattle.wm_core.specs.History.{Entry, opening_of, tree, tree_after, LeavesAll}
+use Rattle.wm_core.specs.History.{Entry, opening_of, tree, tree_after}
 use Rattle.wm_core.specs.Schedule.{Turn, arrangement, turn}
 use Rattle.wm_core.proofs.ArrangedLemmas.{parts-decide}
 use Rattle.wm_core.proofs.ContentLemmas.{contents_there, quads_same, all_weaker, AllContents}
@@ -39,17 +37,17 @@ abbrev turn_at : ℕ → List Placed → Turn
 turn_at prefix parts = record { prefix = prefix; parts = parts }
 
 module _ (d : DeskValue) (history : List Entry) (entry : Entry) (t : TreeValue) (buffers : List (ℕ × Buffer)) (s : Stands d history) (early : d.prefix ≤ d.steps)
-    (after : t ≡ tree_after d.tree entry.who entry.step)
-    (given : (v : ConId) → has v t.outputs ≡ true → buffer_in buffers v ≡ buffer_after d.tree entry.step v (shown (opening_of d.plan) history v))
+    (after : t ≡ tree_after d.tree entry.who entry.act)
+    (given : (v : ConId) → has v t.outputs ≡ true → buffer_in buffers v ≡ buffer_after d.tree entry.act v (shown (opening_of d.plan) history v))
   where
     next_tree : t ≡ tree (opening_of d.plan) (entry ∷ history)
-    next_tree = after ∙ ap (λ z. tree_after z entry.who entry.step) s.tree_is
+    next_tree = after ∙ ap (λ z. tree_after z entry.who entry.act) s.tree_is
 
     next_parts : arranged t.outputs ≡ arrangement (opening_of d.plan) (entry ∷ history)
     next_parts = ap (λ (z : TreeValue). arranged z.outputs) next_tree
 
     next_buffers : (v : ConId) → has v t.outputs ≡ true → buffer_in buffers v ≡ shown (opening_of d.plan) (entry ∷ history) v
-    next_buffers v h = given v h ∙ ap (λ z. buffer_after z entry.step v (shown (opening_of d.plan) history v)) s.tree_is
+    next_buffers v h = given v h ∙ ap (λ z. buffer_after z entry.act v (shown (opening_of d.plan) history v)) s.tree_is
 
     by_same : (b : Bool) → same_parts (arranged t.outputs) d.parts ≡ b → Stands (desk_by b t buffers d) (entry ∷ history)
     by_same true e =
@@ -79,32 +77,12 @@ module _ (d : DeskValue) (history : List Entry) (entry : Entry) (t : TreeValue) 
     stands_next = by_same (same_parts (arranged t.outputs) d.parts) refl
 
 -- a step that changes neither tree nor buffers is counted
-pub stands_counted : (d : DeskValue) (history : List Entry) (entry : Entry) → Stands d history → d.prefix ≤ d.steps → d.tree ≡ tree_after d.tree entry.who entry.step
-    → ((v : ConId) (b : Option Buffer) → buffer_after d.tree entry.step v b ≡ b) → Stands (record d { steps = d.steps + 1 }) (entry ∷ history)
+pub stands_counted : (d : DeskValue) (history : List Entry) (entry : Entry) → Stands d history → d.prefix ≤ d.steps → d.tree ≡ tree_after d.tree entry.who entry.act
+    → ((v : ConId) (b : Option Buffer) → buffer_after d.tree entry.act v b ≡ b) → Stands (record d { steps = d.steps + 1 }) (entry ∷ history)
 stands_counted d history entry s early same_tree same_buffers =
     let Standing : Bool → Type 0 = λ b. Stands (desk_by b d.tree d.buffers d) (entry ∷ history) in
     let same : same_parts (arranged d.tree.outputs) d.parts ≡ true = (parts-decide _ _).1 (ap (λ (z : TreeValue). arranged z.outputs) s.tree_is ∙ s.newest) in
     subst Standing same (stands_next d history entry d.tree d.buffers s early same_tree (λ v h. s.buffers v h ∙ sym (same_buffers v (shown (opening_of d.plan) history v))))
-
-tree_left : (t : TreeValue) (who : ℕ) (step : Step) → LeavesAll step → t ≡ tree_after t who step
-tree_left t who Nop l = refl
-tree_left t who Exit l = refl
-tree_left t who (Unread at) l = refl
-tree_left t who (Map buffer) l = absurd l
-tree_left t who (Close v) l = absurd l
-tree_left t who (SetLayout layout) l = absurd l
-
-buffer_left : (t : TreeValue) (step : Step) → LeavesAll step → (v : ConId) (b : Option Buffer) → buffer_after t step v b ≡ b
-buffer_left t Nop l v b = refl
-buffer_left t Exit l v b = refl
-buffer_left t (Unread at) l v b = refl
-buffer_left t (Map buffer) l v b = absurd l
-buffer_left t (Close c) l v b = absurd l
-buffer_left t (SetLayout layout) l v b = absurd l
-
--- a step that changes nothing is counted
-pub stands_left : (d : DeskValue) (history : List Entry) (entry : Entry) → LeavesAll entry.step → Stands d history → d.prefix ≤ d.steps → Stands (record d { steps = d.steps + 1 }) (entry ∷ history)
-stands_left d history entry l s early = stands_counted d history entry s early (tree_left d.tree entry.who entry.step l) (buffer_left d.tree entry.step l)
 
 abbrev painted : ℕ → ℕ → List Quad → Frame
 painted number prefix quads = record { number = number; prefix = prefix; quads = quads }

@@ -10,9 +10,9 @@ use Rattle.wm_base.specs.declared.ids.ConId.{ConId}
 use Rattle.wm_tree.specs.Look.{has}
 use Rattle.wm_tree.specs.TreeValue.{TreeValue, tree_code}
 use Rattle.wm_core.specs.contracts.arrange.Placed as placed
-use Rattle.wm_core.specs.contracts.plan.Plan as plan
+use Rattle.wm_layouts.specs.contracts.plan.Plan as plan
 use Rattle.wm_core.specs.declared.arrange.Placed.{Placed}
-use Rattle.wm_core.specs.declared.plan.Plan.{Plan}
+use Rattle.wm_layouts.specs.declared.plan.Plan.{Plan}
 use Rattle.wm_core.specs.Arranged.{arranged, same_parts}
 use Rattle.wm_core.specs.Frame.{shown}
 use Rattle.wm_core.specs.History.{Entry, opening_of, tree}

@@ -12,8 +12,7 @@ use Rattle.wm_core.specs.declared.frame.Frame.{Frame}
 use Rattle.wm_core.specs.declared.frame.Quad.{Quad}
 use Rattle.wm_core.specs.declared.frame.What.{What}
 use Rattle.wm_core.specs.declared.frame.What.TheVariants as shows
-use Rattle.wm_core.specs.declared.step.Step.{Step}
-use Rattle.wm_core.specs.declared.step.Step.TheVariants.{Map, Close, SetLayout, Nop, Exit, Unread}
+use Rattle.wm_core.specs.Act.{Act, Run, Map, Close, Still}
 use Rattle.wm_core.specs.History.{Entry, tree, has_no_pixels, limit_of}
 use Rattle.wm_core.specs.Schedule.{Turn, turn, done}
 
@@ -24,18 +23,16 @@ given_by t buffer (Some limit) v before = before
 given_by t buffer None v before = if same (id t.next_id) v then Some buffer else before
 
 -- the buffer of v after a step on a tree: that of an accepted map of v, else the one before
-abbrev pub buffer_after : TreeValue → Step → ConId → Option Buffer → Option Buffer
-buffer_after t (Map buffer) v before = if has_no_pixels buffer.size then before else given_by t buffer (limit_of t) v before
+abbrev pub buffer_after : TreeValue → Act → ConId → Option Buffer → Option Buffer
+buffer_after t (Map props buffer) v before = if has_no_pixels buffer.size then before else given_by t buffer (limit_of t) v before
+buffer_after t (Run text verdict) v before = before
 buffer_after t (Close c) v before = before
-buffer_after t (SetLayout layout) v before = before
-buffer_after t Nop v before = before
-buffer_after t Exit v before = before
-buffer_after t (Unread at) v before = before
+buffer_after t Still v before = before
 
 -- the last buffer that v was mapped with in the history
 abbrev pub shown : TreeValue → List Entry → ConId → Option Buffer
 shown start [] v = None
-shown start (entry ∷ history) v = buffer_after (tree start history) entry.step v (shown start history v)
+shown start (entry ∷ history) v = buffer_after (tree start history) entry.act v (shown start history v)
 
 -- ---- the frame
 

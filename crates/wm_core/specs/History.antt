@@ -11,17 +11,20 @@ use Rattle.wm_tree.specs.declared.part.ConKind.TheVariants.{Window}
 use Rattle.wm_tree.specs.declared.place.NewCon.TheVariants as new
 use Rattle.wm_tree.specs.Look.{kind_of, con_kind, space_kind}
 use Rattle.wm_tree.specs.TreeValue.{TreeValue, opening, id, focused, parent, newcomer_place, passed_limit, attached, detached, with_raised, with_space_layout}
-use Rattle.wm_core.specs.declared.plan.Plan.{Plan}
+use Rattle.wm_layouts.specs.declared.plan.Plan.{Plan}
 use Rattle.wm_core.specs.declared.step.Answer.{Answer}
 use Rattle.wm_core.specs.declared.step.Answer.TheVariants.{Done, Mapped, Replies, NoView, Empty, Full}
+use Rattle.wm_json.specs.declared.replies.Reply.{Reply}
 use Rattle.wm_json.specs.declared.replies.Reply.TheVariants as reply
-use Rattle.wm_core.specs.declared.step.Step.{Step}
-use Rattle.wm_core.specs.declared.step.Step.TheVariants.{Map, Close, SetLayout, Nop, Exit, Unread}
+use Rattle.wm_core.specs.Act.{Act, Run, Map, Close, Still}
+use Rattle.wm_core.specs.Commands.{groups_replies, groups_tree}
+use Rattle.wm_criteria.specs.declared.verdict.Verdict.{Verdict}
+use Rattle.wm_criteria.specs.declared.verdict.Verdict.TheVariants.{Ready, Bad, PatternRefused}
 
--- a step and the number of its caller
+-- what a step says, and the number of its caller
 pub record Entry : Type 0 where
   pub who : ℕ
-  pub step : Step
+  pub act : Act
 
 -- the steps that were taken, the newest first
 abbrev pub History : Type 0
@@ -61,14 +64,6 @@ mapped t who = with_raised (id t.next_id) (attached (newcomer_place t) (new.Wind
 abbrev pub limit_of : TreeValue → Option Limit
 limit_of t = passed_limit t (newcomer_place t)
 
-abbrev pub or_id : Option ConId → ConId → ConId
-or_id None other = other
-or_id (Some c) other = c
-
--- the node whose layout is set: a focused workspace, else the parent of the focused container
-abbrev pub layout_target : TreeValue → ConId
-layout_target t = if is_some (kind_of space_kind (focused t) t.outputs) then focused t else or_id (parent t (focused t)) (focused t)
-
 abbrev pub map_answer : TreeValue → Option Limit → Answer
 map_answer t (Some limit) = Full limit
 map_answer t None = Mapped (id t.next_id)
@@ -77,40 +72,37 @@ abbrev pub map_tree : TreeValue → ℕ → Option Limit → TreeValue
 map_tree t who (Some limit) = t
 map_tree t who None = mapped t who
 
+abbrev pub verdict_replies : Verdict → List Reply
+verdict_replies (Ready batch) = groups_replies batch.groups
+verdict_replies (Bad at) = reply.Parse at ∷ []
+verdict_replies (PatternRefused pattern) = reply.Pattern pattern ∷ []
+
+abbrev pub verdict_tree : Verdict → TreeValue → TreeValue
+verdict_tree (Ready batch) t = groups_tree batch.groups t
+verdict_tree (Bad at) t = t
+verdict_tree (PatternRefused pattern) t = t
+
 -- what the step is answered
-abbrev pub answer_to : TreeValue → ℕ → Step → Answer
-answer_to t who (Map buffer) = if has_no_pixels buffer.size then Empty else map_answer t (limit_of t)
+abbrev pub answer_to : TreeValue → ℕ → Act → Answer
+answer_to t who (Run text verdict) = Replies (verdict_replies verdict)
+answer_to t who (Map props buffer) = if has_no_pixels buffer.size then Empty else map_answer t (limit_of t)
 answer_to t who (Close v) = if is_window t who v then Done else NoView
-answer_to t who (SetLayout layout) = Replies (reply.Ok ∷ [])
-answer_to t who Nop = Replies (reply.Ok ∷ [])
-answer_to t who Exit = Replies (reply.Ok ∷ [])
-answer_to t who (Unread at) = Replies (reply.Parse at ∷ [])
+answer_to t who Still = Done
 
 -- the tree that the step leaves; a refused step leaves it as it was
-abbrev pub tree_after : TreeValue → ℕ → Step → TreeValue
-tree_after t who (Map buffer) = if has_no_pixels buffer.size then t else map_tree t who (limit_of t)
+abbrev pub tree_after : TreeValue → ℕ → Act → TreeValue
+tree_after t who (Run text verdict) = verdict_tree verdict t
+tree_after t who (Map props buffer) = if has_no_pixels buffer.size then t else map_tree t who (limit_of t)
 tree_after t who (Close v) = if is_window t who v then detached v t else t
-tree_after t who (SetLayout layout) = with_space_layout (layout_target t) layout t
-tree_after t who Nop = t
-tree_after t who Exit = t
-tree_after t who (Unread at) = t
-
--- a step that changes nothing
-abbrev pub LeavesAll : Step → Type 0
-LeavesAll Nop = Unit {0}
-LeavesAll Exit = Unit {0}
-LeavesAll (Unread at) = Unit {0}
-LeavesAll (Map buffer) = ⊥
-LeavesAll (Close v) = ⊥
-LeavesAll (SetLayout layout) = ⊥
+tree_after t who Still = t
 
 -- ---- the tree and the answers of a history
 
 -- the tree after a history, from an opening tree
 abbrev pub tree : TreeValue → List Entry → TreeValue
 tree start [] = start
-tree start (entry ∷ history) = tree_after (tree start history) entry.who entry.step
+tree start (entry ∷ history) = tree_after (tree start history) entry.who entry.act
 
 -- what an entry is answered after a history
 abbrev pub answer : TreeValue → List Entry → Entry → Answer
-answer start history entry = answer_to (tree start history) entry.who entry.step
+answer start history entry = answer_to (tree start history) entry.who entry.act

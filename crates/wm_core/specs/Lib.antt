@@ -1,8 +1,9 @@
+pub mod Act
 pub mod Arranged
+pub mod Commands
 pub mod DeskValue
 pub mod Frame
 pub mod History
-pub mod Plan
 pub mod Schedule
 pub mod Sizes
 pub mod Text

@@ -1,27 +1,33 @@
 //! The desk: the tree, the buffers of its windows, and the last arrangement that was committed.
-ghost use Rattle.std.specs.Prelude.{◌≡◌, ◌+◌, ◌<◌, ◌^◌, [], ◌∷◌, true, IfOk, OnOk, OnErr};
+ghost use Rattle.std.specs.Prelude.{◌≡◌, ◌+◌, ◌<◌, ◌^◌, [], ◌∷◌, true, Option, IfOk, OnOk, OnErr};
+ghost use Rattle.wm_base.specs.declared.ids.Buffer.{Buffer};
+ghost use Rattle.wm_base.specs.declared.properties.Props.{Props};
 ghost use Rattle.wm_core.specs.Arranged.{arranged};
 ghost use Rattle.wm_core.specs.DeskValue.{next_desk, Stands};
-ghost use Rattle.wm_core.specs.Frame.{frame};
-ghost use Rattle.wm_core.specs.History.{answer, answer_to, has_no_pixels, is_window, layout_target, opening_of, Entry, History, LeavesAll};
-ghost use Rattle.wm_core.specs.Plan.{IsSound};
+ghost use Rattle.wm_core.specs.Frame.{buffer_after, frame};
+ghost use Rattle.wm_core.specs.History.{answer, answer_to, has_no_pixels, is_window, opening_of, tree_after, verdict_replies, Entry, History};
+ghost use Rattle.wm_layouts.specs.Plan.{IsSound};
 ghost use Rattle.wm_core.specs.Sizes.{IsFitStep};
 ghost use Rattle.std.specs.Bool.{OnTrue};
 ghost use Rattle.wm_tree.specs.Look.{has};
 ghost use Rattle.wm_tree.specs.Limits.{IsOutputRect};
 ghost use Rattle.wm_tree.specs.TreeValue.{opening};
+ghost use Rattle.wm_core.specs.Act.{act_of, Act, Close, Map, Run};
+ghost use Rattle.wm_core.specs.Commands.{groups_replies, groups_tree};
 ghost use Rattle.wm_core.specs.declared.step.Answer.TheVariants.{Replies};
-ghost use Rattle.wm_core.specs.declared.step.Step.TheVariants.{Map, Close, SetLayout};
 
 use crate::arrange::{Placed, arrange, same};
+use crate::commands::run_groups;
 use crate::frame::{Frame, painted};
-use crate::plan::Plan;
 use crate::step::{Answer, Step};
 use std::alloc::Global;
 use std::collections::BTreeMap;
 use std::marker::Model;
-use wm_base::{Buffer, ConId, Layout, List, NoMemory, Rect, Size};
+use wm_base::{Buffer, ConId, List, NoMemory, Rect, Size};
+use wm_criteria::{Prepared, Verdict};
+use wm_grammar::Group;
 use wm_json::Reply;
+use wm_layouts::Plan;
 use wm_tree::{ConKind, NewCon, Tree, TreeRefusal};
 
 /// A desk. It stands for the history of the steps that were taken on it, from the opening of its plan.
@@ -77,20 +83,19 @@ impl Desk {
         requires few { self.old.steps < 2 ^ 48 }
         requires fit { IsFitStep step.now }
         ensures answer { (history : History) → Stands self.old history →
-            IfOk result (λ a. a ≡ answer (opening_of self.old.plan) history (record { who = who; step = step.now })) }
-        ensures there { IfOk result (λ a. a ≡ answer_to self.old.tree who step.now) }
+            IfOk result (λ a. a ≡ answer (opening_of self.old.plan) history (record { who = who; act = act_of step.now })) }
+        ensures there { IfOk result (λ a. a ≡ answer_to self.old.tree who (act_of step.now)) }
         ensures stands { (history : History) → Stands self.old history →
-            OnOk result (Stands self.new (record { who = who; step = step.now } ∷ history)) }
+            OnOk result (Stands self.new (record { who = who; act = act_of step.now } ∷ history)) }
         ensures plan { self.new.plan ≡ self.old.plan }
         ensures count { OnOk result (self.new.steps ≡ self.old.steps + 1) }
         ensures err { OnErr result (self.new ≡ self.old) }
     {
         match step {
-            Step::Map { buffer } => self.map(who, *buffer),
+            Step::Run(text) => self.run(who, text),
+            Step::Map { buffer, .. } => self.map(who, *buffer),
             Step::Close { con } => self.close(who, *con),
-            Step::SetLayout(layout) => self.set_layout(who, *layout),
-            Step::Nop | Step::Exit => self.reply(Reply::Ok),
-            Step::Unread { at } => self.reply(Reply::Parse(*at)),
+            _ => unreachable!(),
         }
     }
 
@@ -110,9 +115,9 @@ impl Desk {
     /// Opens a window of the caller, raised, where there is room for it.
     fn map(&mut self, who: u32, buffer: Buffer) -> Result<Answer, NoMemory>
         requires few { self.old.steps < 2 ^ 48 }
-        ensures answer { IfOk result (λ a. a ≡ answer_to self.old.tree who (Map buffer)) }
-        ensures stands { (history : History) → Stands self.old history →
-            OnOk result (Stands self.new (record { who = who; step = Map buffer } ∷ history)) }
+        ensures answer { (props : Props) → IfOk result (λ a. a ≡ answer_to self.old.tree who (Map props buffer)) }
+        ensures stands { (props : Props) → (history : History) → Stands self.old history →
+            OnOk result (Stands self.new (record { who = who; act = Map props buffer } ∷ history)) }
         ensures plan { self.new.plan ≡ self.old.plan }
         ensures count { OnOk result (self.new.steps ≡ self.old.steps + 1) }
         ensures err { OnErr result (self.new ≡ self.old) }
@@ -143,7 +148,7 @@ impl Desk {
         requires few { self.old.steps < 2 ^ 48 }
         ensures answer { IfOk result (λ a. a ≡ answer_to self.old.tree who (Close con)) }
         ensures stands { (history : History) → Stands self.old history →
-            OnOk result (Stands self.new (record { who = who; step = Close con } ∷ history)) }
+            OnOk result (Stands self.new (record { who = who; act = Close con } ∷ history)) }
         ensures plan { self.new.plan ≡ self.old.plan }
         ensures count { OnOk result (self.new.steps ≡ self.old.steps + 1) }
         ensures err { OnErr result (self.new ≡ self.old) }
@@ -162,30 +167,51 @@ impl Desk {
         Ok(Answer::Done)
     }
 
-    /// Sets the layout of the focused container's parent, or of the focused workspace.
-    fn set_layout(&mut self, who: u32, layout: Layout) -> Result<Answer, NoMemory>
+    /// Runs a text, or answers why it is not run.
+    fn run(&mut self, who: u32, text: &Prepared) -> Result<Answer, NoMemory>
         requires few { self.old.steps < 2 ^ 48 }
-        ensures answer { IfOk result (λ a. a ≡ answer_to self.old.tree who (SetLayout layout)) }
+        ensures answer { IfOk result (λ a. a ≡ Replies (verdict_replies text.now.verdict)) }
         ensures stands { (history : History) → Stands self.old history →
-            OnOk result (Stands self.new (record { who = who; step = SetLayout layout } ∷ history)) }
+            OnOk result (Stands self.new (record { who = who; act = Run text.now.text text.now.verdict } ∷ history)) }
         ensures plan { self.new.plan ≡ self.old.plan }
         ensures count { OnOk result (self.new.steps ≡ self.old.steps + 1) }
         ensures err { OnErr result (self.new ≡ self.old) }
     {
-        let replies = vec![in self.alloc; Reply::Ok]?;
+        match &text.verdict {
+            Verdict::Ready(batch) => self.run_groups(batch.groups.items()),
+            Verdict::Bad { at } => self.reply(Reply::Parse(*at)),
+            Verdict::PatternRefused { pattern } => self.reply(Reply::Pattern(*pattern)),
+        }
+    }
+
+    /// Runs the commands of the groups.
+    fn run_groups(&mut self, groups: &[Group]) -> Result<Answer, NoMemory>
+        requires few { self.old.steps < 2 ^ 48 }
+        ensures answer { IfOk result (λ a. a ≡ Replies (groups_replies groups.now)) }
+        ensures stands { (history : History) → (entry : Entry) →
+            groups_tree groups.now self.old.tree ≡ tree_after self.old.tree entry.who entry.act →
+            ((v : ConId) → (b : Option Buffer) → buffer_after self.old.tree entry.act v b ≡ b) →
+            Stands self.old history → OnOk result (Stands self.new (entry ∷ history)) }
+        ensures plan { self.new.plan ≡ self.old.plan }
+        ensures count { OnOk result (self.new.steps ≡ self.old.steps + 1) }
+        ensures err { OnErr result (self.new ≡ self.old) }
+    {
+        let mut replies = Vec::new(self.alloc);
         let mut tree = self.tree.copy()?;
-        tree.set_layout(layout_target(&tree), layout);
+        run_groups(&mut tree, groups, &mut replies)?;
         let newest = arrange(self.alloc, &tree)?;
         self.commit(tree, newest);
         Ok(Answer::Replies(List::of(replies)))
     }
 
-    /// Answers one command with this reply, and changes nothing.
+    /// Answers a text that is not run with this reply, and changes nothing.
     fn reply(&mut self, reply: Reply) -> Result<Answer, NoMemory>
         requires few { self.old.steps < 2 ^ 48 }
         ensures answer { IfOk result (λ a. a ≡ Replies (reply ∷ [])) }
-        ensures stands { (history : History) → (entry : Entry) → LeavesAll entry.step → Stands self.old history →
-            OnOk result (Stands self.new (entry ∷ history)) }
+        ensures stands { (history : History) → (entry : Entry) →
+            self.old.tree ≡ tree_after self.old.tree entry.who entry.act →
+            ((v : ConId) → (b : Option Buffer) → buffer_after self.old.tree entry.act v b ≡ b) →
+            Stands self.old history → OnOk result (Stands self.new (entry ∷ history)) }
         ensures plan { self.new.plan ≡ self.old.plan }
         ensures count { OnOk result (self.new.steps ≡ self.old.steps + 1) }
         ensures err { OnErr result (self.new ≡ self.old) }
@@ -231,18 +257,6 @@ fn has_no_pixels(size: Size) -> bool
     ensures { result ≡ has_no_pixels size }
 {
     size.w == 0 || size.h == 0
-}
-
-/// The node whose layout is set: a focused workspace, else the parent of the focused container.
-fn layout_target(tree: &Tree) -> ConId
-    ensures { result ≡ layout_target tree.now }
-{
-    let focused = tree.focused();
-    if tree.space(focused).is_some() {
-        focused
-    } else {
-        tree.parent(focused).unwrap_or(focused)
-    }
 }
 
 /// The rectangle of the plan's output.

@@ -2,9 +2,9 @@
 #![tactic(auto)]
 
 mod arrange;
+mod commands;
 mod desk;
 mod frame;
-mod plan;
 mod step;
 #[cfg(test)]
 mod tests;
@@ -12,6 +12,5 @@ mod text;
 
 pub use desk::Desk;
 pub use frame::{Frame, Quad, What};
-pub use plan::Plan;
-pub use step::{Answer, Step};
+pub use step::{Answer, Choice, Step};
 pub use text::frame_text;

@@ -1,23 +1,44 @@
 //! Steps that callers take, and their answers.
-use wm_base::{Buffer, ConId, Layout, Limit, List};
+use wm_base::{Buffer, ConId, Edges, Limit, List, OutputPlan, Props, Str, Text};
+use wm_criteria::Prepared;
 use wm_json::Reply;
 
-/// One step of a caller.
-#[derive(Clone, Copy, Debug, PartialEq, Eq)]
+/// One step of a caller. Texts of commands are prepared before they are handed in.
+#[derive(Debug, Drop)]
 pub enum Step {
-    /// Opens a window with this buffer.
-    Map { buffer: Buffer },
+    /// Runs the commands of a text.
+    Run(Prepared),
+    /// Opens a window with these properties and this buffer, and then runs a text with the window as its subject.
+    Map {
+        props: Props,
+        buffer: Buffer,
+        then: Option<Prepared>,
+    },
+    /// Gives the caller's window another title.
+    Retitle { con: ConId, title: Text },
+    /// Says whether the caller's window is urgent.
+    Urgent { con: ConId, on: bool },
     /// Closes the caller's window.
     Close { con: ConId },
-    /// Lays the children of the focused container's parent, or of the focused workspace, out side by side
-    /// or one above another.
-    SetLayout(Layout),
-    /// The command that does nothing.
-    Nop,
-    /// The command that asks the desk to end. Whoever reads the steps decides what that means.
-    Exit,
-    /// A command text that does not read; its first group that does not begins at this byte.
-    Unread { at: usize },
+    /// Closes all windows of the caller.
+    Gone,
+    /// Presses a chord, which runs the text of the current mode among these.
+    Key { chord: Text, choices: List<Choice> },
+    /// Sends a tick, which has at most 4,096 bytes.
+    Tick { payload: Str },
+    /// Adds an output.
+    OutputAdd { plan: OutputPlan },
+    /// Removes the output of this name.
+    OutputRemove { name: Text },
+    /// Reserves the edges of an output for bars, in pixels.
+    Reserve { name: Text, edges: Edges },
+}
+
+/// What a key does in a mode.
+#[derive(Debug, Drop)]
+pub struct Choice {
+    pub mode: Text,
+    pub prepared: Prepared,
 }
 
 /// What a step is answered. A refused step changes nothing but the count of steps.
@@ -26,7 +47,7 @@ pub enum Answer {
     Done,
     /// The window was opened under this id.
     Mapped(ConId),
-    /// One reply for each command, or one for a text that does not read.
+    /// One reply for each command, or one for a text that does not read or has a pattern that is refused.
     Replies(List<Reply>),
     /// No open window of that id belongs to the caller.
     NoView,

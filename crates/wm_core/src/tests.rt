@@ -1,32 +1,28 @@
 //! Scripts of steps on an output of 1000x800: what each step is answered, and the texts of the frames.
-ghost use Rattle.std.specs.Prelude.{◌≡◌, ◌+◌, ◌≤◌, IfOk, OnOk};
-ghost use Rattle.wm_core.specs.Sizes.{IsFitStep};
+ghost use Rattle.std.specs.Prelude.{◌≡◌, ◌+◌, ◌≤◌, length, IfOk, OnOk};
+ghost use Rattle.wm_core.specs.Sizes.{IsFitSize, IsFitStep};
 
-use crate::{Answer, Desk, Plan, Step, frame_text};
+use crate::{Answer, Desk, Step, frame_text};
 use std::alloc::Global;
 use std::test::Fail;
-use wm_base::{Buffer, ConId, Ink, Layout, NoMemory, Size};
+use wm_base::{Buffer, ConId, ErrorText, Ink, List, NoMemory, Props, Size, Text};
+use wm_criteria::{ListBuild, prepare};
 use wm_json::Reply;
+use wm_layouts::Plan;
 
-const AMBER: Step = Step::Map {
-    buffer: Buffer {
-        ink: Ink(0xe0b030),
-        size: Size { w: 400, h: 300 },
-    },
+const AMBER: Buffer = Buffer {
+    ink: Ink(0xe0b030),
+    size: Size { w: 400, h: 300 },
 };
 
-const BLUE: Step = Step::Map {
-    buffer: Buffer {
-        ink: Ink(0x3070e0),
-        size: Size { w: 640, h: 480 },
-    },
+const BLUE: Buffer = Buffer {
+    ink: Ink(0x3070e0),
+    size: Size { w: 640, h: 480 },
 };
 
-const NO_HEIGHT: Step = Step::Map {
-    buffer: Buffer {
-        ink: Ink(0),
-        size: Size { w: 1, h: 0 },
-    },
+const NO_HEIGHT: Buffer = Buffer {
+    ink: Ink(0),
+    size: Size { w: 1, h: 0 },
 };
 
 /// A desk of one output of 1000x800.
@@ -45,34 +41,67 @@ fn take(desk: &mut Desk, who: u32, step: &Step) -> Result<Answer, NoMemory>
     desk.step(who, step)
 }
 
+/// A short text.
+fn word(alloc: Global, text: &str) -> Result<Text, NoMemory> {
+    Text::new(alloc, text).map_err(|_| NoMemory)
+}
+
+/// Opens a window without properties.
+fn map(alloc: Global, desk: &mut Desk, who: u32, buffer: Buffer) -> Result<Answer, NoMemory>
+    requires few { desk.old.steps ≤ 1000 }
+    requires fit { IsFitSize buffer.size }
+    ensures { OnOk result (desk.new.steps ≡ desk.old.steps + 1) }
+{
+    let props = Props {
+        class: word(alloc, "")?,
+        instance: word(alloc, "")?,
+        role: word(alloc, "")?,
+        kind: word(alloc, "normal")?,
+        machine: word(alloc, "")?,
+        title: word(alloc, "")?,
+    };
+    let step = Step::Map {
+        props,
+        buffer,
+        then: None,
+    };
+    take(desk, who, &step)
+}
+
+/// Runs a short text, of which the pattern `(` is refused. The replies are given.
+fn run(alloc: Global, desk: &mut Desk, text: &str) -> Result<List<Reply>, Fail>
+    requires few { desk.old.steps ≤ 1000 }
+    requires short { length text.now ≤ 1000 }
+    ensures { OnOk result (desk.new.steps ≡ desk.old.steps + 1) }
+{
+    let mut build = ListBuild::new(vec![in alloc; String::from_str(alloc, "(")?]?);
+    let text = prepare(alloc, text, &mut build)?;
+    match take(desk, 0, &Step::Run(text))? {
+        Answer::Replies(replies) => Ok(replies),
+        _ => Err(Fail::from("no replies")),
+    }
+}
+
 /// The text of the desk's frame.
 fn text(alloc: Global, desk: &Desk) -> Result<String, NoMemory> {
     frame_text(alloc, &desk.frame()?)
-}
-
-/// Whether this is one reply, and that is Ok.
-fn is_one_ok(answer: &Answer) -> bool {
-    match answer {
-        Answer::Replies(replies) => matches!(replies.items(), [Reply::Ok]),
-        _ => false,
-    }
 }
 
 #[test]
 fn two_windows(rt: HostRuntime) -> Result<(), Fail> {
     let alloc = rt.alloc();
     let mut desk = started(alloc)?;
-    let opened = take(&mut desk, 1, &AMBER)?;
+    let opened = map(alloc, &mut desk, 1, AMBER)?;
     assert!(rt; matches!(opened, Answer::Mapped(ConId(4))));
     let want = "frame 1 1\nback 3 0,0 1000x800\nwindow 4 0,0 1000x800 e0b030 400x300\nend\n";
     assert_eq!(rt; text(alloc, &desk)?.as_str(), want);
-    let opened = take(&mut desk, 2, &BLUE)?;
+    let opened = map(alloc, &mut desk, 2, BLUE)?;
     assert!(rt; matches!(opened, Answer::Mapped(ConId(5))));
     let want =
         "frame 2 2\nback 3 0,0 1000x800\nwindow 4 0,0 500x800 e0b030 400x300\nwindow 5 500,0 500x800 3070e0 640x480\nend\n";
     assert_eq!(rt; text(alloc, &desk)?.as_str(), want);
-    let laid_out = take(&mut desk, 1, &Step::SetLayout(Layout::SplitV))?;
-    assert!(rt; is_one_ok(&laid_out));
+    let laid_out = run(alloc, &mut desk, "layout splitv")?;
+    assert!(rt; matches!(laid_out.items(), [Reply::Ok]));
     let want =
         "frame 3 3\nback 3 0,0 1000x800\nwindow 4 0,0 1000x400 e0b030 400x300\nwindow 5 0,400 1000x400 3070e0 640x480\nend\n";
     assert_eq!(rt; text(alloc, &desk)?.as_str(), want);
@@ -87,9 +116,9 @@ fn two_windows(rt: HostRuntime) -> Result<(), Fail> {
 fn refused_steps(rt: HostRuntime) -> Result<(), Fail> {
     let alloc = rt.alloc();
     let mut desk = started(alloc)?;
-    let empty = take(&mut desk, 1, &NO_HEIGHT)?;
+    let empty = map(alloc, &mut desk, 1, NO_HEIGHT)?;
     assert!(rt; matches!(empty, Answer::Empty));
-    let opened = take(&mut desk, 1, &AMBER)?;
+    let opened = map(alloc, &mut desk, 1, AMBER)?;
     assert!(rt; matches!(opened, Answer::Mapped(ConId(4))));
     let of_another = take(&mut desk, 2, &Step::Close { con: ConId(4) })?;
     assert!(rt; matches!(of_another, Answer::NoView));
@@ -97,5 +126,25 @@ fn refused_steps(rt: HostRuntime) -> Result<(), Fail> {
     assert!(rt; matches!(no_window, Answer::NoView));
     let want = "frame 1 2\nback 3 0,0 1000x800\nwindow 4 0,0 1000x800 e0b030 400x300\nend\n";
     assert_eq!(rt; text(alloc, &desk)?.as_str(), want);
+    Ok(())
+}
+
+#[test]
+fn texts_and_their_replies(rt: HostRuntime) -> Result<(), Fail> {
+    let alloc = rt.alloc();
+    let mut desk = started(alloc)?;
+    let done = run(alloc, &mut desk, "nop x; exec y, exit;;[all] nop")?;
+    assert!(rt; matches!(done.items(), [Reply::Ok, Reply::Ok, Reply::Ok, Reply::Ok]));
+    let none = run(alloc, &mut desk, " ; ")?;
+    assert!(rt; none.items().is_empty());
+    let not_built = [Reply::Error(ErrorText::NotBuilt), Reply::Ok];
+    let mixed = run(alloc, &mut desk, "layout tabbed, nop")?;
+    assert!(rt; mixed.items() == not_built.as_slice());
+    let matched = run(alloc, &mut desk, "[class=\"a\"] layout splitv; nop")?;
+    assert!(rt; matched.items() == not_built.as_slice());
+    let bad = run(alloc, &mut desk, "nop; mark a; bogus")?;
+    assert!(rt; matches!(bad.items(), [Reply::Parse(12)]));
+    let refused = run(alloc, &mut desk, "[class=\"a\" title=\"(\"] nop")?;
+    assert!(rt; matches!(refused.items(), [Reply::Pattern(1)]));
     Ok(())
 }

@@ -5,7 +5,7 @@ use Rattle.std.proofs.lemmas.List.{append-nil, drop_all, take_all, take-append-d
 use Rattle.wm_tree.specs.TreeValue.{opening}
 use Rattle.wm_core.specs.DeskValue.{DeskValue, Stands}
 use Rattle.wm_core.specs.History.{History, first_rect, opening_of}
-use Rattle.wm_core.specs.Plan.{default_outputs}
+use Rattle.wm_layouts.specs.Plan.{default_outputs}
 use Rattle.wm_ports.specs.Told.{TakesAll, TakesPart}
 use Rattle.wm_tool.specs.declared.script.Line.{Line}
 use Rattle.wm_frames.specs.declared.message.Message.{Message}

@@ -9,7 +9,7 @@ use Rattle.wm_json.specs.Replies.{replies_text}
 use Rattle.wm_core.specs.declared.step.Step.{Step}
 use Rattle.wm_core.specs.Frame.{frame}
 use Rattle.wm_core.specs.History.{Entry, History, answer, first_rect}
-use Rattle.wm_core.specs.Plan.{default_outputs}
+use Rattle.wm_layouts.specs.Plan.{default_outputs}
 use Rattle.wm_core.specs.Text.{frame_text, new_line}
 use Rattle.wm_tool.specs.declared.script.Line.{Line}
 use Rattle.wm_tool.specs.declared.script.Line.TheVariants.{Do, Paint}

@@ -3,7 +3,7 @@ ghost use Rattle.std.specs.Prelude.{◌≡◌, ℕ, List, Option, ◌∷◌, ◌
 ghost use Rattle.std.specs.Option.{option_map};
 ghost use Rattle.wm_core.specs.DeskValue.{Stands};
 ghost use Rattle.wm_core.specs.History.{History, answer, opening_of};
-ghost use Rattle.wm_core.specs.Plan.{default_outputs};
+ghost use Rattle.wm_layouts.specs.Plan.{default_outputs};
 ghost use Rattle.wm_ports.specs.Told.{TakesAll, TakesPart};
 ghost use Rattle.wm_tool.specs.Ending.{HasStopped};
 ghost use Rattle.wm_tool.specs.Ipc.{after_request, payload, replied, replies_from, replies_of, request_of, IsCommand, IsFitRequest};

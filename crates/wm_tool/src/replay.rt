@@ -1,7 +1,7 @@
 //! The lines of a script are run, and what they tell is written in pieces.
 ghost use Rattle.std.specs.Prelude.{◌≡◌, ℕ, List, Option, ◌+◌, ◌<◌, ◌≤◌, ◌^◌, [], ◌++◌, All, IfErr, OnErr, OnOk, length};
 ghost use Rattle.wm_core.specs.History.{opening_of};
-ghost use Rattle.wm_core.specs.Plan.{default_outputs};
+ghost use Rattle.wm_layouts.specs.Plan.{default_outputs};
 ghost use Rattle.wm_defs.specs.Counts.{Rose};
 ghost use Rattle.wm_ports.specs.Told.{TakesAll, TakesPart};
 ghost use Rattle.wm_tool.specs.Ending.{HasStopped};

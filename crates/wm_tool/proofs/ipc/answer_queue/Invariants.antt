@@ -1,5 +1,5 @@
 use Rattle.std.proofs.Common.{◌≡◌, ℕ, ◌+◌, ◌≤◌, List, [], length}
-use Rattle.wm_core.specs.Plan.{default_outputs}
+use Rattle.wm_layouts.specs.Plan.{default_outputs}
 use Rattle.wm_tool.specs.Ipc.{replies_from}
 use Rattle.wm_tool.specs.Running.{Runs}
 use Rattle.wm_tool.proofs.ipc.answer_queue.Given as goal

@@ -1,5 +1,5 @@
 use Rattle.std.proofs.Common.{◌≡◌, ℕ, ◌+◌, ◌≤◌, List, Option, All, length}
-use Rattle.wm_core.specs.Plan.{default_outputs}
+use Rattle.wm_layouts.specs.Plan.{default_outputs}
 use Rattle.wm_tool.specs.Output.{out_from}
 use Rattle.wm_tool.specs.Running.{Runs}
 use Rattle.wm_tool.specs.Script.{IsFitLine}

@@ -2,7 +2,7 @@ use Rattle.std.proofs.Common.{◌≡◌, true, false, Result, Ok, Err, IsOk, is_
 use Rattle.wm_tree.specs.TreeValue.{detached}
 use Rattle.wm_core.specs.DeskValue.{DeskValue}
 use Rattle.wm_core.specs.History.{is_window}
-use Rattle.wm_core.specs.declared.step.Step.TheVariants.{Close}
+use Rattle.wm_core.specs.Act.{Close}
 use Rattle.wm_core.proofs.StandsLemmas.{stands_next, stands_counted, buffer_kept, other_than_gone}
 use Rattle.wm_core.proofs.desk.Desk.close.Goals as goal
 
@@ -12,7 +12,7 @@ returns-then-not-is_window-clause-stands c = λ history s.
     let i = c.self.inside in
     let d : DeskValue = record { plan = i.plan; steps = i.steps; tree = i.tree; buffers = i.buffers.entries; number = i.number; prefix = i.prefix; parts = i.parts.items } in
     let not_its : is_window d.tree c.args.who c.args.con ≡ false = rw (← c.self.view_is) at (sym c.is_window.ensures.value ∙ c.if-not-is_window.true) in
-    stands_counted d history (record { who = c.args.who; step = Close c.args.con }) (rw (← c.self.view_is) at s) c.self.invariant.1 (rw not_its refl) (λ v b. refl)
+    stands_counted d history (record { who = c.args.who; act = Close c.args.con }) (rw (← c.self.view_is) at s) c.self.invariant.1 (rw not_its refl) (λ v b. refl)
 
 no_error : {T E : Type 0} (r : Result T E) → IsOk r → is_err r ≡ true → ⊥
 no_error (Ok x) ok err = let bad : false ≡ true = err in cc
@@ -31,7 +31,7 @@ returns-clause-stands c = λ history s.
     let stood = rw (← c.self.view_is) at s in
     let its : is_window d.tree c.args.who c.args.con ≡ true = rw (← c.self.view_is) at (sym c.is_window.ensures.value ∙ c.if-not-is_window.false) in
     rw c.commit.ensures
-    (stands_next d history (record { who = c.args.who; step = Close c.args.con }) c.detach.new.self c.remove.new.self.entries stood c.self.invariant.1
+    (stands_next d history (record { who = c.args.who; act = Close c.args.con }) c.detach.new.self c.remove.new.self.entries stood c.self.invariant.1
     (c.detach.ensures.tree ∙ (ap (detached c.args.con) c.in_ok-tree.ensures ∙ rw its refl))
     (λ v h. buffer_kept i.buffers.entries c.remove.new.self.entries c.args.con v (c.remove.ensures.updates.0 v.0) (other_than_gone c.detach.new.self.outputs c.args.con v c.detach.ensures.gone h)
     ∙ stood.buffers v (rw c.in_ok-tree.ensures at (c.detach.ensures.none_new v h))))

@@ -6,7 +6,7 @@ use Rattle.wm_tree.specs.TreeValue.{TreeValue, id, attached, with_raised, newcom
 use Rattle.wm_tree.specs.declared.place.NewCon.TheVariants.{Window}
 use Rattle.wm_core.specs.DeskValue.{DeskValue}
 use Rattle.wm_core.specs.History.{has_no_pixels, limit_of, mapped}
-use Rattle.wm_core.specs.declared.step.Step.TheVariants.{Map}
+use Rattle.wm_core.specs.Act.{Map}
 use Rattle.wm_core.proofs.StandsLemmas.{stands_next, stands_counted, buffer_put}
 use Rattle.wm_core.proofs.desk.Desk.map.Goals as goal
 
@@ -22,24 +22,24 @@ mapped_via t copy attached_tree raised_tree at i who e p q a r =
 
 -- a buffer without pixels changes nothing
 pub returns-then-has_no_pixels-clause-stands : goal.returns-then-has_no_pixels-clause-stands
-returns-then-has_no_pixels-clause-stands c = λ history s.
+returns-then-has_no_pixels-clause-stands c = λ props history s.
     let i = c.self.inside in
     let d : DeskValue = record { plan = i.plan; steps = i.steps; tree = i.tree; buffers = i.buffers.entries; number = i.number; prefix = i.prefix; parts = i.parts.items } in
     let empty : has_no_pixels c.args.buffer.size ≡ true = sym c.has_no_pixels.ensures ∙ c.if-has_no_pixels.true in
-    stands_counted d history (record { who = c.args.who; step = Map c.args.buffer }) (rw (← c.self.view_is) at s) c.self.invariant.1 (rw empty refl) (λ v b. rw empty refl)
+    stands_counted d history (record { who = c.args.who; act = Map props c.args.buffer }) (rw (← c.self.view_is) at s) c.self.invariant.1 (rw empty refl) (λ v b. rw empty refl)
 
 -- nor does one for which there is no room
 pub returns-in-Err-Full-clause-stands : goal.returns-in-Err-Full-clause-stands
-returns-in-Err-Full-clause-stands c = λ history s.
+returns-in-Err-Full-clause-stands c = λ props history s.
     let i = c.self.inside in
     let d : DeskValue = record { plan = i.plan; steps = i.steps; tree = i.tree; buffers = i.buffers.entries; number = i.number; prefix = i.prefix; parts = i.parts.items } in
     let pixels : has_no_pixels c.args.buffer.size ≡ false = sym c.has_no_pixels.ensures ∙ c.if-has_no_pixels.false in
     let full : limit_of d.tree ≡ Some c.in-Err-Full.limit = limit_via d.tree c.in_ok-tree.tree c.newcomer_place.result _ c.in_ok-tree.ensures c.newcomer_place.ensures.place (rw c.in-Err-Full.field-0-is at c.in-Err-Full.ensures.cause).1 in
-    stands_counted d history (record { who = c.args.who; step = Map c.args.buffer }) (rw (← c.self.view_is) at s) c.self.invariant.1 (rw (pixels, full) refl) (λ v b. rw (pixels, full) refl)
+    stands_counted d history (record { who = c.args.who; act = Map props c.args.buffer }) (rw (← c.self.view_is) at s) c.self.invariant.1 (rw (pixels, full) refl) (λ v b. rw (pixels, full) refl)
 
 -- the new window is raised, and its buffer kept
 pub returns-clause-stands : goal.returns-clause-stands
-returns-clause-stands c = λ history s.
+returns-clause-stands c = λ props history s.
     let i = c.self.inside in
     let d : DeskValue = record { plan = i.plan; steps = i.steps; tree = i.tree; buffers = i.buffers.entries; number = i.number; prefix = i.prefix; parts = i.parts.items } in
     let stood = rw (← c.self.view_is) at s in
@@ -47,7 +47,7 @@ returns-clause-stands c = λ history s.
     let room : limit_of d.tree ≡ None = limit_via d.tree c.in_ok-tree.tree c.newcomer_place.result _ c.in_ok-tree.ensures c.newcomer_place.ensures.place c.in-Ok.ensures.room in
     let number = c.in-Ok.ensures.id ∙ ap (λ (z : TreeValue). id z.next_id) c.in_ok-tree.ensures in
     rw c.commit.ensures
-    (stands_next d history (record { who = c.args.who; step = Map c.args.buffer }) c.raise.new.self c.insert.new.self.entries stood c.self.invariant.1
+    (stands_next d history (record { who = c.args.who; act = Map props c.args.buffer }) c.raise.new.self c.insert.new.self.entries stood c.self.invariant.1
     (mapped_via d.tree c.in_ok-tree.tree c.attach.new.self c.raise.new.self c.newcomer_place.result c.in-Ok.id c.args.who c.in_ok-tree.ensures c.newcomer_place.ensures.place c.in-Ok.ensures.id c.in-Ok.ensures.ok c.raise.ensures
     ∙ rw (pixels, room) refl)
     (λ v h.

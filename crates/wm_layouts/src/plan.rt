@@ -1,21 +1,32 @@
 //! The plan with which a desk is started.
 ghost use Rattle.std.specs.Prelude.{◌≡◌, ◌↔◌, IsTrue, IfOk};
-ghost use Rattle.wm_core.specs.Plan.{IsSound, IsFitBorder, IsFitOutput, IsFitRect, default_outputs};
+ghost use Rattle.wm_layouts.specs.Plan.{IsSound, IsFitBorder, IsFitOutput, IsFitRect, default_outputs};
 
 use std::alloc::Global;
-use wm_base::{Border, Edges, List, NoMemory, OutputPlan, Rect, Text};
+use wm_base::{Border, Edges, List, NoMemory, OutputPlan, Rect, Str, Text};
 
-/// The outputs, the default border of containers, and the default gaps of workspaces in pixels.
+/// What commands find beside the tree: the binding modes other than `default`, and for workspaces by their name the
+/// output on which each is made.
+#[derive(Debug, Drop)]
+pub struct Env {
+    pub modes: List<Text>,
+    pub homes: List<(Text, Text)>,
+}
+
+/// The outputs, the default border of containers, the default gaps of workspaces in pixels, what commands find beside
+/// the tree, and the text of the configuration.
 #[derive(Debug, Drop)]
 pub struct Plan {
     pub outputs: List<OutputPlan>,
     pub border: Border,
     pub inner: u32,
     pub outer: u32,
+    pub env: Env,
+    pub config: Str,
 }
 
 impl Plan {
-    /// The plan of one output DP-1 of 1000x800 at 0,0, with no borders and no gaps.
+    /// The plan of one output DP-1 of 1000x800 at 0,0, with no borders, no gaps, no modes, no homes and no configuration.
     pub fn standard(alloc: Global) -> Result<Plan, NoMemory>
         ensures outputs { IfOk result (λ plan. plan.outputs ≡ default_outputs) }
         ensures sound { IfOk result (λ plan. IsSound plan) }
@@ -44,6 +55,11 @@ impl Plan {
             border: Border::Bare,
             inner: 0,
             outer: 0,
+            env: Env {
+                modes: List::of(Vec::new(alloc)),
+                homes: List::of(Vec::new(alloc)),
+            },
+            config: Str::of(String::new(alloc)),
         })
     }
 

@@ -6,7 +6,7 @@ use Rattle.wm_base.specs.declared.plan.Border.{Border}
 use Rattle.wm_base.specs.declared.plan.Border.TheVariants.{Normal, Pixel, Bare}
 use Rattle.wm_base.specs.declared.plan.OutputPlan.{OutputPlan}
 use Rattle.wm_tree.specs.Limits.{IsOutputRect}
-use Rattle.wm_core.specs.declared.plan.Plan.{Plan}
+use Rattle.wm_layouts.specs.declared.plan.Plan.{Plan}
 
 -- an output's rectangle: sides of 1 to 16,384, an area of at most 33,554,432, and a place within the limits
 pub record IsFitRect (r : Rect) : Type 0 where

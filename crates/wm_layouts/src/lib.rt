@@ -1,0 +1,6 @@
+//! Plans: what a desktop starts with, and what its commands find beside the tree.
+#![tactic(auto)]
+
+mod plan;
+
+pub use plan::{Env, Plan};
