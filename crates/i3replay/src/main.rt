@@ -5,6 +5,8 @@ use std::alloc::AllocError;
 use std::env;
 use std::io::{self, ErrorKind};
 use std::process::ExitCode;
+use wm_base::List;
+use wm_criteria::RegexBuild;
 use wm_ports::{StdSink, StdSource};
 use wm_tool::{Status, tool};
 
@@ -20,12 +22,12 @@ usage: i3replay replay < SCRIPT    write the answers and frames of a script
 A script has one of these on each line:
   map INK WxH          open a window: six hexadecimal digits, and its buffer's size
   close ID             close the window of this id
-  run layout splith    lay the windows out side by side
-  run layout splitv    lay the windows out one above another
+  run TEXT             run the commands of a text, as `run layout splitv`
   paint                write the frame
 
-Of the messages RUN_COMMAND with `layout splith`, `layout splitv`, `exit` or `nop` and GET_VERSION do what
-they say. The other types up to 12 are answered {\"success\":false}, and those above have no reply.
+Of the commands `layout splith`, `layout splitv`, `nop`, `exec`, `exit` and the like are done; the others are
+read, and answered with `not built yet`. Of the messages of i3-ipc RUN_COMMAND and GET_VERSION do what they say; the
+other types up to 12 are answered {\"success\":false}, and those above have no reply.
 
 Exit status: 0 done, 2 bad words, 3 bad script, 4 bad frames, 5 frames cut short, 6 input too large, 7 read fault, 8 write fault, 9 no memory.
 ";
@@ -38,7 +40,7 @@ fn main(rt: HostRuntime) -> ExitCode {
         Ok(words) => answer(&rt, &words),
         Err(status) => status,
     };
-    if status != Status::Done {
+    if status.number() != 0 {
         let _ = eprintln!(rt; "{status}");
     }
     ExitCode::from(status.number())
@@ -68,7 +70,8 @@ fn answer(rt: &HostRuntime, words: &[String]) -> Status {
         _ => {
             let mut source = StdSource::new(rt.stdin());
             let mut sink = StdSink::new(rt.stdout());
-            tool(rt.alloc(), words, &mut source, &mut sink)
+            let mut build = RegexBuild::new();
+            tool(rt.alloc(), words, &mut source, &mut sink, &mut build)
         }
     }
 }
@@ -76,7 +79,9 @@ fn answer(rt: &HostRuntime, words: &[String]) -> Status {
 /// Writes a text to standard output.
 fn say(rt: &HostRuntime, text: &str) -> Status {
     match print!(rt; "{text}") {
-        Ok(()) => Status::Done,
+        Ok(()) => Status::Done {
+            refused: List::of(Vec::new(rt.alloc())),
+        },
         Err(_) => Status::WriteFault,
     }
 }

@@ -99,6 +99,13 @@ impl Desk {
         }
     }
 
+    /// How many steps were taken.
+    pub fn steps(&self) -> u64
+        ensures { result ≡ self.now.steps }
+    {
+        self.steps
+    }
+
     /// The frame of the history.
     pub fn frame(&self) -> Result<Frame, NoMemory>
         ensures { (history : History) → Stands self.now history →

@@ -7,12 +7,12 @@ use Rattle.wm_frames.specs.declared.front.Front.TheVariants.{Whole, Part, Wrong,
 use Rattle.wm_frames.specs.Decoding.{Decoding, Stands, capped, fault_of, rest_of}
 use Rattle.wm_frames.specs.Front.{front_of}
 use Rattle.wm_frames.specs.Reading.{Ending, Reading, rest, magic, too_long, ending, ending_at, messages, place, read_up_to, reading, tail, taken}
-use Rattle.wm_ports.specs.Told.{TakesAll}
 use Rattle.wm_tool.specs.declared.run.Command.TheVariants.{Ipc}
+use Rattle.wm_tool.specs.declared.run.FramesEnd.{FramesEnd}
+use Rattle.wm_tool.specs.declared.run.FramesEnd.TheVariants as end
 use Rattle.wm_tool.specs.declared.status.Status.{Status}
 use Rattle.wm_tool.specs.declared.status.Status.TheVariants as status
-use Rattle.wm_tool.specs.Ending.{EndsOn, HasRisen, IsRefused, OnUnwritten, WritesOn, ends, frames_ending, rest_ending}
-use Rattle.wm_tool.specs.Ipc.{out_ipc}
+use Rattle.wm_tool.specs.Ending.{IsRefused, ends, frames_ending, frames_status, rest_ending}
 
 -- ---- there are no more messages than bytes
 
@@ -75,23 +75,22 @@ fed_long bytes d at len s small e = long_ends (place bytes) (length (tail bytes)
 
 -- ---- what follows from the end
 
-by_frames : (P : Status → Type 0) → P status.Done → ((count : ℕ) → P (status.Truncated count)) → ((at : ℕ) → P (status.BadFrames at)) → (e : Ending) → P (frames_ending e)
+-- the end of frames as a status tells what the status of a run may be
+abbrev pub IsEnd : List ℕ → FramesEnd → Type 0
+IsEnd bytes end.Whole = ends Ipc bytes ≡ status.Done []
+IsEnd bytes (end.Bad at) = ends Ipc bytes ≡ status.BadFrames at
+IsEnd bytes (end.Cut count) = ends Ipc bytes ≡ status.Truncated count
+
+pub frames_ended : (bytes : List ℕ) (e : FramesEnd) → frames_status e ≡ ends Ipc bytes → IsEnd bytes e
+frames_ended bytes end.Whole e = sym e
+frames_ended bytes (end.Bad at) e = sym e
+frames_ended bytes (end.Cut count) e = sym e
+
+by_frames : (P : Status → Type 0) → P (status.Done []) → ((count : ℕ) → P (status.Truncated count)) → ((at : ℕ) → P (status.BadFrames at)) → (e : Ending) → P (frames_ending e)
 by_frames P done truncated bad (rest zero) = done
 by_frames P done truncated bad (rest (suc n)) = truncated (suc n)
 by_frames P done truncated bad (magic at) = bad at
 by_frames P done truncated bad (too_long at len) = bad at
-
--- a run that answered all messages, and ends as the frames end
-pub frames_ended : (bytes : List ℕ) (s : Status) (old new : Option (List ℕ)) → s ≡ ends Ipc bytes → TakesAll old new (out_ipc bytes) → EndsOn Ipc bytes s × WritesOn Ipc bytes s old new
-frames_ended bytes s old new e takes =
-    let Holds : Status → Type 0 = λ z. z ≡ ends Ipc bytes → EndsOn Ipc bytes z × WritesOn Ipc bytes z old new in
-    subst Holds (sym e)
-    (by_frames Holds (λ e. (sym e, takes)) (λ count e. (sym e, takes)) (λ at e. (sym e, takes)) (ending bytes)) e
-
-pub frames_refuse_nothing : (bytes : List ℕ) (s : Status) (same : Type 0) (a b c d : ℕ) → s ≡ ends Ipc bytes → OnUnwritten s same × HasRisen s a b c d
-frames_refuse_nothing bytes s same a b c d e =
-    let Holds : Status → Type 0 = λ z. OnUnwritten z same × HasRisen z a b c d in
-    subst Holds (sym e) (by_frames Holds (tt, tt) (λ count. (tt, tt)) (λ at. (tt, tt)) (ending bytes))
 
 -- frames are not refused before they are run
 pub frames_are_run : (bytes : List ℕ) → IsRefused (ends Ipc bytes) → ⊥

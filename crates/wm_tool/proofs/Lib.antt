@@ -1,6 +1,7 @@
 pub mod FieldLemmas
 pub mod FramesLemmas
-pub mod IpcLemmas
 pub mod LawLemmas
+pub mod RefusalLemmas
 pub mod RunLemmas
 pub mod ScriptLemmas
+pub mod TextLemmas

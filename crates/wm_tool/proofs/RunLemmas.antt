@@ -1,86 +1,125 @@
 -- A desk takes steps one after another, and what they tell is written in pieces.
-use Rattle.std.proofs.Common.{◌≡◌, ◌∙◌, refl, ap, sym, subst, ℕ, ◌-◌, suc, get_or, ◌≤◌, List, [], ◌∷◌, ◌++◌, Option, None, Some, Result, Ok, Err, length, take, drop, arith, length-append, append_assoc}
+use Rattle.std.proofs.Common.{◌≡◌, ◌∙◌, refl, ap, sym, subst, ℕ, zero, suc, ◌+◌, ◌-◌, get_or, ◌≤◌, ◌⊎◌, inl, inr, List, [], ◌∷◌, ◌++◌, Option, None, Some, Result, Ok, Err, length, take, drop, arith, length-append, append_assoc}
 use Rattle.std.specs.Prelude.{pos, OnErr}
 use Rattle.std.proofs.lemmas.List.{append-nil, drop_all, take_all, take-append-drop}
-use Rattle.wm_tree.specs.TreeValue.{opening}
-use Rattle.wm_core.specs.DeskValue.{DeskValue, Stands}
-use Rattle.wm_core.specs.History.{History, first_rect, opening_of}
+use Rattle.wm_frames.specs.declared.message.Message.{Message}
 use Rattle.wm_layouts.specs.Plan.{default_outputs}
+use Rattle.wm_tree.specs.TreeValue.{TreeValue, opening}
+use Rattle.wm_core.specs.DeskValue.{DeskValue, Stands}
+use Rattle.wm_criteria.specs.Building.{Tells}
+use Rattle.wm_core.specs.History.{Entry, History, first_rect, opening_of}
 use Rattle.wm_ports.specs.Told.{TakesAll, TakesPart}
 use Rattle.wm_tool.specs.declared.script.Line.{Line}
-use Rattle.wm_frames.specs.declared.message.Message.{Message}
-use Rattle.wm_tool.specs.Ipc.{after_request, replied, replies_from, request_of}
-use Rattle.wm_tool.specs.Output.{after, out_from, start, told}
-use Rattle.wm_tool.specs.Running.{Ahead, Leads, Runs, Said, Writes}
+use Rattle.wm_tool.specs.declared.script.Line.TheVariants as line
+use Rattle.wm_tool.specs.declared.status.Refused.{Refused}
+use Rattle.wm_tool.specs.Ipc.{after_message, entry_by, framed, message_entry, message_step, message_texts, payload, replied, replies_from, request_of, text_of_request, text_step}
+use Rattle.wm_tool.specs.Output.{after, after_entry, entry_text, line_entry, line_step, line_texts, out_from, run_entry, start, told}
+use Rattle.wm_tool.specs.Refusals.{IsBacked, IsRising, refusal_at}
+use Rattle.wm_tool.specs.Running.{Backs, Grows, Holds, IsBackedTo, Leads, Plays, Runs, Stops, Writes}
+use Rattle.wm_tool.proofs.RefusalLemmas.{refusal_before, rising_weaker, verdict_same}
 
 -- ---- the beginning
 
-begins_ahead : (old : Option (List ℕ)) (whole : List ℕ) → Ahead old old whole whole
-begins_ahead None whole = tt
-begins_ahead (Some t) whole = record { said = []; taken = ap (λ xs. Some xs) (sym (append-nil t)); makes = refl }
+holds_none : (old : Option (List ℕ)) → Holds old old []
+holds_none None = tt
+holds_none (Some t) = ap (λ xs. Some xs) (sym (append-nil t))
 
-pub begins : (old : Option (List ℕ)) (desk : DeskValue) (tells : History → List ℕ) → Stands desk [] → Runs old old desk [] tells (tells [])
-begins old desk tells stands = record { history = []; stands = stands; ahead = begins_ahead old (tells []) }
+tells_nothing : (t : Option (List (List ℕ))) → Tells t t []
+tells_nothing None = tt
+tells_nothing (Some told) = ap (λ xs. Some xs) (sym (append-nil told))
 
--- ---- one line or message
+pub nothing_backed : (texts : List (Option (List ℕ))) (count : ℕ) (told : Option (List (List ℕ))) → IsBacked texts [] count count told told
+nothing_backed texts count told = record { rising = tt; fair = tt; counted = omega arith; told = tells_nothing told }
 
--- what is told first is run
-runs_on : (old now : Option (List ℕ)) (desk next : DeskValue) (piece text : List ℕ) (next_history : History → History) (says tells later : History → List ℕ) (whole : List ℕ)
-    → ((history : History) → tells history ≡ says history ++ later (next_history history)) → Runs old now desk piece tells whole → Leads desk next next_history says piece text
-    → Runs old now next text later whole
-runs_on old now desk next piece text next_history says tells later whole first runs leads =
-    let led = leads runs.history runs.stands in
-    record {
-      history = next_history runs.history;
-      stands = led.0;
-      ahead = subst (λ xs. Ahead old now xs whole)
-          (ap (λ xs. piece ++ xs) (first runs.history)
-          ∙ (sym (append_assoc piece (says runs.history) (later (next_history runs.history)))
-          ∙ ap (λ xs. xs ++ later (next_history runs.history)) (sym led.1)))
-          runs.ahead;
+pub begins : (old : Option (List ℕ)) (desk : DeskValue) (tells : List Refused → History → List ℕ) (texts : List (Option (List ℕ))) (count : ℕ) (told : Option (List (List ℕ))) → Stands desk []
+    → Plays old old desk [] [] tells (λ refused. tells refused []) texts texts count count told told
+begins old desk tells texts count told stands = record {
+  runs = record { history = []; stands = stands; said = []; taken = holds_none old; makes = λ more rising. refl };
+  backed = record { below = tt; backed = nothing_backed texts count told };
+  left = ap (λ n. drop n texts) stands.counted;
+}
+
+-- ---- what was written when a run stops
+
+take_said : (said ahead : List ℕ) → take (length said) (said ++ ahead) ≡ said
+take_said [] ahead = refl
+take_said (x ∷ said) ahead = ap (λ xs. x ∷ xs) (take_said said ahead)
+
+part_of : (old now : Option (List ℕ)) (said ahead whole : List ℕ) → Holds old now said → said ++ ahead ≡ whole → TakesPart old now whole
+part_of None now said ahead whole taken makes = tt
+part_of (Some t) now said ahead whole taken makes = (
+  length said,
+  record {
+    within = omega (arith, ap length (sym makes), length-append said ahead);
+    grown = taken ∙ ap (λ xs. Some (t ++ xs)) (sym (ap (take (length said)) (sym makes) ∙ take_said said ahead));
+  },
+)
+
+holds_more : (old now new : Option (List ℕ)) (said piece : List ℕ) → Holds old now said → TakesAll now new piece → Holds old new (said ++ piece)
+holds_more None now new said piece taken takes = tt
+holds_more (Some t) now new said piece taken takes =
+    let takes' = subst (λ o. TakesAll o new piece) taken takes in
+    takes' ∙ ap (λ xs. Some xs) (append_assoc t said piece)
+
+split_piece : (said piece rest : List ℕ) (n : ℕ) → (said ++ take n piece) ++ (drop n piece ++ rest) ≡ said ++ (piece ++ rest)
+split_piece said piece rest n =
+    append_assoc said (take n piece) (drop n piece ++ rest)
+    ∙ ap (λ xs. said ++ xs) (sym (append_assoc (take n piece) (drop n piece) rest) ∙ ap (λ xs. xs ++ rest) (take-append-drop n piece))
+
+fails_part : (old now new : Option (List ℕ)) (said piece rest whole : List ℕ) → Holds old now said → said ++ (piece ++ rest) ≡ whole → TakesPart now new piece → TakesPart old new whole
+fails_part None now new said piece rest whole taken makes takes = tt
+fails_part (Some t) now new said piece rest whole taken makes takes =
+    let part = subst (λ o. TakesPart o new piece) taken takes in
+    part_of (Some t) new (said ++ take part.0 piece) (drop part.0 piece ++ rest) whole
+    (part.1.grown ∙ ap (λ xs. Some xs) (append_assoc t said (take part.0 piece)))
+    (split_piece said piece rest part.0 ∙ makes)
+
+made : (old now : Option (List ℕ)) (desk : DeskValue) (refused : List Refused) (piece : List ℕ) (tells : List Refused → History → List ℕ) (whole : List Refused → List ℕ)
+    → (r : Runs old now desk refused piece tells whole) → r.said ++ (piece ++ tells refused r.history) ≡ whole refused
+made old now desk refused piece tells whole r = subst (λ rs. r.said ++ (piece ++ tells rs r.history) ≡ whole rs) (append-nil refused) (r.makes [] tt)
+
+pub on_err : {A : Type 0} {E : Type 0} {P : Type 0} (r : Result A E) → P → OnErr r P
+on_err (Ok x) p = tt
+on_err (Err e) p = p
+
+module _ (old now new : Option (List ℕ)) (desk : DeskValue) (refused : List Refused) (piece : List ℕ) (tells : List Refused → History → List ℕ) (whole : List Refused → List ℕ)
+    (texts ahead : List (Option (List ℕ))) (count c : ℕ) (told t : Option (List (List ℕ))) (p : Plays old now desk refused piece tells whole texts ahead count c told t)
+  where
+    -- a run whose sink fails has written a first part
+    pub fails : TakesPart now new piece → Stops old new whole refused texts count c told t
+    fails takes = (fails_part old now new p.runs.said piece (tells refused p.runs.history) (whole refused) p.runs.taken (made old now desk refused piece tells whole p.runs) takes, p.backed.backed)
+
+    -- a first part of the piece is written, and the rest of it is held
+    pub writes : (held : List ℕ) → Writes now new piece held → Plays old new desk refused held tells whole texts ahead count c told t
+    writes held w = record {
+      runs = record {
+        history = p.runs.history;
+        stands = p.runs.stands;
+        said = p.runs.said ++ take w.count piece;
+        taken = holds_more old now new p.runs.said (take w.count piece) p.runs.taken w.taken;
+        makes = λ more rising.
+            ap (λ xs. (p.runs.said ++ take w.count piece) ++ (xs ++ tells (refused ++ more) p.runs.history)) w.left
+            ∙ (split_piece p.runs.said piece (tells (refused ++ more) p.runs.history) w.count ∙ p.runs.makes more rising);
+      };
+      backed = p.backed;
+      left = p.left;
     }
 
-opens : (desk : DeskValue) → desk.plan.outputs ≡ default_outputs → start ≡ opening_of desk.plan
-opens desk plan = sym (ap (λ outputs. opening (first_rect (record { x = pos 0; y = pos 0; w = 0; h = 0 }) outputs)) plan)
+-- a run to the end has written all, with its last piece
+pub ends : (old now new : Option (List ℕ)) (desk : DeskValue) (refused : List Refused) (piece : List ℕ) (tells : List Refused → History → List ℕ) (whole : List Refused → List ℕ)
+    → ((rs : List Refused) (history : History) → tells rs history ≡ []) → Runs old now desk refused piece tells whole → TakesAll now new piece → TakesAll old new (whole refused)
+ends None now new desk refused piece tells whole none r takes = tt
+ends (Some t) now new desk refused piece tells whole none r takes =
+    holds_more (Some t) now new r.said piece r.taken takes
+    ∙ ap (λ xs. Some (t ++ xs)) (ap (λ xs. r.said ++ xs) (sym (append-nil piece) ∙ ap (λ xs. piece ++ xs) (sym (none refused r.history))) ∙ made (Some t) now desk refused piece tells whole r)
 
-pub runs_message : (old now : Option (List ℕ)) (desk next : DeskValue) (piece text : List ℕ) (m : Message) (queue rest : List Message) (whole : List ℕ)
-    → queue ≡ m ∷ rest → desk.plan.outputs ≡ default_outputs → Leads desk next (after_request (request_of m)) (replied (opening_of desk.plan) m) piece text
-    → Runs old now desk piece (replies_from queue) whole → Runs old now next text (replies_from rest) whole
-runs_message old now desk next piece text m queue rest whole first plan leads runs =
-    runs_on old now desk next piece text (after_request (request_of m)) (replied (opening_of desk.plan) m) (replies_from (m ∷ rest)) (replies_from rest) whole
-    (λ history. ap (λ tree. replied tree m history ++ replies_from rest (after_request (request_of m) history)) (opens desk plan))
-    (subst (λ ms. Runs old now desk piece (replies_from ms) whole) first runs)
-    leads
-
--- ---- writing
-
-write_said : (t : List ℕ) (now new : Option (List ℕ)) (piece rest whole : List ℕ) → Said t now (piece ++ rest) whole → TakesAll now new piece → Said t new rest whole
-write_said t now new piece rest whole s takes =
-    let takes' = subst (λ o. TakesAll o new piece) s.taken takes in
-    record { said = s.said ++ piece; taken = takes' ∙ ap (λ xs. Some xs) (append_assoc t s.said piece); makes = append_assoc s.said piece rest ∙ s.makes }
-
-write_ahead : (old now new : Option (List ℕ)) (piece rest whole : List ℕ) → Ahead old now (piece ++ rest) whole → TakesAll now new piece → Ahead old new rest whole
-write_ahead None now new piece rest whole a takes = tt
-write_ahead (Some t) now new piece rest whole a takes = write_said t now new piece rest whole a takes
-
--- a first part of the piece is written, and the rest of it is held
-pub writes : (old now new : Option (List ℕ)) (desk : DeskValue) (piece held : List ℕ) (tells : History → List ℕ) (whole : List ℕ)
-    → Runs old now desk piece tells whole → Writes now new piece held → Runs old new desk held tells whole
-writes old now new desk piece held tells whole runs w =
-    let ahead = tells runs.history in
-    record {
-      history = runs.history;
-      stands = runs.stands;
-      ahead = write_ahead old now new (take w.count piece) (held ++ ahead) whole
-          (subst (λ xs. Ahead old now xs whole)
-          (ap (λ xs. xs ++ ahead) (sym (take-append-drop w.count piece) ∙ ap (λ xs. take w.count piece ++ xs) (sym w.left)) ∙ append_assoc (take w.count piece) held ahead)
-          runs.ahead)
-          w.taken;
-    }
-
-pub none_taken : (now : Option (List ℕ)) → TakesAll now now []
+none_taken : (now : Option (List ℕ)) → TakesAll now now []
 none_taken None = tt
 none_taken (Some t) = ap (λ xs. Some xs) (sym (append-nil t))
+
+pub ends_written : (old now : Option (List ℕ)) (desk : DeskValue) (refused : List Refused) (tells : List Refused → History → List ℕ) (whole : List Refused → List ℕ)
+    → ((rs : List Refused) (history : History) → tells rs history ≡ []) → Runs old now desk refused [] tells whole → TakesAll old now (whole refused)
+ends_written old now desk refused tells whole none r = ends old now now desk refused [] tells whole none r (none_taken now)
 
 pub writes_none : (now : Option (List ℕ)) (piece : List ℕ) → Writes now now piece piece
 writes_none now piece = record { count = 0; taken = none_taken now; left = refl }
@@ -89,82 +128,167 @@ pub writes_all : (now new : Option (List ℕ)) (piece held : List ℕ) → Takes
 writes_all now new piece held takes none =
     record { count = length piece; taken = subst (TakesAll now new) (sym (take_all (length piece) piece (omega arith))) takes; left = none ∙ sym (drop_all (length piece) piece (omega arith)) }
 
--- ---- what was written when a run stops
+-- ---- one line or message
 
-take_said : (said ahead : List ℕ) → take (length said) (said ++ ahead) ≡ said
-take_said [] ahead = refl
-take_said (x ∷ said) ahead = ap (λ xs. x ∷ xs) (take_said said ahead)
+drop_more : {A : Type 0} (n m : ℕ) (xs : List A) → drop (n + m) xs ≡ drop m (drop n xs)
+drop_more zero m xs = refl
+drop_more (suc n) m [] = sym (drop_none m)
+  where
+    drop_none : {A : Type 0} (m : ℕ) → drop m ([] : List A) ≡ []
+    drop_none zero = refl
+    drop_none (suc m) = refl
+drop_more (suc n) m (x ∷ xs) = drop_more n m xs
 
-part_of : (t : List ℕ) (new : Option (List ℕ)) (said ahead whole : List ℕ) → new ≡ Some (t ++ said) → said ++ ahead ≡ whole → TakesPart (Some t) new whole
-part_of t new said ahead whole taken makes = (
-  length said,
-  record {
-    within = omega (arith, ap length (sym makes), length-append said ahead);
-    grown = taken ∙ ap (λ xs. Some (t ++ xs)) (sym (ap (take (length said)) (sym makes) ∙ take_said said ahead));
-  },
-)
+drop_front : {A : Type 0} (xs ys : List A) → drop (length xs) (xs ++ ys) ≡ ys
+drop_front [] ys = refl
+drop_front (x ∷ xs) ys = drop_front xs ys
 
-stops_ahead : (old now : Option (List ℕ)) (ahead whole : List ℕ) → Ahead old now ahead whole → TakesPart old now whole
-stops_ahead None now ahead whole a = tt
-stops_ahead (Some t) now ahead whole a = part_of t now a.said ahead whole a.taken a.makes
+module _ (old now : Option (List ℕ)) (desk : DeskValue) (before later_refused : List Refused) (piece : List ℕ)
+    (step : List Refused → History → History) (says tells later : List Refused → History → List ℕ) (whole : List Refused → List ℕ)
+    (texts steps ahead : List (Option (List ℕ))) (count c1 c2 : ℕ) (told_first t1 t2 : Option (List (List ℕ)))
+    (longer : (rs : List Refused) (h : History) → length (step rs h) ≡ length h + length steps)
+    (p : Plays old now desk before piece tells whole texts (steps ++ ahead) count c1 told_first t1)
+    (grown : Grows desk.steps steps before later_refused) (backs : Backs desk.steps steps before later_refused c1 c2 t1 t2)
+  where
+    -- what made the whole makes it with the refusals after the step
+    makes_after : (more : List Refused) (rising : IsRising (length (step later_refused p.runs.history)) more)
+        → p.runs.said ++ (piece ++ tells (later_refused ++ more) p.runs.history) ≡ whole (later_refused ++ more)
+    makes_after more rising = by_grown grown
+      where
+        Makes : List Refused → Type 0
+        Makes rs = p.runs.said ++ (piece ++ tells (rs ++ more) p.runs.history) ≡ whole (rs ++ more)
+        by_grown : Grows desk.steps steps before later_refused → p.runs.said ++ (piece ++ tells (later_refused ++ more) p.runs.history) ≡ whole (later_refused ++ more)
+        by_grown (inl e) =
+            subst Makes (sym e)
+            (p.runs.makes more (rising_weaker (length (step later_refused p.runs.history)) (length p.runs.history) more (omega (arith, longer later_refused p.runs.history)) rising))
+        by_grown (inr g) =
+            subst Makes (sym g.1.1.0)
+            (subst (λ rs. p.runs.said ++ (piece ++ tells rs p.runs.history) ≡ whole rs) (sym (append_assoc before (g.0 ∷ []) more))
+            (p.runs.makes (g.0 ∷ more)
+            (omega (arith, g.1.0, p.runs.stands.counted),
+            rising_weaker (length (step later_refused p.runs.history)) (g.0.place + 1) more (omega (arith, g.1.0, p.runs.stands.counted, g.1.1.1, longer later_refused p.runs.history)) rising)))
 
--- a run that stops has written a first part
-pub stops : (old now : Option (List ℕ)) (desk : DeskValue) (piece : List ℕ) (tells : History → List ℕ) (whole : List ℕ)
-    → Runs old now desk piece tells whole → TakesPart old now whole
-stops old now desk piece tells whole runs = stops_ahead old now (piece ++ tells runs.history) whole runs.ahead
+    backed_after : IsBackedTo (desk.steps + length steps) texts later_refused count c2 told_first t2
+    backed_after = backs texts ahead count told_first p.left p.backed
 
-split_piece : (said piece rest : List ℕ) (n : ℕ) → (said ++ take n piece) ++ (drop n piece ++ rest) ≡ said ++ (piece ++ rest)
-split_piece said piece rest n =
-    append_assoc said (take n piece) (drop n piece ++ rest)
-    ∙ ap (λ xs. said ++ xs) (sym (append_assoc (take n piece) (drop n piece) rest) ∙ ap (λ xs. xs ++ rest) (take-append-drop n piece))
+    -- a step that want of memory stopped
+    pub stops_step : Stops old now whole later_refused texts count c2 told_first t2
+    stops_step =
+        (part_of old now p.runs.said (piece ++ tells later_refused p.runs.history) (whole later_refused) p.runs.taken
+        (subst (λ rs. p.runs.said ++ (piece ++ tells rs p.runs.history) ≡ whole rs) (append-nil later_refused) (makes_after [] tt)),
+        backed_after.backed)
 
-fail_said : (t : List ℕ) (now new : Option (List ℕ)) (piece rest whole : List ℕ) → Said t now (piece ++ rest) whole → TakesPart now new piece → TakesPart (Some t) new whole
-fail_said t now new piece rest whole s takes =
-    let part = subst (λ o. TakesPart o new piece) s.taken takes in
-    part_of t new (s.said ++ take part.0 piece) (drop part.0 piece ++ rest) whole
-    (part.1.grown ∙ ap (λ xs. Some xs) (append_assoc t s.said (take part.0 piece)))
-    (split_piece s.said piece rest part.0 ∙ s.makes)
+    -- a step that was taken
+    pub plays_step : (next : DeskValue) (text : List ℕ) → ((rs : List Refused) (h : History) → tells rs h ≡ says rs h ++ later rs (step rs h))
+        → ((rs more : List Refused) (h : History) → IsRising (length (step rs h)) more → (step (rs ++ more) h ≡ step rs h) × (says (rs ++ more) h ≡ says rs h))
+        → (refusal_at desk.steps before ≡ None → Leads desk next (step later_refused) (says later_refused) piece text) → next.steps ≡ desk.steps + length steps
+        → Plays old now next later_refused text later whole texts ahead count c2 told_first t2
+    plays_step next text first same leads moved =
+        let h = p.runs.history in
+        let led = leads (refusal_before desk.steps before p.backed.below) h p.runs.stands in
+        record {
+          runs = record {
+            history = step later_refused h;
+            stands = led.0;
+            said = p.runs.said;
+            taken = p.runs.taken;
+            makes = λ more rising.
+                let s = same later_refused more h rising in
+                let rs = later_refused ++ more in
+                let ahead_text = later rs (step later_refused h) in
+                ap (λ xs. p.runs.said ++ xs)
+                (ap (λ xs. xs ++ ahead_text) led.1
+                ∙ (append_assoc piece (says later_refused h) ahead_text
+                ∙ ap (λ xs. piece ++ xs) (sym (first rs h ∙ (ap (λ x. x ++ later rs (step rs h)) s.1 ∙ ap (λ z. says later_refused h ++ later rs z) s.0)))))
+                ∙ makes_after more rising;
+          };
+          backed = subst (λ n. IsBackedTo n texts later_refused count c2 told_first t2) (sym moved) backed_after;
+          left = ap (λ n. drop n texts) moved ∙ (drop_more desk.steps (length steps) texts ∙ (ap (drop (length steps)) p.left ∙ drop_front steps ahead));
+        }
 
-fail_ahead : (old now new : Option (List ℕ)) (piece rest whole : List ℕ) → Ahead old now (piece ++ rest) whole → TakesPart now new piece → TakesPart old new whole
-fail_ahead None now new piece rest whole a takes = tt
-fail_ahead (Some t) now new piece rest whole a takes = fail_said t now new piece rest whole a takes
+opens : (desk : DeskValue) → desk.plan.outputs ≡ default_outputs → start ≡ opening_of desk.plan
+opens desk plan = sym (ap (λ outputs. opening (first_rect (record { x = pos 0; y = pos 0; w = 0; h = 0 }) outputs)) plan)
 
--- a run whose sink fails has written a first part
-pub fails : (old now new : Option (List ℕ)) (desk : DeskValue) (piece : List ℕ) (tells : History → List ℕ) (whole : List ℕ)
-    → Runs old now desk piece tells whole → TakesPart now new piece → TakesPart old new whole
-fails old now new desk piece tells whole runs takes = fail_ahead old now new piece (tells runs.history) whole runs.ahead takes
+run_same : (rs more : List Refused) (h : History) (text : List ℕ) → IsRising (suc (length h)) more → run_entry (rs ++ more) h text ≡ run_entry rs h text
+run_same rs more h text rising = rw (verdict_same (length h) rs more text rising) refl
 
--- ---- the end
+-- ---- lines
 
-end_ahead : (old now new : Option (List ℕ)) (piece whole : List ℕ) → Ahead old now (piece ++ []) whole → TakesAll now new piece → TakesAll old new whole
-end_ahead None now new piece whole a takes = tt
-end_ahead (Some t) now new piece whole a takes =
-    let s = write_said t now new piece [] whole a takes in
-    s.taken ∙ ap (λ xs. Some (t ++ xs)) (sym (append-nil s.said) ∙ s.makes)
+line_longer : (l : Line) (rs : List Refused) (h : History) → length (after l rs h) ≡ length h + length (line_step l)
+line_longer (line.Map buffer) rs h = omega arith
+line_longer (line.Close con) rs h = omega arith
+line_longer (line.Run text) rs h = omega arith
+line_longer line.Paint rs h = omega arith
 
--- a run to the end has written all, with its last piece
-pub ends : (old now new : Option (List ℕ)) (desk : DeskValue) (piece whole : List ℕ) → Runs old now desk piece (λ history. []) whole → TakesAll now new piece → TakesAll old new whole
-ends old now new desk piece whole runs takes = end_ahead old now new piece whole runs.ahead takes
+line_same : (l : Line) (rs more : List Refused) (h : History) → IsRising (length (after l rs h)) more → line_entry (rs ++ more) h l ≡ line_entry rs h l
+line_same (line.Map buffer) rs more h rising = refl
+line_same (line.Close con) rs more h rising = refl
+line_same (line.Run text) rs more h rising = ap (λ e. Some e) (run_same rs more h text rising)
+line_same line.Paint rs more h rising = refl
 
-pub on_err : {A : Type 0} {E : Type 0} {P : Type 0} (r : Result A E) → P → OnErr r P
-on_err (Ok x) p = tt
-on_err (Err e) p = p
+rest_is : (g d : Line) (rest : List Line) → 1 ≤ length rest → g ≡ get_or rest 0 d → rest ≡ g ∷ take (length rest - 1) (drop 1 rest)
+rest_is g d [] some is = absurd (omega arith)
+rest_is g d (l ∷ rest) some is = ap (λ x. x ∷ rest) (sym is) ∙ ap (λ xs. g ∷ xs) (sym (take_all (suc (length rest) - 1) rest (omega arith)))
 
--- ---- the first line of what is left
+module _ (old now : Option (List ℕ)) (desk : DeskValue) (before after_refused : List Refused) (piece : List ℕ) (whole : List Refused → List ℕ) (texts : List (Option (List ℕ)))
+    (count c1 c2 : ℕ) (told_first t1 t2 : Option (List (List ℕ))) (g d : Line) (rest : List Line) (some : 1 ≤ length rest) (is : g ≡ get_or rest 0 d)
+    (p : Plays old now desk before piece (out_from rest) whole texts (line_texts rest) count c1 told_first t1)
+    (grown : Grows desk.steps (line_step g) before after_refused) (backs : Backs desk.steps (line_step g) before after_refused c1 c2 t1 t2)
+  where
+    others : List Line
+    others = take (length rest - 1) (drop 1 rest)
 
-first_and_rest : (d : Line) (rest : List Line) → 1 ≤ length rest → rest ≡ get_or rest 0 d ∷ take (length rest - 1) (drop 1 rest)
-first_and_rest d [] h = absurd (omega arith)
-first_and_rest d (line ∷ rest) h = ap (λ xs. line ∷ xs) (sym (take_all (suc (length rest) - 1) rest (omega arith)))
+    first_line : Plays old now desk before piece (out_from (g ∷ others)) whole texts (line_step g ++ line_texts others) count c1 told_first t1
+    first_line = subst (λ ls. Plays old now desk before piece (out_from ls) whole texts (line_texts ls) count c1 told_first t1) (rest_is g d rest some is) p
 
--- the first line of what is left is run
-pub runs_first : (old now : Option (List ℕ)) (desk next : DeskValue) (piece text : List ℕ) (d : Line) (rest : List Line) (whole : List ℕ)
-    → Runs old now desk piece (out_from rest) whole → 1 ≤ length rest → desk.plan.outputs ≡ default_outputs
-    → Leads desk next (after (get_or rest 0 d)) (told (opening_of desk.plan) (get_or rest 0 d)) piece text
-    → Runs old now next text (out_from (take (length rest - 1) (drop 1 rest))) whole
-runs_first old now desk next piece text d rest whole runs some plan leads =
-    let line = get_or rest 0 d in
-    let later = take (length rest - 1) (drop 1 rest) in
-    runs_on old now desk next piece text (after line) (told (opening_of desk.plan) line) (out_from (line ∷ later)) (out_from later) whole
-    (λ history. ap (λ tree. told tree line history ++ out_from later (after line history)) (opens desk plan))
-    (subst (λ lines. Runs old now desk piece (out_from lines) whole) (first_and_rest d rest some) runs)
-    leads
+    pub stops_line : Stops old now whole after_refused texts count c2 told_first t2
+    stops_line =
+        stops_step old now desk before after_refused piece (after g) (told start g) (out_from (g ∷ others)) (out_from others) whole texts (line_step g) (line_texts others) count c1 c2 told_first t1 t2
+        (line_longer g) first_line grown backs
+
+    pub plays_line : (next : DeskValue) (text : List ℕ) → desk.plan.outputs ≡ default_outputs
+        → (refusal_at desk.steps before ≡ None → Leads desk next (after g after_refused) (told (opening_of desk.plan) g after_refused) piece text)
+        → next.steps ≡ desk.steps + length (line_step g) → Plays old now next after_refused text (out_from others) whole texts (line_texts others) count c2 told_first t2
+    plays_line next text plan leads moved =
+        plays_step old now desk before after_refused piece (after g) (told start g) (out_from (g ∷ others)) (out_from others) whole texts (line_step g) (line_texts others) count c1 c2 told_first t1 t2
+        (line_longer g) first_line grown backs
+        next text (λ rs h. refl)
+        (λ rs more h rising. let same = line_same g rs more h rising in (ap (λ e. after_entry e h) same, ap (entry_text start h) same))
+        (subst (λ tree. refusal_at desk.steps before ≡ None → Leads desk next (after g after_refused) (told tree g after_refused) piece text) (sym (opens desk plan)) leads)
+        moved
+
+-- ---- messages
+
+by_text_longer : (o : Option (List ℕ)) (rs : List Refused) (h : History) → length (after_entry (entry_by rs h o) h) ≡ length h + length (text_step o)
+by_text_longer None rs h = omega arith
+by_text_longer (Some text) rs h = omega arith
+
+by_text_same : (o : Option (List ℕ)) (rs more : List Refused) (h : History) → IsRising (length (after_entry (entry_by rs h o) h)) more → entry_by (rs ++ more) h o ≡ entry_by rs h o
+by_text_same None rs more h rising = refl
+by_text_same (Some text) rs more h rising = ap (λ e. Some e) (run_same rs more h text rising)
+
+module _ (old now : Option (List ℕ)) (desk : DeskValue) (before after_refused : List Refused) (piece : List ℕ) (whole : List Refused → List ℕ) (texts : List (Option (List ℕ)))
+    (count c1 c2 : ℕ) (told_first t1 t2 : Option (List (List ℕ))) (m : Message) (queue others : List Message) (is : queue ≡ m ∷ others)
+    (p : Plays old now desk before piece (replies_from queue) whole texts (message_texts queue) count c1 told_first t1)
+    (grown : Grows desk.steps (message_step m) before after_refused) (backs : Backs desk.steps (message_step m) before after_refused c1 c2 t1 t2)
+  where
+    first_message : Plays old now desk before piece (replies_from (m ∷ others)) whole texts (message_step m ++ message_texts others) count c1 told_first t1
+    first_message = subst (λ ms. Plays old now desk before piece (replies_from ms) whole texts (message_texts ms) count c1 told_first t1) is p
+
+    pub stops_message : Stops old now whole after_refused texts count c2 told_first t2
+    stops_message =
+        stops_step old now desk before after_refused piece (after_message m) (replied start m) (replies_from (m ∷ others)) (replies_from others) whole texts (message_step m) (message_texts others) count c1 c2 told_first t1 t2
+        (by_text_longer (text_of_request (request_of m))) first_message grown backs
+
+    pub plays_message : (next : DeskValue) (text : List ℕ) → desk.plan.outputs ≡ default_outputs
+        → (refusal_at desk.steps before ≡ None → Leads desk next (after_message m after_refused) (replied (opening_of desk.plan) m after_refused) piece text)
+        → next.steps ≡ desk.steps + length (message_step m) → Plays old now next after_refused text (replies_from others) whole texts (message_texts others) count c2 told_first t2
+    plays_message next text plan leads moved =
+        plays_step old now desk before after_refused piece (after_message m) (replied start m) (replies_from (m ∷ others)) (replies_from others) whole texts (message_step m) (message_texts others) count c1 c2 told_first t1 t2
+        (by_text_longer (text_of_request (request_of m))) first_message grown backs
+        next text (λ rs h. refl)
+        (λ rs more h rising.
+        let same = by_text_same (text_of_request (request_of m)) rs more h rising in
+        (ap (λ e. after_entry e h) same, ap (λ e. framed m.kind (payload start h (request_of m) e)) same))
+        (subst (λ tree. refusal_at desk.steps before ≡ None → Leads desk next (after_message m after_refused) (replied tree m after_refused) piece text) (sym (opens desk plan)) leads)
+        moved

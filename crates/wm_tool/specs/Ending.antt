@@ -2,17 +2,21 @@
 use Rattle.std.specs.Prelude.{◌≡◌, ℕ, zero, suc, ◌<◌, ◌≤◌, ◌⊎◌, if◌then◌else◌, bytes_eq, List, [], ◌∷◌, Option, None, Some, Result, Ok, Err, length, codes, string_bytes, ⊤, String}
 use Rattle.std.specs.declared.alloc.Global.{Global}
 use Rattle.wm_defs.specs.Counts.{Rose}
-use Rattle.wm_frames.specs.Reading.{Ending, ending, rest, magic, too_long}
+use Rattle.wm_frames.specs.Reading.{Ending, ending, messages, rest, magic, too_long}
 use Rattle.wm_ports.specs.Told.{ReadsCount, ReadsPart, TakesAll, TakesPart}
 use Rattle.wm_tool.specs.declared.replay.Stop.{Stop}
 use Rattle.wm_tool.specs.declared.replay.Stop.TheVariants as stops
 use Rattle.wm_tool.specs.declared.run.Command.{Command}
 use Rattle.wm_tool.specs.declared.run.Command.TheVariants.{Replay, Ipc}
+use Rattle.wm_tool.specs.declared.run.FramesEnd.{FramesEnd}
+use Rattle.wm_tool.specs.declared.run.FramesEnd.TheVariants as end
 use Rattle.wm_tool.specs.declared.script.Line.{Line}
 use Rattle.wm_tool.specs.declared.status.Status.{Status}
 use Rattle.wm_tool.specs.declared.status.Status.TheVariants.{Done, BadWords, BadScript, BadFrames, Truncated, TooLarge, ReadFault, WriteFault, NoMemory}
-use Rattle.wm_tool.specs.Ipc.{out_ipc}
-use Rattle.wm_tool.specs.Output.{out}
+use Rattle.wm_tool.specs.declared.status.Refused.{Refused}
+use Rattle.wm_tool.specs.Ipc.{message_texts, out_ipc}
+use Rattle.wm_tool.specs.Output.{line_texts, lines_in, out}
+use Rattle.wm_tool.specs.Refusals.{IsBacked}
 use Rattle.wm_tool.specs.Script.{script}
 
 abbrev pub command_named : List ℕ → Option Command
@@ -30,18 +34,18 @@ HasStopped old new stops.WriteFault = Rose old new
 HasStopped old new stops.NoMemory = ⊤
 
 -- the status of a run
-abbrev pub ending_of : Result (Unit {0}) Status → Status
-ending_of (Ok done) = Done
+abbrev pub ending_of : Result (List Refused) Status → Status
+ending_of (Ok refused) = Done refused
 ending_of (Err status) = status
 
 -- ---- what the bytes alone say
 
 abbrev pub script_ending : Result (List Line) ℕ → Status
-script_ending (Ok lines) = Done
+script_ending (Ok lines) = Done []
 script_ending (Err line) = BadScript line
 
 abbrev pub rest_ending : ℕ → Status
-rest_ending zero = Done
+rest_ending zero = Done []
 rest_ending (suc n) = Truncated (suc n)
 
 abbrev pub frames_ending : Ending → Status
@@ -49,15 +53,26 @@ frames_ending (rest count) = rest_ending count
 frames_ending (magic at) = BadFrames at
 frames_ending (too_long at len) = BadFrames at
 
+-- the status of a run on frames that end so
+abbrev pub frames_status : FramesEnd → Status
+frames_status end.Whole = Done []
+frames_status (end.Bad at) = BadFrames at
+frames_status (end.Cut bytes) = Truncated bytes
+
 -- how a run on these bytes ends, unless a fault or want of memory stops it
 abbrev pub ends : Command → List ℕ → Status
 ends Replay bytes = script_ending (script bytes)
 ends Ipc bytes = frames_ending (ending bytes)
 
--- all that a run on these bytes writes
-abbrev pub output : Command → List ℕ → List ℕ
-output Replay bytes = out bytes
-output Ipc bytes = out_ipc bytes
+-- all that a run on these bytes writes, given which patterns were refused
+abbrev pub output : Command → List ℕ → List Refused → List ℕ
+output Replay bytes refused = out bytes refused
+output Ipc bytes refused = out_ipc bytes refused
+
+-- the steps that a run on these bytes takes, each with the text that it runs, where it runs one
+abbrev pub texts_in : Command → List ℕ → List (Option (List ℕ))
+texts_in Replay bytes = line_texts (lines_in (script bytes))
+texts_in Ipc bytes = message_texts (messages bytes)
 
 -- the bytes are refused before anything is run
 abbrev pub IsRefused : Status → Type 0
@@ -68,7 +83,7 @@ IsRefused status = ⊥
 
 -- a run on these bytes has ended so only where they say so, or where a fault or want of memory stopped it
 abbrev pub EndsOn : Command → List ℕ → Status → Type 0
-EndsOn c bytes Done = ends c bytes ≡ Done
+EndsOn c bytes (Done refused) = ends c bytes ≡ Done []
 EndsOn c bytes (BadScript line) = ends c bytes ≡ BadScript line
 EndsOn c bytes (BadFrames at) = ends c bytes ≡ BadFrames at
 EndsOn c bytes (Truncated left) = ends c bytes ≡ Truncated left
@@ -78,17 +93,28 @@ EndsOn c bytes BadWords = ⊥
 EndsOn c bytes (TooLarge read) = ⊥
 EndsOn c bytes ReadFault = ⊥
 
+-- how the counts of refusals and the texts that a build tells of them were, and are
+pub record Refusals : Type 0 where
+  pub old : ℕ
+  pub new : ℕ
+  pub told_old : Option (List (List ℕ))
+  pub told_new : Option (List (List ℕ))
+
+-- a list of refusals is fair for these bytes, and backed by the run
+abbrev pub IsBackedOn : Command → List ℕ → Refusals → List Refused → Type 0
+IsBackedOn c bytes b refused = IsBacked (texts_in c bytes) refused b.old b.new b.told_old b.told_new
+
 -- what a run on these bytes that ended so wrote
-abbrev pub WritesOn : Command → List ℕ → Status → Option (List ℕ) → Option (List ℕ) → Type 0
-WritesOn c bytes Done old new = TakesAll old new (output c bytes)
-WritesOn c bytes (BadFrames at) old new = TakesAll old new (output c bytes)
-WritesOn c bytes (Truncated left) old new = TakesAll old new (output c bytes)
-WritesOn c bytes WriteFault old new = TakesPart old new (output c bytes)
-WritesOn c bytes NoMemory old new = TakesPart old new (output c bytes)
-WritesOn c bytes (BadScript line) old new = new ≡ old
-WritesOn c bytes BadWords old new = new ≡ old
-WritesOn c bytes (TooLarge read) old new = new ≡ old
-WritesOn c bytes ReadFault old new = new ≡ old
+abbrev pub WritesOn : Command → List ℕ → Refusals → Status → Option (List ℕ) → Option (List ℕ) → Type 0
+WritesOn c bytes b (Done refused) old new = IsBackedOn c bytes b refused × TakesAll old new (output c bytes refused)
+WritesOn c bytes b (BadFrames at) old new = (refused : List Refused) × IsBackedOn c bytes b refused × TakesAll old new (output c bytes refused)
+WritesOn c bytes b (Truncated left) old new = (refused : List Refused) × IsBackedOn c bytes b refused × TakesAll old new (output c bytes refused)
+WritesOn c bytes b WriteFault old new = (refused : List Refused) × IsBackedOn c bytes b refused × TakesPart old new (output c bytes refused)
+WritesOn c bytes b NoMemory old new = (refused : List Refused) × IsBackedOn c bytes b refused × TakesPart old new (output c bytes refused)
+WritesOn c bytes b (BadScript line) old new = new ≡ old
+WritesOn c bytes b BadWords old new = new ≡ old
+WritesOn c bytes b (TooLarge read) old new = new ≡ old
+WritesOn c bytes b ReadFault old new = new ≡ old
 
 -- ---- what a run read and wrote of what its source and its sink tell
 
@@ -104,7 +130,7 @@ HasRead c (TooLarge read) old new = (16777216 < read) × ReadsCount old new read
 HasRead c ReadFault old new = ReadsPart old new
 HasRead c NoMemory old new = ReadsPart old new
 HasRead c status None new = ⊤
-HasRead c Done (Some bytes) new = ReadsWhole c bytes new Done
+HasRead c (Done refused) (Some bytes) new = ReadsWhole c bytes new (Done refused)
 HasRead c (BadScript line) (Some bytes) new = ReadsWhole c bytes new (BadScript line)
 HasRead c (BadFrames at) (Some bytes) new = ReadsWhole c bytes new (BadFrames at)
 HasRead c (Truncated left) (Some bytes) new = ReadsWhole c bytes new (Truncated left)
@@ -112,9 +138,9 @@ HasRead c WriteFault (Some bytes) new = ReadsWhole c bytes new WriteFault
 HasRead c BadWords (Some bytes) new = new ≡ Some bytes
 
 -- what a run that ended so wrote, where its source told these bytes
-abbrev pub HasWritten : Command → Status → Option (List ℕ) → Option (List ℕ) → Option (List ℕ) → Type 0
-HasWritten c status None old new = ⊤
-HasWritten c status (Some bytes) old new = WritesOn c bytes status old new
+abbrev pub HasWritten : Command → Refusals → Status → Option (List ℕ) → Option (List ℕ) → Option (List ℕ) → Type 0
+HasWritten c b status None old new = ⊤
+HasWritten c b status (Some bytes) old new = WritesOn c bytes b status old new
 
 -- ---- what stays as it was
 
@@ -141,7 +167,12 @@ HasRisen status source_old source_new sink_old sink_new = ⊤
 
 -- ---- runs without a fault
 
+-- the status, its list of refusals left out
+abbrev pub without_list : Status → Status
+without_list (Done refused) = Done []
+without_list status = status
+
 -- an input within the size ends as its bytes say, unless memory runs out
 abbrev pub EndsAs : Command → Status → Option (List ℕ) → Type 0
 EndsAs c status None = ⊤
-EndsAs c status (Some bytes) = length bytes ≤ 16777216 → (status ≡ NoMemory) ⊎ (status ≡ ends c bytes)
+EndsAs c status (Some bytes) = length bytes ≤ 16777216 → (status ≡ NoMemory) ⊎ (without_list status ≡ ends c bytes)

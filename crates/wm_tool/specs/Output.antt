@@ -1,56 +1,92 @@
 -- What the tool writes for a script.
-use Rattle.std.specs.Prelude.{ℕ, List, [], ◌∷◌, ◌++◌, Result, Ok, Err, codes, pos}
+use Rattle.std.specs.Prelude.{ℕ, List, [], ◌∷◌, ◌++◌, length, Option, None, Some, Result, Ok, Err, codes, pos}
 use Rattle.std.specs.Fmt.{decimal}
 use Rattle.wm_base.specs.ErrorText.{word_of}
 use Rattle.wm_tree.specs.TreeValue.{TreeValue, opening}
 use Rattle.wm_core.specs.declared.step.Answer.{Answer}
-use Rattle.wm_core.specs.declared.step.Answer.TheVariants.{Done, Mapped, Replies, NoView, Empty, Full}
+use Rattle.wm_core.specs.declared.step.Answer.TheVariants as answers
 use Rattle.wm_json.specs.Replies.{replies_text}
-use Rattle.wm_core.specs.declared.step.Step.{Step}
 use Rattle.wm_core.specs.Frame.{frame}
+use Rattle.wm_base.specs.declared.properties.Props.{Props}
+use Rattle.wm_core.specs.Act.{Act, Run, Map, Close}
 use Rattle.wm_core.specs.History.{Entry, History, answer, first_rect}
 use Rattle.wm_layouts.specs.Plan.{default_outputs}
 use Rattle.wm_core.specs.Text.{frame_text, new_line}
 use Rattle.wm_tool.specs.declared.script.Line.{Line}
-use Rattle.wm_tool.specs.declared.script.Line.TheVariants.{Do, Paint}
+use Rattle.wm_tool.specs.declared.script.Line.TheVariants as line
+use Rattle.wm_tool.specs.declared.status.Refused.{Refused}
+use Rattle.wm_tool.specs.Refusals.{verdict_of}
 use Rattle.wm_tool.specs.Script.{script}
 
 -- the line that tells an answer
 abbrev pub answer_text : Answer → List ℕ
-answer_text Done = codes "ok" ++ new_line
-answer_text (Mapped id) = codes "ok " ++ (decimal id.0 ++ new_line)
-answer_text (Replies replies) = replies_text replies ++ new_line
-answer_text NoView = codes "no-view" ++ new_line
-answer_text Empty = codes "empty" ++ new_line
-answer_text (Full limit) = codes "full " ++ (word_of limit ++ new_line)
+answer_text answers.Done = codes "ok" ++ new_line
+answer_text (answers.Mapped id) = codes "ok " ++ (decimal id.0 ++ new_line)
+answer_text (answers.Replies replies) = replies_text replies ++ new_line
+answer_text answers.NoView = codes "no-view" ++ new_line
+answer_text answers.Empty = codes "empty" ++ new_line
+answer_text (answers.Full limit) = codes "full " ++ (word_of limit ++ new_line)
 
 -- the opening tree of the standard plan
 abbrev pub start : TreeValue
 start = opening (first_rect (record { x = pos 0; y = pos 0; w = 0; h = 0 }) default_outputs)
 
 -- a step of caller 0
-abbrev pub entry_of : Step → Entry
-entry_of step = record { who = 0; step = step }
+abbrev pub entry_of : Act → Entry
+entry_of act = record { who = 0; act = act }
+
+-- the properties of a window that a script opens: a normal window that says nothing of itself
+abbrev pub no_props : Props
+no_props = record { class = []; instance = []; role = []; kind = codes "normal"; machine = []; title = [] }
+
+-- the step of caller 0 that runs a text after a history, given which patterns were refused
+abbrev pub run_entry : List Refused → History → List ℕ → Entry
+run_entry refused history text = entry_of (Run text (verdict_of refused (length history) text))
+
+-- the step of a line after a history; a line that paints has none
+abbrev pub line_entry : List Refused → History → Line → Option Entry
+line_entry refused history (line.Map buffer) = Some (entry_of (Map no_props buffer))
+line_entry refused history (line.Close con) = Some (entry_of (Close con))
+line_entry refused history (line.Run text) = Some (run_entry refused history text)
+line_entry refused history line.Paint = None
+
+abbrev pub after_entry : Option Entry → History → History
+after_entry None history = history
+after_entry (Some entry) history = entry ∷ history
+
+-- the answer of a step, or the frame where there is none
+abbrev pub entry_text : TreeValue → History → Option Entry → List ℕ
+entry_text tree history None = frame_text (frame tree history)
+entry_text tree history (Some entry) = answer_text (answer tree history entry)
 
 -- the history after a line
-abbrev pub after : Line → History → History
-after (Do step) history = entry_of step ∷ history
-after Paint history = history
+abbrev pub after : Line → List Refused → History → History
+after l refused history = after_entry (line_entry refused history l) history
 
--- what a line tells after a history: the answer of a step, or a frame where it is to be painted
-abbrev pub told : TreeValue → Line → History → List ℕ
-told tree (Do step) history = answer_text (answer tree history (entry_of step))
-told tree Paint history = frame_text (frame tree history)
+-- what a line tells after a history
+abbrev pub told : TreeValue → Line → List Refused → History → List ℕ
+told tree l refused history = entry_text tree history (line_entry refused history l)
 
--- what is written for the lines after a history
-abbrev pub out_from : List Line → History → List ℕ
-out_from [] history = []
-out_from (line ∷ lines) history = told start line history ++ out_from lines (after line history)
+-- what is written for the lines after a history, given which patterns were refused
+abbrev pub out_from : List Line → List Refused → History → List ℕ
+out_from [] refused history = []
+out_from (l ∷ lines) refused history = told start l refused history ++ out_from lines refused (after l refused history)
 
-abbrev pub out_by : Result (List Line) ℕ → List ℕ
-out_by (Ok lines) = out_from lines []
-out_by (Err n) = []
+-- the steps of lines, each with the text that it runs, where it runs one; a line has one step or none
+abbrev pub line_step : Line → List (Option (List ℕ))
+line_step (line.Map buffer) = None ∷ []
+line_step (line.Close con) = None ∷ []
+line_step (line.Run text) = Some text ∷ []
+line_step line.Paint = []
+
+abbrev pub line_texts : List Line → List (Option (List ℕ))
+line_texts [] = []
+line_texts (l ∷ lines) = line_step l ++ line_texts lines
+
+abbrev pub lines_in : Result (List Line) ℕ → List Line
+lines_in (Ok lines) = lines
+lines_in (Err n) = []
 
 -- what is written for the bytes of a script; nothing where a line is outside the grammar
-abbrev pub out : List ℕ → List ℕ
-out bytes = out_by (script bytes)
+abbrev pub out : List ℕ → List Refused → List ℕ
+out bytes refused = out_from (lines_in (script bytes)) refused []

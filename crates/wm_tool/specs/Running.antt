@@ -1,32 +1,75 @@
 -- A desk takes steps one after another, and what they tell is written in pieces.
-use Rattle.std.specs.Prelude.{◌≡◌, ℕ, List, ◌++◌, Option, None, Some, take, drop, ⊤}
+use Rattle.std.specs.Prelude.{◌≡◌, ℕ, ◌<◌, ◌≤◌, ◌+◌, ◌⊎◌, List, [], ◌∷◌, ◌++◌, length, map, Option, None, Some, Result, Ok, Err, take, drop, ⊤}
+use Rattle.std.specs.List.{AllByRecursion}
 use Rattle.wm_core.specs.DeskValue.{DeskValue, Stands}
 use Rattle.wm_core.specs.History.{History}
-use Rattle.wm_ports.specs.Told.{TakesAll}
+use Rattle.wm_criteria.specs.declared.prepared.Prepared.{Prepared}
+use Rattle.wm_criteria.specs.declared.verdict.Verdict.{Verdict}
+use Rattle.wm_criteria.specs.declared.verdict.Verdict.TheVariants.{Ready, Bad, PatternRefused}
+use Rattle.wm_ports.specs.Told.{TakesAll, TakesPart}
+use Rattle.wm_tool.specs.declared.status.Refused.{Refused}
+use Rattle.wm_tool.specs.Refusals.{IsBacked, IsRising}
 
 -- what held for a history holds for the one after it, and what is told there is added to the text
 abbrev pub Leads : DeskValue → DeskValue → (History → History) → (History → List ℕ) → List ℕ → List ℕ → Type 0
 Leads old new after told before text = (history : History) → Stands old history → Stands new (after history) × (text ≡ before ++ told history)
 
--- what was written so far, and what is ahead, make the whole
-pub record Said (t : List ℕ) (now : Option (List ℕ)) (ahead whole : List ℕ) : Type 0 where
-  pub said : List ℕ
-  pub taken : now ≡ Some (t ++ said)
-  pub makes : said ++ ahead ≡ whole
+-- what was taken since is this
+abbrev pub Holds : Option (List ℕ) → Option (List ℕ) → List ℕ → Type 0
+Holds None now said = ⊤
+Holds (Some t) now said = now ≡ Some (t ++ said)
 
-abbrev pub Ahead : Option (List ℕ) → Option (List ℕ) → List ℕ → List ℕ → Type 0
-Ahead None now ahead whole = ⊤
-Ahead (Some t) now ahead whole = Said t now ahead whole
-
--- the desk stands for what was run, what that told is written or is held in the piece, and with what is still to be
--- told after its history this makes the whole
-pub record Runs (old now : Option (List ℕ)) (desk : DeskValue) (piece : List ℕ) (tells : History → List ℕ) (whole : List ℕ) : Type 0 where
+-- The desk stands for what was run, what that told is written or is held in the piece, and with what is still to be
+-- told after its history this makes the whole, whichever patterns will be refused later.
+pub record Runs (old now : Option (List ℕ)) (desk : DeskValue) (refused : List Refused) (piece : List ℕ) (tells : List Refused → History → List ℕ) (whole : List Refused → List ℕ) : Type 0 where
   pub history : History
   pub stands : Stands desk history
-  pub ahead : Ahead old now (piece ++ tells history) whole
+  pub said : List ℕ
+  pub taken : Holds old now said
+  pub makes : (more : List Refused) → IsRising (length history) more → said ++ (piece ++ tells (refused ++ more) history) ≡ whole (refused ++ more)
 
 -- a first part of the piece was taken, and the rest of it is held
 pub record Writes (now new : Option (List ℕ)) (piece held : List ℕ) : Type 0 where
   pub count : ℕ
   pub taken : TakesAll now new (take count piece)
   pub left : held ≡ drop count piece
+
+-- ---- refusals so far
+
+-- the refusal that a verdict is, at a place
+abbrev pub fresh : ℕ → Verdict → List Refused
+fresh place (Ready batch) = []
+fresh place (Bad at) = []
+fresh place (PatternRefused pattern) = record { place = place; pattern = pattern } ∷ []
+
+abbrev pub fresh_by : {E : Type 0} → ℕ → Result Prepared E → List Refused
+fresh_by place (Ok prepared) = fresh place prepared.verdict
+fresh_by place (Err e) = []
+
+-- the refusals are backed, and their places are before n
+pub record IsBackedTo (n : ℕ) (texts : List (Option (List ℕ))) (refused : List Refused) (old new : ℕ) (told_old told_new : Option (List (List ℕ))) : Type 0 where
+  pub below : AllByRecursion (λ (r : Refused). r.place < n) refused
+  pub backed : IsBacked texts refused old new told_old told_new
+
+-- Steps with these texts, from this place on: the refusals that were backed before are so after them.
+abbrev pub Backs : ℕ → List (Option (List ℕ)) → List Refused → List Refused → ℕ → ℕ → Option (List (List ℕ)) → Option (List (List ℕ)) → Type 0
+Backs place steps before after count_old count_new told_old told_new =
+    (texts later : List (Option (List ℕ))) → (count : ℕ) → (told : Option (List (List ℕ))) → drop place texts ≡ steps ++ later
+    → IsBackedTo place texts before count count_old told told_old → IsBackedTo (place + length steps) texts after count count_new told told_new
+
+-- the refusals are as before, or one more at the place, where there is a step
+abbrev pub Grows : ℕ → List (Option (List ℕ)) → List Refused → List Refused → Type 0
+Grows place steps before after = (after ≡ before) ⊎ ((r : Refused) × (r.place ≡ place) × (after ≡ before ++ r ∷ []) × (1 ≤ length steps))
+
+-- ---- a run and its refusals
+
+-- what a run is at, the steps that are ahead being these
+pub record Plays (old now : Option (List ℕ)) (desk : DeskValue) (refused : List Refused) (piece : List ℕ) (tells : List Refused → History → List ℕ) (whole : List Refused → List ℕ)
+    (texts ahead : List (Option (List ℕ))) (count count_now : ℕ) (told told_now : Option (List (List ℕ))) : Type 0 where
+  pub runs : Runs old now desk refused piece tells whole
+  pub backed : IsBackedTo desk.steps texts refused count count_now told told_now
+  pub left : drop desk.steps texts ≡ ahead
+
+-- a run that has stopped wrote a first part, and its refusals are backed
+abbrev pub Stops : Option (List ℕ) → Option (List ℕ) → (List Refused → List ℕ) → List Refused → List (Option (List ℕ)) → ℕ → ℕ → Option (List (List ℕ)) → Option (List (List ℕ)) → Type 0
+Stops old now whole refused texts count count_now told told_now = TakesPart old now (whole refused) × IsBacked texts refused count count_now told told_now

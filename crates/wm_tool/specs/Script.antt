@@ -1,17 +1,16 @@
 -- The script: its lines, and what each says.
-use Rattle.std.specs.Prelude.{◌≡◌, ℕ, ◌+◌, ◌*◌, ◌-◌, ◌==◌, nat_le, ◌&&◌, if◌then◌else◌, List, [], ◌∷◌, length, drop, Option, None, Some, Result, Ok, Err, codes, take_while, ◌++◌, All, IsSome}
+use Rattle.std.specs.Prelude.{◌≡◌, ℕ, ◌+◌, ◌*◌, ◌-◌, ◌==◌, nat_le, ◌&&◌, if◌then◌else◌, List, [], ◌∷◌, length, drop, Option, None, Some, Result, Ok, Err, codes, take_while, ◌++◌, ◌≤◌, All, IsSome}
 use Rattle.std.specs.Char.{is_ascii_digit}
 use Rattle.std.specs.List.{starts_with}
 use Rattle.std.specs.Prelude.{nat_eq}
 use Rattle.wm_defs.specs.Hex.{hex_value}
 use Rattle.wm_base.specs.declared.ids.Buffer.{Buffer}
-use Rattle.wm_base.specs.declared.plan.Layout.TheVariants.{SplitH, SplitV}
-use Rattle.wm_core.specs.declared.step.Step.TheVariants as step
-use Rattle.wm_core.specs.Sizes.{IsFitStep}
+use Rattle.std.specs.Str.{is_utf8}
+use Rattle.wm_core.specs.Sizes.{IsFitSize}
 use Rattle.wm_tool.specs.declared.script.ScriptRefusal.{ScriptRefusal}
 use Rattle.wm_tool.specs.declared.script.ScriptRefusal.TheVariants as refusals
 use Rattle.wm_tool.specs.declared.script.Line.{Line}
-use Rattle.wm_tool.specs.declared.script.Line.TheVariants.{Do, Paint}
+use Rattle.wm_tool.specs.declared.script.Line.TheVariants.{Map, Close, Run, Paint}
 
 -- ---- lines
 
@@ -72,24 +71,29 @@ abbrev pub map_at : List ℕ → Option Line
 map_at text =
     or_none (ink_at text) (λ ink. or_none (behind (codes " ") ink.1) (λ size.
     or_none (number_at 16384 size) (λ w. or_none (behind (codes "x") w.1) (λ height.
-    or_none (number_at 16384 height) (λ h. if_end (Do (step.Map (buffer_of ink.0 w.0 h.0))) h.1)))))
+    or_none (number_at 16384 height) (λ h. if_end (Map (buffer_of ink.0 w.0 h.0)) h.1)))))
 
 -- `ID`, to the end of the line
 abbrev pub close_at : List ℕ → Option Line
-close_at text = or_none (number_at 4294967295 text) (λ id. if_end (Do (step.Close (record { 0 = id.0 }))) id.1)
+close_at text = or_none (number_at 4294967295 text) (λ id. if_end (Close (record { 0 = id.0 })) id.1)
 
 abbrev pub or_else : Option (List ℕ) → (List ℕ → Option Line) → Option Line → Option Line
 or_else None f other = other
 or_else (Some rest) f other = f rest
 
--- what a line says; None where it is outside the grammar
-abbrev pub line_of : List ℕ → Option Line
-line_of text =
+-- a text to be run, to the end of the line; it is UTF-8
+abbrev pub run_at : List ℕ → Option Line
+run_at text = if is_utf8 text then Some (Run text) else None
+
+abbrev pub other_line_of : List ℕ → Option Line
+other_line_of text =
     or_else (behind (codes "map ") text) map_at
     (or_else (behind (codes "close ") text) close_at
-    (or_else (behind (codes "run layout splith") text) (if_end (Do (step.SetLayout SplitH)))
-    (or_else (behind (codes "run layout splitv") text) (if_end (Do (step.SetLayout SplitV)))
-    (or_else (behind (codes "paint") text) (if_end Paint) None))))
+    (or_else (behind (codes "paint") text) (if_end Paint) None))
+
+-- what a line says; None where it is outside the grammar
+abbrev pub line_of : List ℕ → Option Line
+line_of text = or_else (behind (codes "run ") text) run_at (other_line_of text)
 
 -- ---- the script
 
@@ -110,9 +114,11 @@ script_from n (text ∷ texts) = read_from (line_of text) n (script_from (n + 1)
 abbrev pub script : List ℕ → Result (List Line) ℕ
 script bytes = script_from 1 (lines_of bytes)
 
--- a line's step is one that a desk takes
+-- a line's buffer is within the limits, and its text within the size of an input
 abbrev pub IsFitLine : Line → Type 0
-IsFitLine (Do s) = IsFitStep s
+IsFitLine (Map buffer) = IsFitSize buffer.size
+IsFitLine (Close con) = Unit {0}
+IsFitLine (Run text) = length text ≤ 16777216
 IsFitLine Paint = Unit {0}
 
 -- why bytes are no script

@@ -12,7 +12,7 @@ use Rattle.wm_tool.specs.declared.status.Status.TheVariants as status
 
 -- the exit status of the program
 abbrev pub status_number : Status → ℕ
-status_number status.Done = 0
+status_number (status.Done refused) = 0
 status_number status.BadWords = 2
 status_number (status.BadScript line) = 3
 status_number (status.BadFrames at) = 4
@@ -24,7 +24,7 @@ status_number status.NoMemory = 9
 
 -- what the program says on standard error
 abbrev pub status_text : Status → List ℕ
-status_text status.Done = []
+status_text (status.Done refused) = []
 status_text status.BadWords = codes "bad words"
 status_text (status.BadScript line) = codes "bad script, line " ++ decimal line
 status_text (status.BadFrames at) = codes "bad frame at byte " ++ decimal at

@@ -1,61 +1,88 @@
 //! The messages of i3-ipc are answered one after another, and each reply is written as it is made.
-ghost use Rattle.std.specs.Prelude.{◌≡◌, ℕ, List, Option, ◌∷◌, ◌+◌, ◌<◌, ◌≤◌, ◌^◌, [], IfErr, IfOk, IfSome, OnErr, OnOk, length};
+ghost use Rattle.std.specs.Prelude.{◌≡◌, ℕ, List, Option, ◌+◌, ◌<◌, ◌≤◌, ◌^◌, [], ◌∷◌, ◌++◌, None, Some, IfErr, IfOk, OnErr, OnOk, length};
 ghost use Rattle.std.specs.Option.{option_map};
 ghost use Rattle.wm_core.specs.DeskValue.{Stands};
-ghost use Rattle.wm_core.specs.History.{History, answer, opening_of};
+ghost use Rattle.wm_core.specs.History.{answer, History, opening_of};
+ghost use Rattle.wm_json.specs.Replies.{replies_text};
 ghost use Rattle.wm_layouts.specs.Plan.{default_outputs};
 ghost use Rattle.wm_ports.specs.Told.{TakesAll, TakesPart};
 ghost use Rattle.wm_tool.specs.Ending.{HasStopped};
-ghost use Rattle.wm_tool.specs.Ipc.{after_request, payload, replied, replies_from, replies_of, request_of, IsCommand, IsFitRequest};
-ghost use Rattle.wm_json.specs.Replies.{replies_text};
-ghost use Rattle.wm_tool.specs.Output.{entry_of};
-ghost use Rattle.wm_tool.specs.Running.{Leads, Runs};
-ghost use Rattle.wm_tool.specs.declared.replay.Stop.TheVariants as stops;
+ghost use Rattle.wm_tool.specs.Ipc.{after_message, framed, message_step, message_texts, plain_payload, replied, replies_from, replies_of, request_by, text_step};
+ghost use Rattle.wm_tool.specs.Output.{run_entry};
+ghost use Rattle.wm_tool.specs.Refusals.{refusal_at, IsBacked};
+ghost use Rattle.wm_tool.specs.Running.{Backs, Grows, Leads, Plays, Stops};
+ghost use Rattle.wm_tool.specs.declared.status.Refused.{Refused};
 
+use crate::judging::judge;
 use crate::replay::Stop;
-use crate::request::{Request, request_of};
 use std::alloc::Global;
+use std::str;
 use wm_base::NoMemory;
-use wm_core::{Answer, Desk, Plan, Step};
+use wm_core::{Answer, Desk, Step};
+use wm_criteria::Build;
 use wm_frames::{Decoder, Message, encode};
 use wm_json::{Reply, compact, replies_json, success_value, version_value};
+use wm_layouts::Plan;
 use wm_ports::{Sink, write_all};
 
-/// Answers the queued messages on the desk of the standard plan, for caller 0.
-pub fn answer_all<W: Sink>(alloc: Global, decoder: &mut Decoder, sink: &mut W) -> Result<(), Stop>
+/// RUN_COMMAND: the payload is a command text.
+const RUN_COMMAND: u32 = 0;
+
+/// GET_VERSION.
+const GET_VERSION: u32 = 7;
+
+/// GET_BINDING_STATE, the greatest type that is known.
+const LAST_KIND: u32 = 12;
+
+/// Answers the queued messages on the desk of the standard plan, for caller 0. Patterns that are refused are listed.
+pub fn answer_all<B: Build, W: Sink>(
+    alloc: Global,
+    decoder: &mut Decoder,
+    build: &mut B,
+    refused: &mut Vec<crate::status::Refused>,
+    sink: &mut W,
+) -> Result<(), Stop>
     requires few { length decoder.old.queue ≤ 16777216 }
-    ensures ok { OnOk result (TakesAll (W.taken sink.old) (W.taken sink.new) (replies_from decoder.old.queue [])) }
-    ensures part { OnErr result (TakesPart (W.taken sink.old) (W.taken sink.new) (replies_from decoder.old.queue [])) }
+    requires none { refused.old.items ≡ [] }
+    ensures ok { OnOk result (TakesAll (W.taken sink.old) (W.taken sink.new) (replies_from decoder.old.queue refused.new.items [])) }
+    ensures part { OnErr result (TakesPart (W.taken sink.old) (W.taken sink.new) (replies_from decoder.old.queue refused.new.items [])) }
+    ensures backed { IsBacked (message_texts decoder.old.queue) refused.new.items
+        (B.refusals build.old) (B.refusals build.new) (B.refused build.old) (B.refused build.new) }
     ensures err { IfErr result (HasStopped (W.faults sink.old) (W.faults sink.new)) }
     ensures counted { W.faults sink.old ≤ W.faults sink.new }
 {
     let mut desk = Desk::start(alloc, Plan::standard(alloc)?)?;
     let mut piece = Vec::new(alloc);
-    answer_queue(alloc, decoder, &mut desk, &mut piece, sink)
+    answer_queue(alloc, decoder, &mut desk, build, refused, &mut piece, sink)
 }
 
 /// Answers the queued messages on the desk. Each reply is written before the next message is looked at.
-fn answer_queue<W: Sink>(
+fn answer_queue<B: Build, W: Sink>(
     alloc: Global,
     decoder: &mut Decoder,
     desk: &mut Desk,
+    build: &mut B,
+    refused: &mut Vec<crate::status::Refused>,
     piece: &mut Vec<u8>,
     sink: &mut W,
 ) -> Result<(), Stop>
     requires few { desk.old.steps + length decoder.old.queue ≤ 16777216 }
     requires plan { desk.old.plan.outputs ≡ default_outputs }
     requires empty { piece.old.items ≡ [] }
-    ensures ok { (whole : List ℕ) →
-        Runs (W.taken sink.old) (W.taken sink.old) desk.old [] (replies_from decoder.old.queue) whole →
-        OnOk result (TakesAll (W.taken sink.old) (W.taken sink.new) whole) }
-    ensures part { (whole : List ℕ) →
-        Runs (W.taken sink.old) (W.taken sink.old) desk.old [] (replies_from decoder.old.queue) whole →
-        OnErr result (TakesPart (W.taken sink.old) (W.taken sink.new) whole) }
+    ensures ok { (old : Option (List ℕ)) → (whole : List Refused → List ℕ) → (texts : List (Option (List ℕ))) → (count : ℕ) → (told : Option (List (List ℕ))) →
+        Plays old (W.taken sink.old) desk.old refused.old.items [] (replies_from decoder.old.queue) whole texts (message_texts decoder.old.queue)
+            count (B.refusals build.old) told (B.refused build.old) →
+        OnOk result (Plays old (W.taken sink.new) desk.new refused.new.items [] (replies_from []) whole texts []
+            count (B.refusals build.new) told (B.refused build.new)) }
+    ensures part { (old : Option (List ℕ)) → (whole : List Refused → List ℕ) → (texts : List (Option (List ℕ))) → (count : ℕ) → (told : Option (List (List ℕ))) →
+        Plays old (W.taken sink.old) desk.old refused.old.items [] (replies_from decoder.old.queue) whole texts (message_texts decoder.old.queue)
+            count (B.refusals build.old) told (B.refused build.old) →
+        OnErr result (Stops old (W.taken sink.new) whole refused.new.items texts count (B.refusals build.new) told (B.refused build.new)) }
     ensures err { IfErr result (HasStopped (W.faults sink.old) (W.faults sink.new)) }
     ensures counted { W.faults sink.old ≤ W.faults sink.new }
 {
     while let Some(message) = decoder.next() {
-        answer_message(alloc, desk, &message, piece)?;
+        answer_message(alloc, desk, &message, build, refused, piece)?;
         write_all(sink, piece)?;
         piece.clear();
     }
@@ -63,61 +90,114 @@ fn answer_queue<W: Sink>(
 }
 
 /// Answers one message on the desk, and adds the frame of its reply, where it has one.
-fn answer_message(
+fn answer_message<B: Build>(
     alloc: Global,
     desk: &mut Desk,
     message: &Message,
+    build: &mut B,
+    refused: &mut Vec<crate::status::Refused>,
     piece: &mut Vec<u8>,
 ) -> Result<(), NoMemory>
     requires few { desk.old.steps < 2 ^ 48 }
-    ensures ok { OnOk result (Leads desk.old desk.new (after_request (request_of message.now)) (replied (opening_of desk.old.plan) message.now) piece.old.items piece.new.items) }
-    ensures steps { OnOk result (desk.new.steps ≤ desk.old.steps + 1) }
+    ensures ok { refusal_at desk.old.steps refused.old.items ≡ None →
+        OnOk result (Leads desk.old desk.new (after_message message.now refused.new.items) (replied (opening_of desk.old.plan) message.now refused.new.items) piece.old.items piece.new.items) }
+    ensures steps { OnOk result (desk.new.steps ≡ desk.old.steps + length (message_step message.now)) }
     ensures plan { OnOk result (desk.new.plan ≡ desk.old.plan) }
+    ensures grows { Grows desk.old.steps (message_step message.now) refused.old.items refused.new.items }
+    ensures backs { Backs desk.old.steps (message_step message.now) refused.old.items refused.new.items
+        (B.refusals build.old) (B.refusals build.new) (B.refused build.old) (B.refused build.new) }
 {
-    let Some(payload) = payload_of(alloc, desk, request_of(message))? else {
+    if message.kind == RUN_COMMAND {
+        return answer_command(alloc, desk, message, build, refused, piece);
+    }
+    push_reply(message.kind, kind_payload(alloc, message.kind)?, piece)
+}
+
+/// Answers a message that asks to run a text.
+fn answer_command<B: Build>(
+    alloc: Global,
+    desk: &mut Desk,
+    message: &Message,
+    build: &mut B,
+    refused: &mut Vec<crate::status::Refused>,
+    piece: &mut Vec<u8>,
+) -> Result<(), NoMemory>
+    requires few { desk.old.steps < 2 ^ 48 }
+    requires runs { message.now.kind ≡ 0 }
+    ensures ok { refusal_at desk.old.steps refused.old.items ≡ None →
+        OnOk result (Leads desk.old desk.new (after_message message.now refused.new.items) (replied (opening_of desk.old.plan) message.now refused.new.items) piece.old.items piece.new.items) }
+    ensures steps { OnOk result (desk.new.steps ≡ desk.old.steps + length (message_step message.now)) }
+    ensures plan { OnOk result (desk.new.plan ≡ desk.old.plan) }
+    ensures grows { Grows desk.old.steps (message_step message.now) refused.old.items refused.new.items }
+    ensures backs { Backs desk.old.steps (message_step message.now) refused.old.items refused.new.items
+        (B.refusals build.old) (B.refusals build.new) (B.refused build.old) (B.refused build.new) }
+{
+    match str::from_utf8(message.payload.items()) {
+        Ok(text) => {
+            let replies = run_text(alloc, desk, text, build, refused)?;
+            push_reply(RUN_COMMAND, Some(replies), piece)
+        }
+        Err(error) => {
+            let replies = replies_json(alloc, &[Reply::Parse(error.valid_up_to())])?;
+            push_reply(RUN_COMMAND, Some(replies), piece)
+        }
+    }
+}
+
+/// Adds the frame of a reply of this type, where there is one. A payload whose length does not fit 32 bits is
+/// want of memory.
+fn push_reply(kind: u32, payload: Option<Vec<u8>>, piece: &mut Vec<u8>) -> Result<(), NoMemory>
+    ensures { OnOk result (piece.new.items ≡ piece.old.items ++ framed kind (option_map (λ bytes. bytes.items) payload)) }
+{
+    let Some(payload) = payload else {
         return Ok(());
     };
+    if payload.len() > u32::MAX as usize {
+        return Err(NoMemory);
+    }
     let reply = Message {
-        kind: message.kind,
+        kind,
         payload: wm_base::List::of(payload),
     };
     encode(&reply, piece)
 }
 
-/// The payload of the reply to a request, where it has one.
-#[tactic(auto, using(crate::proofs::IpcLemmas::short_one))]
-fn payload_of(alloc: Global, desk: &mut Desk, request: Request) -> Result<Option<Vec<u8>>, NoMemory>
-    requires few { desk.old.steps < 2 ^ 48 }
-    requires fit { IsFitRequest request }
-    ensures payload { (history : History) → Stands desk.old history →
-        IfOk result (λ p. option_map (λ bytes. bytes.items) p ≡ payload (opening_of desk.old.plan) history request) }
-    ensures stands { (history : History) → Stands desk.old history → OnOk result (Stands desk.new (after_request request history)) }
-    ensures short { IfOk result (λ p. IfSome p (λ bytes. length bytes.items < 2 ^ 32)) }
-    ensures steps { OnOk result (desk.new.steps ≤ desk.old.steps + 1) }
-    ensures plan { OnOk result (desk.new.plan ≡ desk.old.plan) }
+/// The payload of the reply to a message of this type that runs no text, where it has one.
+fn kind_payload(alloc: Global, kind: u32) -> Result<Option<Vec<u8>>, NoMemory>
+    requires { (kind ≡ 0) → ⊥ }
+    ensures { (payload : List ℕ) → IfOk result (λ p. option_map (λ bytes. bytes.items) p ≡ plain_payload (request_by kind payload)) }
 {
-    match request {
-        Request::Run(step) => Ok(Some(step_replies(alloc, desk, step)?)),
-        Request::NoText { at } => Ok(Some(replies_json(alloc, &[Reply::Parse(at)])?)),
-        Request::Version => Ok(Some(compact(alloc, &version_value(alloc)?)?)),
-        Request::Refused => Ok(Some(compact(alloc, &success_value(alloc, false)?)?)),
-        Request::Unknown => Ok(None),
+    match kind {
+        GET_VERSION => Ok(Some(compact(alloc, &version_value(alloc)?)?)),
+        0..=LAST_KIND => Ok(Some(compact(alloc, &success_value(alloc, false)?)?)),
+        _ => Ok(None),
     }
 }
 
-/// The text of the replies to a command, which is run on the desk.
-#[tactic(auto, using(crate::proofs::IpcLemmas::short_step))]
-fn step_replies(alloc: Global, desk: &mut Desk, step: Step) -> Result<Vec<u8>, NoMemory>
+/// Runs a text on the desk, and gives the text of its replies. One whose length does not fit 32 bits is want of memory.
+fn run_text<B: Build>(
+    alloc: Global,
+    desk: &mut Desk,
+    text: &str,
+    build: &mut B,
+    refused: &mut Vec<crate::status::Refused>,
+) -> Result<Vec<u8>, NoMemory>
     requires few { desk.old.steps < 2 ^ 48 }
-    requires command { IsCommand step }
-    ensures payload { (history : History) → Stands desk.old history →
-        IfOk result (λ bytes. bytes.items ≡ replies_text (replies_of (answer (opening_of desk.old.plan) history (entry_of step)))) }
-    ensures stands { (history : History) → Stands desk.old history → OnOk result (Stands desk.new (entry_of step ∷ history)) }
-    ensures short { IfOk result (λ bytes. length bytes.items < 2 ^ 32) }
-    ensures steps { OnOk result (desk.new.steps ≤ desk.old.steps + 1) }
+    ensures payload { refusal_at desk.old.steps refused.old.items ≡ None → (history : History) → Stands desk.old history →
+        IfOk result (λ bytes. bytes.items ≡ replies_text (replies_of (answer (opening_of desk.old.plan) history (run_entry refused.new.items history text.now)))) }
+    ensures stands { refusal_at desk.old.steps refused.old.items ≡ None → (history : History) → Stands desk.old history →
+        OnOk result (Stands desk.new (run_entry refused.new.items history text.now ∷ history)) }
+    ensures steps { OnOk result (desk.new.steps ≡ desk.old.steps + 1) }
     ensures plan { OnOk result (desk.new.plan ≡ desk.old.plan) }
+    ensures grows { Grows desk.old.steps (text_step (Some text.now)) refused.old.items refused.new.items }
+    ensures backs { Backs desk.old.steps (text_step (Some text.now)) refused.old.items refused.new.items
+        (B.refusals build.old) (B.refusals build.new) (B.refused build.old) (B.refused build.new) }
 {
-    match desk.step(0, &step)? {
+    if text.len() > u32::MAX as usize {
+        return Err(NoMemory);
+    }
+    let text = judge(alloc, text, desk.steps(), build, refused)?;
+    match desk.step(0, &Step::Run(text))? {
         Answer::Replies(replies) => replies_json(alloc, replies.items()),
         _ => replies_json(alloc, &[]),
     }

@@ -4,16 +4,16 @@
 mod answers;
 mod fields;
 mod ipc;
+mod judging;
 mod laws;
 mod replay;
-mod request;
 mod run;
 mod script;
 mod status;
 
 pub use laws::{bad_line_is_first, script_is_its_lines};
 pub use run::tool;
-pub use status::Status;
+pub use status::{Refused, Status};
 
 #[cfg(test)]
 mod ipc_tests;

@@ -1,20 +1,29 @@
 //! The lines of a script are run, and what they tell is written in pieces.
-ghost use Rattle.std.specs.Prelude.{◌≡◌, ℕ, List, Option, ◌+◌, ◌<◌, ◌≤◌, ◌^◌, [], ◌++◌, All, IfErr, OnErr, OnOk, length};
-ghost use Rattle.wm_core.specs.History.{opening_of};
-ghost use Rattle.wm_layouts.specs.Plan.{default_outputs};
+ghost use Rattle.std.specs.Prelude.{◌≡◌, ℕ, List, Option, ◌+◌, ◌<◌, ◌≤◌, ◌^◌, [], ◌∷◌, None, All, IfErr, IfOk, OnErr, OnOk, length};
+ghost use Rattle.wm_core.specs.Act.{act_of};
+ghost use Rattle.wm_core.specs.Frame.{frame};
+ghost use Rattle.wm_core.specs.Text.{frame_text};
+ghost use Rattle.wm_core.specs.History.{answer, History, opening_of};
+ghost use Rattle.wm_core.specs.Sizes.{IsFitStep};
 ghost use Rattle.wm_defs.specs.Counts.{Rose};
+ghost use Rattle.wm_layouts.specs.Plan.{default_outputs};
 ghost use Rattle.wm_ports.specs.Told.{TakesAll, TakesPart};
 ghost use Rattle.wm_tool.specs.Ending.{HasStopped};
-ghost use Rattle.wm_tool.specs.Output.{after, out_from, told};
-ghost use Rattle.wm_tool.specs.Running.{Leads, Runs, Writes};
+ghost use Rattle.wm_tool.specs.Output.{after, answer_text, entry_of, line_step, line_texts, no_props, out_from, told};
+ghost use Rattle.wm_tool.specs.Refusals.{refusal_at, IsBacked};
+ghost use Rattle.wm_tool.specs.Running.{Backs, Grows, Leads, Plays, Stops, Writes};
 ghost use Rattle.wm_tool.specs.Script.{IsFitLine};
+ghost use Rattle.wm_tool.specs.declared.status.Refused.{Refused};
 ghost use Rattle.wm_tool.specs.declared.replay.Stop.TheVariants as stops;
 
 use crate::answers::push_answer;
+use crate::judging::judge;
 use crate::script::Line;
 use std::alloc::{AllocError, Global};
-use wm_base::NoMemory;
-use wm_core::{Desk, Plan, frame_text};
+use wm_base::{NoMemory, Props, Text, TextRefusal};
+use wm_core::{Desk, Step, frame_text};
+use wm_criteria::Build;
+use wm_layouts::Plan;
 use wm_ports::{Failed, Sink, write_all};
 
 /// How long a piece of the output is at least before it is written, in bytes.
@@ -51,44 +60,58 @@ impl From<AllocError> for Stop {
     }
 }
 
-/// Runs the lines on the desk of the standard plan, and writes what they tell.
-pub fn replay<W: Sink>(alloc: Global, lines: &[Line], sink: &mut W) -> Result<(), Stop>
+/// Runs the lines on the desk of the standard plan, and writes what they tell. Patterns that are refused are listed.
+pub fn replay<B: Build, W: Sink>(
+    alloc: Global,
+    lines: &[Line],
+    build: &mut B,
+    refused: &mut Vec<crate::status::Refused>,
+    sink: &mut W,
+) -> Result<(), Stop>
     requires few { length lines.now ≤ 16777216 }
     requires fit { All IsFitLine lines.now }
-    ensures ok { OnOk result (TakesAll (W.taken sink.old) (W.taken sink.new) (out_from lines.now [])) }
-    ensures part { OnErr result (TakesPart (W.taken sink.old) (W.taken sink.new) (out_from lines.now [])) }
+    requires none { refused.old.items ≡ [] }
+    ensures ok { OnOk result (TakesAll (W.taken sink.old) (W.taken sink.new) (out_from lines.now refused.new.items [])) }
+    ensures part { OnErr result (TakesPart (W.taken sink.old) (W.taken sink.new) (out_from lines.now refused.new.items [])) }
+    ensures backed { IsBacked (line_texts lines.now) refused.new.items
+        (B.refusals build.old) (B.refusals build.new) (B.refused build.old) (B.refused build.new) }
     ensures err { IfErr result (HasStopped (W.faults sink.old) (W.faults sink.new)) }
 {
     let mut desk = Desk::start(alloc, Plan::standard(alloc)?)?;
     let mut piece = Vec::new(alloc);
-    run_lines(alloc, lines, &mut desk, &mut piece, sink)?;
+    run_lines(alloc, lines, &mut desk, build, refused, &mut piece, sink)?;
     write_all(sink, &piece)?;
     Ok(())
 }
 
 /// Runs the lines on the desk. What they tell is written, or held in the piece.
-fn run_lines<W: Sink>(
+fn run_lines<B: Build, W: Sink>(
     alloc: Global,
     lines: &[Line],
     desk: &mut Desk,
+    build: &mut B,
+    refused: &mut Vec<crate::status::Refused>,
     piece: &mut Vec<u8>,
     sink: &mut W,
 ) -> Result<(), Stop>
     requires few { desk.old.steps + length lines.now ≤ 16777216 }
     requires fit { All IsFitLine lines.now }
     requires plan { desk.old.plan.outputs ≡ default_outputs }
-    ensures ok { (old : Option (List ℕ)) → (whole : List ℕ) →
-        Runs old (W.taken sink.old) desk.old piece.old.items (out_from lines.now) whole →
-        OnOk result (Runs old (W.taken sink.new) desk.new piece.new.items (λ _. []) whole) }
-    ensures part { (old : Option (List ℕ)) → (whole : List ℕ) →
-        Runs old (W.taken sink.old) desk.old piece.old.items (out_from lines.now) whole →
-        OnErr result (TakesPart old (W.taken sink.new) whole) }
+    ensures ok { (old : Option (List ℕ)) → (whole : List Refused → List ℕ) → (texts : List (Option (List ℕ))) → (count : ℕ) → (told : Option (List (List ℕ))) →
+        Plays old (W.taken sink.old) desk.old refused.old.items piece.old.items (out_from lines.now) whole texts (line_texts lines.now)
+            count (B.refusals build.old) told (B.refused build.old) →
+        OnOk result (Plays old (W.taken sink.new) desk.new refused.new.items piece.new.items (out_from []) whole texts []
+            count (B.refusals build.new) told (B.refused build.new)) }
+    ensures part { (old : Option (List ℕ)) → (whole : List Refused → List ℕ) → (texts : List (Option (List ℕ))) → (count : ℕ) → (told : Option (List (List ℕ))) →
+        Plays old (W.taken sink.old) desk.old refused.old.items piece.old.items (out_from lines.now) whole texts (line_texts lines.now)
+            count (B.refusals build.old) told (B.refused build.old) →
+        OnErr result (Stops old (W.taken sink.new) whole refused.new.items texts count (B.refusals build.new) told (B.refused build.new)) }
     ensures err { IfErr result (HasStopped (W.faults sink.old) (W.faults sink.new)) }
     ensures counted { W.faults sink.old ≤ W.faults sink.new }
 {
     let mut rest = lines;
     while let [line, after @ ..] = rest {
-        run_line(alloc, desk, line, piece)?;
+        run_line(alloc, desk, line, build, refused, piece)?;
         write_long(piece, sink)?;
         rest = after;
     }
@@ -110,23 +133,89 @@ fn write_long<W: Sink>(piece: &mut Vec<u8>, sink: &mut W) -> Result<(), Failed>
 }
 
 /// Runs one line on the desk, and adds what it tells.
-fn run_line(alloc: Global, desk: &mut Desk, line: &Line, piece: &mut Vec<u8>) -> Result<(), Stop>
+fn run_line<B: Build>(
+    alloc: Global,
+    desk: &mut Desk,
+    line: &Line,
+    build: &mut B,
+    refused: &mut Vec<crate::status::Refused>,
+    piece: &mut Vec<u8>,
+) -> Result<(), NoMemory>
     requires few { desk.old.steps < 2 ^ 48 }
     requires fit { IsFitLine line.now }
-    ensures ok { OnOk result (Leads desk.old desk.new (after line.now) (told (opening_of desk.old.plan) line.now) piece.old.items piece.new.items) }
-    ensures steps { OnOk result (desk.new.steps ≤ desk.old.steps + 1) }
+    ensures ok { refusal_at desk.old.steps refused.old.items ≡ None →
+        OnOk result (Leads desk.old desk.new (after line.now refused.new.items) (told (opening_of desk.old.plan) line.now refused.new.items) piece.old.items piece.new.items) }
+    ensures steps { OnOk result (desk.new.steps ≡ desk.old.steps + length (line_step line.now)) }
     ensures plan { OnOk result (desk.new.plan ≡ desk.old.plan) }
-    ensures err { IfErr result (λ stop. stop ≡ stops.NoMemory) }
+    ensures grows { Grows desk.old.steps (line_step line.now) refused.old.items refused.new.items }
+    ensures backs { Backs desk.old.steps (line_step line.now) refused.old.items refused.new.items
+        (B.refusals build.old) (B.refusals build.new) (B.refused build.old) (B.refused build.new) }
 {
     match line {
-        Line::Do(step) => {
-            let answer = desk.step(0, step)?;
-            push_answer(alloc, piece, &answer)?;
+        Line::Map(buffer) => {
+            let props = no_props(alloc)?;
+            let step = Step::Map {
+                props,
+                buffer: *buffer,
+                then: None,
+            };
+            take(alloc, desk, &step, piece)
         }
-        Line::Paint => {
-            let frame = desk.frame()?;
-            piece.extend_from_slice(frame_text(alloc, &frame)?.as_bytes())?;
+        Line::Close(con) => take(alloc, desk, &Step::Close { con: *con }, piece),
+        Line::Run(text) => {
+            let text = judge(alloc, text.as_str(), desk.steps(), build, refused)?;
+            take(alloc, desk, &Step::Run(text), piece)
         }
+        Line::Paint => paint(alloc, desk, piece),
     }
+}
+
+/// Takes a step of caller 0, and adds its answer.
+fn take(alloc: Global, desk: &mut Desk, step: &Step, piece: &mut Vec<u8>) -> Result<(), NoMemory>
+    requires few { desk.old.steps < 2 ^ 48 }
+    requires fit { IsFitStep step.now }
+    ensures ok { OnOk result (Leads desk.old desk.new (λ history. entry_of (act_of step.now) ∷ history)
+        (λ history. answer_text (answer (opening_of desk.old.plan) history (entry_of (act_of step.now)))) piece.old.items piece.new.items) }
+    ensures steps { OnOk result (desk.new.steps ≡ desk.old.steps + 1) }
+    ensures plan { OnOk result (desk.new.plan ≡ desk.old.plan) }
+{
+    let answer = desk.step(0, step)?;
+    push_answer(alloc, piece, &answer)
+}
+
+/// Adds the frame.
+fn paint(alloc: Global, desk: &Desk, piece: &mut Vec<u8>) -> Result<(), NoMemory>
+    ensures { OnOk result (Leads desk.now desk.now (λ history. history)
+        (λ history. frame_text (frame (opening_of desk.now.plan) history)) piece.old.items piece.new.items) }
+{
+    let frame = desk.frame()?;
+    piece.extend_from_slice(frame_text(alloc, &frame)?.as_bytes())?;
     Ok(())
+}
+
+/// The properties of a window that a script opens.
+fn no_props(alloc: Global) -> Result<Props, NoMemory>
+    ensures { IfOk result (λ props. props ≡ no_props) }
+{
+    let none = word(alloc, "")?;
+    Ok(Props {
+        class: none.clone()?,
+        instance: none.clone()?,
+        role: none.clone()?,
+        kind: word(alloc, "normal")?,
+        machine: none.clone()?,
+        title: none,
+    })
+}
+
+/// A short text.
+fn word(alloc: Global, text: &str) -> Result<Text, NoMemory>
+    requires { length text.now ≤ 1024 }
+    ensures { IfOk result (λ word. word ≡ text.now) }
+{
+    match Text::new(alloc, text) {
+        Ok(word) => Ok(word),
+        Err(TextRefusal::TooLong { len: _ }) => unreachable!(),
+        Err(TextRefusal::NoMemory) => Err(NoMemory),
+    }
 }

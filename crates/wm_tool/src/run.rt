@@ -1,7 +1,7 @@
 //! The tool: its words, what it reads, and how its run ends.
 ghost use Rattle.std.specs.Prelude.{◌≡◌, ◌≢◌, ◌≤◌, ◌↔◌, ℕ, [], length, IfOk, IfSome, None, OnOk};
 ghost use Rattle.wm_defs.specs.Counts.{Rose};
-ghost use Rattle.wm_tool.specs.Ending.{command, ending_of, ends, EndsAs, EndsOn, HasRead, HasRisen, HasWritten, OnUnread, OnUnwritten, rest_ending, WritesOn};
+ghost use Rattle.wm_tool.specs.Ending.{command, ending_of, ends, EndsAs, EndsOn, frames_status, HasRead, HasRisen, HasWritten, OnUnread, OnUnwritten, rest_ending, WritesOn};
 ghost use Rattle.wm_frames.specs.Decoding.{Stands};
 ghost use Rattle.wm_frames.specs.Reading.{messages};
 ghost use Rattle.wm_tool.specs.declared.run.Command.TheVariants as commands;
@@ -10,9 +10,10 @@ ghost use Rattle.wm_tool.specs.declared.status.Status.TheVariants as status;
 use crate::ipc::answer_all;
 use crate::replay::replay;
 use crate::script::read_script;
-use crate::status::Status;
+use crate::status::{Refused, Status};
 use std::alloc::Global;
-use wm_base::NoMemory;
+use wm_base::{List, NoMemory};
+use wm_criteria::Build;
 use wm_frames::{Decoder, FrameFault};
 use wm_ports::{Sink, Source, read_to_limit};
 
@@ -29,19 +30,22 @@ pub enum Command {
 }
 
 /// Runs the tool with these words, which are `replay` or `ipc` alone: the script or the frames that the source gives
-/// are read to their end, and what they tell goes to the sink as it is made.
-pub fn tool<R: Source, W: Sink>(
+/// are read to their end, and what they tell goes to the sink as it is made. The patterns of their texts are built by
+/// `build`, and the steps that it refuses are listed.
+pub fn tool<R: Source, W: Sink, B: Build>(
     alloc: Global,
     words: &[String],
     source: &mut R,
     sink: &mut W,
+    build: &mut B,
 ) -> Status
     ensures words { result ≡ status.BadWords ↔ command words.now ≡ None }
     ensures unread { OnUnread result (source.new ≡ source.old) }
     ensures unwritten { OnUnwritten result (sink.new ≡ sink.old) }
     ensures read { IfSome (command words.now) (λ c. HasRead c result (R.rest source.old) (R.rest source.new)) }
     ensures written { IfSome (command words.now) (λ c.
-        HasWritten c result (R.rest source.old) (W.taken sink.old) (W.taken sink.new)) }
+        HasWritten c (record { old = B.refusals build.old; new = B.refusals build.new; told_old = B.refused build.old; told_new = B.refused build.new })
+            result (R.rest source.old) (W.taken sink.old) (W.taken sink.new)) }
     ensures faults { HasRisen result (R.faults source.old) (R.faults source.new) (W.faults sink.old) (W.faults sink.new) }
     ensures whole { IfSome (command words.now) (λ c.
         (Rose (R.faults source.old) (R.faults source.new) → ⊥) →
@@ -50,8 +54,8 @@ pub fn tool<R: Source, W: Sink>(
     let Some(command) = named(words) else {
         return Status::BadWords;
     };
-    match run(alloc, command, source, sink) {
-        Ok(()) => Status::Done,
+    match run(alloc, command, source, sink, build) {
+        Ok(refused) => Status::Done { refused },
         Err(status) => status,
     }
 }
@@ -71,77 +75,104 @@ fn named(words: &[String]) -> Option<Command>
 }
 
 /// Reads what the source gives, and runs the command on it.
-fn run<R: Source, W: Sink>(
+fn run<R: Source, W: Sink, B: Build>(
     alloc: Global,
     command: Command,
     source: &mut R,
     sink: &mut W,
-) -> Result<(), Status>
+    build: &mut B,
+) -> Result<List<Refused>, Status>
     ensures words { ending_of result ≢ status.BadWords }
     ensures unwritten { OnUnwritten (ending_of result) (sink.new ≡ sink.old) }
     ensures read { HasRead command (ending_of result) (R.rest source.old) (R.rest source.new) }
-    ensures written { HasWritten command (ending_of result) (R.rest source.old) (W.taken sink.old) (W.taken sink.new) }
+    ensures written { HasWritten command (record { old = B.refusals build.old; new = B.refusals build.new; told_old = B.refused build.old; told_new = B.refused build.new })
+        (ending_of result) (R.rest source.old) (W.taken sink.old) (W.taken sink.new) }
     ensures faults { HasRisen (ending_of result) (R.faults source.old) (R.faults source.new) (W.faults sink.old) (W.faults sink.new) }
 {
     let bytes = read_to_limit(alloc, source, MOST)?;
     match command {
-        Command::Replay => replay_script(alloc, &bytes, sink),
-        Command::Ipc => answer_frames(alloc, &bytes, sink),
+        Command::Replay => replay_script(alloc, &bytes, sink, build),
+        Command::Ipc => answer_frames(alloc, &bytes, sink, build),
     }
 }
 
 /// Replays the script that the bytes are.
-fn replay_script<W: Sink>(alloc: Global, bytes: &[u8], sink: &mut W) -> Result<(), Status>
+fn replay_script<W: Sink, B: Build>(
+    alloc: Global,
+    bytes: &[u8],
+    sink: &mut W,
+    build: &mut B,
+) -> Result<List<Refused>, Status>
     requires within { length bytes.now ≤ 16777216 }
     ensures ends { EndsOn commands.Replay bytes.now (ending_of result) }
     ensures unwritten { OnUnwritten (ending_of result) (sink.new ≡ sink.old) }
-    ensures written { WritesOn commands.Replay bytes.now (ending_of result) (W.taken sink.old) (W.taken sink.new) }
+    ensures written { WritesOn commands.Replay bytes.now
+        (record { old = B.refusals build.old; new = B.refusals build.new; told_old = B.refused build.old; told_new = B.refused build.new })
+        (ending_of result) (W.taken sink.old) (W.taken sink.new) }
     ensures faults { (old new : ℕ) → HasRisen (ending_of result) old new (W.faults sink.old) (W.faults sink.new) }
 {
     let lines = read_script(alloc, bytes)?;
-    replay(alloc, &lines, sink)?;
-    Ok(())
+    let mut refused = Vec::new(alloc);
+    replay(alloc, &lines, build, &mut refused, sink)?;
+    Ok(List::of(refused))
 }
 
 /// Answers the messages of the frames that the bytes are.
-fn answer_frames<W: Sink>(alloc: Global, bytes: &[u8], sink: &mut W) -> Result<(), Status>
+fn answer_frames<W: Sink, B: Build>(
+    alloc: Global,
+    bytes: &[u8],
+    sink: &mut W,
+    build: &mut B,
+) -> Result<List<Refused>, Status>
     requires within { length bytes.now ≤ 16777216 }
     ensures ends { EndsOn commands.Ipc bytes.now (ending_of result) }
     ensures unwritten { OnUnwritten (ending_of result) (sink.new ≡ sink.old) }
-    ensures written { WritesOn commands.Ipc bytes.now (ending_of result) (W.taken sink.old) (W.taken sink.new) }
+    ensures written { WritesOn commands.Ipc bytes.now
+        (record { old = B.refusals build.old; new = B.refusals build.new; told_old = B.refused build.old; told_new = B.refused build.new })
+        (ending_of result) (W.taken sink.old) (W.taken sink.new) }
     ensures faults { (old new : ℕ) → HasRisen (ending_of result) old new (W.faults sink.old) (W.faults sink.new) }
 {
     let mut decoder = Decoder::new(alloc);
-    let ending = feed_all(&mut decoder, bytes)?;
-    answer_all(alloc, &mut decoder, sink)?;
-    match ending {
-        Status::Done => Ok(()),
-        status => Err(status),
+    let end = feed_all(&mut decoder, bytes)?;
+    let mut refused = Vec::new(alloc);
+    answer_all(alloc, &mut decoder, build, &mut refused, sink)?;
+    match end {
+        FramesEnd::Whole => Ok(List::of(refused)),
+        FramesEnd::Bad { at } => Err(Status::BadFrames { at }),
+        FramesEnd::Cut { bytes } => Err(Status::Truncated { bytes }),
     }
 }
 
-/// Feeds the bytes to a new decoder, and says how a run on them ends.
-fn feed_all(decoder: &mut Decoder, bytes: &[u8]) -> Result<Status, NoMemory>
+/// How frames end: whole, at a place where none begins, or with a part of one.
+#[derive(Clone, Copy, Debug, PartialEq, Eq)]
+enum FramesEnd {
+    Whole,
+    Bad { at: u64 },
+    Cut { bytes: usize },
+}
+
+/// Feeds the bytes to a new decoder, and says how they end.
+fn feed_all(decoder: &mut Decoder, bytes: &[u8]) -> Result<FramesEnd, NoMemory>
     requires fresh { Stands [] [] decoder.old }
     requires within { length bytes.now ≤ 16777216 }
-    ensures ends { IfOk result (λ status. status ≡ ends commands.Ipc bytes.now) }
+    ensures ends { IfOk result (λ end. frames_status end ≡ ends commands.Ipc bytes.now) }
     ensures queue { OnOk result (decoder.new.queue ≡ messages bytes.now) }
 {
     match decoder.feed(bytes) {
         Ok(()) => Ok(frames_left(decoder.rest())),
-        Err(FrameFault::Magic { at }) => Ok(Status::BadFrames { at }),
-        Err(FrameFault::TooLong { at, len: _ }) => Ok(Status::BadFrames { at }),
+        Err(FrameFault::Magic { at }) => Ok(FramesEnd::Bad { at }),
+        Err(FrameFault::TooLong { at, len: _ }) => Ok(FramesEnd::Bad { at }),
         Err(FrameFault::NoMemory) => Err(NoMemory),
     }
 }
 
-/// How a run ends on whole frames and this many bytes behind them.
-fn frames_left(bytes: usize) -> Status
-    ensures { result ≡ rest_ending bytes }
+/// How frames end with this many bytes behind the last whole one.
+fn frames_left(bytes: usize) -> FramesEnd
+    ensures { frames_status result ≡ rest_ending bytes }
 {
     if bytes == 0 {
-        Status::Done
+        FramesEnd::Whole
     } else {
-        Status::Truncated { bytes }
+        FramesEnd::Cut { bytes }
     }
 }

@@ -1,26 +1,60 @@
 //! The script: its lines, and what each says.
 ghost use Rattle.std.specs.Prelude.{◌≡◌, ◌==◌, ◌<◌, ◌≤◌, ◌∷◌, not, All, IfOk, IfErr, IfSome, Ok, length, take_while, vec_len};
 ghost use Rattle.wm_tool.specs.declared.script.ScriptRefusal.TheVariants as refusals;
-ghost use Rattle.wm_tool.specs.Script.{close_at, if_end, line_of, lines_of, map_at, script, IsFitLine, IsRefused};
+ghost use Rattle.wm_tool.specs.Script.{close_at, if_end, line_of, lines_of, map_at, other_line_of, run_at, script, IsFitLine, IsRefused};
 
 use crate::fields::{behind, ink, number};
-use std::alloc::{AllocFailed, Global};
-use wm_base::{Buffer, ConId, Layout, Size};
-use wm_core::Step;
+use std::alloc::{AllocError, AllocFailed, Global};
+use std::str;
+use wm_base::{Buffer, ConId, Size, Str};
 
 /// The greatest side of a buffer in pixels.
 const MAX_SIDE: u32 = 16384;
 
 /// A line of a script: a step of caller 0, or a frame to be painted.
-#[derive(Clone, Copy, Debug, PartialEq, Eq)]
+#[derive(Debug, Drop)]
 pub enum Line {
-    Do(Step),
+    /// Opens a window with this buffer.
+    Map(Buffer),
+    /// Closes the window.
+    Close(ConId),
+    /// Runs a text.
+    Run(Str),
+    /// Paints the frame.
     Paint,
 }
 
 /// What the line says. `None` exactly where it is outside the grammar.
-fn read_line(text: &[u8]) -> Option<Line>
-    ensures value { result ≡ line_of text.now }
+fn read_line(alloc: Global, text: &[u8]) -> Result<Option<Line>, AllocError>
+    requires { length text.now ≤ 16777216 }
+    ensures value { IfOk result (λ line. line ≡ line_of text.now) }
+    ensures fit { IfOk result (λ line. IfSome line IsFitLine) }
+{
+    match behind(text, b"run ") {
+        Some(rest) => run_line(alloc, rest),
+        None => Ok(other_line(text)),
+    }
+}
+
+/// A text to be run, which is UTF-8.
+#[tactic(auto, using(crate::proofs::TextLemmas::run_text, crate::proofs::TextLemmas::run_no_text))]
+fn run_line(alloc: Global, text: &[u8]) -> Result<Option<Line>, AllocError>
+    requires { length text.now ≤ 16777216 }
+    ensures value { IfOk result (λ line. line ≡ run_at text.now) }
+    ensures fit { IfOk result (λ line. IfSome line IsFitLine) }
+{
+    match str::from_utf8(text) {
+        Ok(text) => {
+            let text = String::from_str(alloc, text)?;
+            Ok(Some(Line::Run(Str::of(text))))
+        }
+        Err(_) => Ok(None),
+    }
+}
+
+/// What a line says that runs no text.
+fn other_line(text: &[u8]) -> Option<Line>
+    ensures value { result ≡ other_line_of text.now }
     ensures fit { IfSome result IsFitLine }
 {
     if let Some(rest) = behind(text, b"map ") {
@@ -28,12 +62,6 @@ fn read_line(text: &[u8]) -> Option<Line>
     }
     if let Some(rest) = behind(text, b"close ") {
         return close_line(rest);
-    }
-    if let Some(rest) = behind(text, b"run layout splith") {
-        return at_end(rest, Line::Do(Step::SetLayout(Layout::SplitH)));
-    }
-    if let Some(rest) = behind(text, b"run layout splitv") {
-        return at_end(rest, Line::Do(Step::SetLayout(Layout::SplitV)));
     }
     match behind(text, b"paint") {
         Some(rest) => at_end(rest, Line::Paint),
@@ -63,7 +91,7 @@ fn map_line(text: &[u8]) -> Option<Line>
         ink,
         size: Size { w, h },
     };
-    at_end(rest, Line::Do(Step::Map { buffer }))
+    at_end(rest, Line::Map(buffer))
 }
 
 /// `ID`, to the end of the line.
@@ -72,7 +100,7 @@ fn close_line(text: &[u8]) -> Option<Line>
     ensures fit { IfSome result IsFitLine }
 {
     let (id, rest) = number(text, u32::MAX)?;
-    at_end(rest, Line::Do(Step::Close { con: ConId(id) }))
+    at_end(rest, Line::Close(ConId(id)))
 }
 
 /// Why bytes are no script.
@@ -81,6 +109,14 @@ pub enum ScriptRefusal {
     /// This line, counted from 1, is the first one outside the grammar.
     BadLine { line: u64 },
     NoMemory,
+}
+
+impl From<AllocError> for ScriptRefusal {
+    ghost from_gives = { λ _ e. e ≡ refusals.NoMemory };
+
+    fn from(_error: AllocError) -> ScriptRefusal {
+        ScriptRefusal::NoMemory
+    }
 }
 
 impl<T: Drop> From<AllocFailed<T>> for ScriptRefusal {
@@ -93,6 +129,7 @@ impl<T: Drop> From<AllocFailed<T>> for ScriptRefusal {
 
 /// The lines of the script that the bytes are.
 pub fn read_script(alloc: Global, bytes: &[u8]) -> Result<Vec<Line>, ScriptRefusal>
+    requires within { length bytes.now ≤ 16777216 }
     ensures ok { IfOk result (λ lines. script bytes.now ≡ Ok lines.items) }
     ensures fit { IfOk result (λ lines. All IsFitLine lines.items) }
     ensures few { IfOk result (λ lines. vec_len lines ≤ length bytes.now) }
@@ -103,7 +140,7 @@ pub fn read_script(alloc: Global, bytes: &[u8]) -> Result<Vec<Line>, ScriptRefus
     let mut rest = bytes;
     while !rest.is_empty() {
         let (text, after) = first_line(rest);
-        let Some(line) = read_line(text) else {
+        let Some(line) = read_line(alloc, text)? else {
             return Err(ScriptRefusal::BadLine { line: number });
         };
         lines.push(line)?;
@@ -118,6 +155,7 @@ fn first_line(text: &[u8]) -> (&[u8], &[u8])
     requires { 0 < length text.now }
     ensures lines { lines_of text.now ≡ result.0.now ∷ lines_of result.1.now }
     ensures shorter { length result.1.now < length text.now }
+    ensures within { length result.0.now ≤ length text.now }
 {
     let end = line_length(text);
     let (line, rest) = text.split_at(end);

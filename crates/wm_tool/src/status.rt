@@ -6,14 +6,22 @@ ghost use Rattle.wm_tool.specs.declared.status.Status.TheVariants as status;
 use crate::replay::Stop;
 use crate::script::ScriptRefusal;
 use std::fmt;
-use wm_base::NoMemory;
+use wm_base::{List, NoMemory};
 use wm_ports::ReadFault;
 
-/// How a run of the tool ended. Its number is the exit status of the program.
+/// A step whose text has a pattern that was refused: its place in the history, counted from 0, and the pattern's
+/// number in the text, counted from 0.
 #[derive(Clone, Copy, Debug, PartialEq, Eq)]
+pub struct Refused {
+    pub place: u64,
+    pub pattern: u32,
+}
+
+/// How a run of the tool ended. Its number is the exit status of the program.
+#[derive(Debug, Drop)]
 pub enum Status {
-    /// All was read and written.
-    Done,
+    /// All was read and written. The steps of which a pattern was refused are listed.
+    Done { refused: List<Refused> },
     /// The words are none of the tool's commands. Nothing was read.
     BadWords,
     /// This line, counted from 1, is the first one outside the grammar. Nothing was written.
@@ -35,11 +43,11 @@ pub enum Status {
 
 impl Status {
     /// The exit status of the program: 0, or 2 to 9.
-    pub fn number(self) -> u8
-        ensures { result ≡ status_number self }
+    pub fn number(&self) -> u8
+        ensures { result ≡ status_number self.now }
     {
         match self {
-            Status::Done => 0,
+            Status::Done { refused: _ } => 0,
             Status::BadWords => 2,
             Status::BadScript { line: _ } => 3,
             Status::BadFrames { at: _ } => 4,
@@ -59,8 +67,8 @@ impl fmt::Display for Status {
     ghost output = { λ status. Some (status_text status) };
 
     fn fmt<W: fmt::Write>(&self, f: &mut fmt::Formatter<W>) -> fmt::Result {
-        match *self {
-            Status::Done => Ok(()),
+        match self {
+            Status::Done { refused: _ } => Ok(()),
             Status::BadWords => f.write_str("bad words"),
             Status::BadScript { line } => write!(f, "bad script, line {line}"),
             Status::BadFrames { at } => write!(f, "bad frame at byte {at}"),

@@ -1,17 +1,19 @@
-use Rattle.std.proofs.Common.{◌≡◌, ℕ, ◌+◌, ◌≤◌, List, [], length}
+use Rattle.std.proofs.Common.{◌≡◌, ℕ, ◌+◌, ◌≤◌, List, [], Option, length}
 use Rattle.wm_layouts.specs.Plan.{default_outputs}
-use Rattle.wm_tool.specs.Ipc.{replies_from}
-use Rattle.wm_tool.specs.Running.{Runs}
+use Rattle.wm_tool.specs.declared.status.Refused.{Refused}
+use Rattle.wm_tool.specs.Ipc.{message_texts, replies_from}
+use Rattle.wm_tool.specs.Running.{Plays}
 use Rattle.wm_tool.proofs.ipc.answer_queue.Given as goal
 
--- the replies so far are written, and the desk stands for their messages
+-- the replies so far are written, the desk stands for their messages, and their refusals are backed
 abbrev pub invariant-loop-message : goal.invariant-loop-message
 invariant-loop-message g l = record {
   few : l.desk.steps + length l.decoder.queue ≤ 16777216;
   plan : l.desk.plan.outputs ≡ default_outputs;
   empty : l.piece.items ≡ [];
-  runs : (whole : List ℕ) → Runs (g.W.Sink.taken l.initial.sink) (g.W.Sink.taken l.initial.sink) l.initial.desk [] (replies_from l.initial.decoder.queue) whole
-      → Runs (g.W.Sink.taken l.initial.sink) (g.W.Sink.taken l.sink) l.desk [] (replies_from l.decoder.queue) whole;
+  plays : (old : Option (List ℕ)) (whole : List Refused → List ℕ) (texts : List (Option (List ℕ))) (count : ℕ) (told : Option (List (List ℕ)))
+      → Plays old (g.W.Sink.taken l.initial.sink) l.initial.desk l.initial.refused.items [] (replies_from l.initial.decoder.queue) whole texts (message_texts l.initial.decoder.queue) count (g.B.Build.refusals l.initial.build) told (g.B.Build.refused l.initial.build)
+      → Plays old (g.W.Sink.taken l.sink) l.desk l.refused.items [] (replies_from l.decoder.queue) whole texts (message_texts l.decoder.queue) count (g.B.Build.refusals l.build) told (g.B.Build.refused l.build);
   counted : g.W.Sink.faults l.initial.sink ≤ g.W.Sink.faults l.sink;
 }
 

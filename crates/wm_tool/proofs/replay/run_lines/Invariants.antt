@@ -1,18 +1,20 @@
 use Rattle.std.proofs.Common.{◌≡◌, ℕ, ◌+◌, ◌≤◌, List, Option, All, length}
 use Rattle.wm_layouts.specs.Plan.{default_outputs}
-use Rattle.wm_tool.specs.Output.{out_from}
-use Rattle.wm_tool.specs.Running.{Runs}
+use Rattle.wm_tool.specs.declared.status.Refused.{Refused}
+use Rattle.wm_tool.specs.Output.{line_texts, out_from}
+use Rattle.wm_tool.specs.Running.{Plays}
 use Rattle.wm_tool.specs.Script.{IsFitLine}
 use Rattle.wm_tool.proofs.replay.run_lines.Given as goal
 
--- what the lines so far tell is written or held, and the desk stands for them
+-- what the lines so far tell is written or held, the desk stands for them, and their refusals are backed
 abbrev pub invariant-loop-rest : goal.invariant-loop-rest
 invariant-loop-rest g l = record {
   few : l.desk.steps + length l.rest ≤ 16777216;
   fit : All IsFitLine l.rest;
   plan : l.desk.plan.outputs ≡ default_outputs;
-  runs : (old : Option (List ℕ)) (whole : List ℕ) → Runs old (g.W.Sink.taken l.initial.sink) l.initial.desk l.initial.piece.items (out_from l.lines) whole
-      → Runs old (g.W.Sink.taken l.sink) l.desk l.piece.items (out_from l.rest) whole;
+  plays : (old : Option (List ℕ)) (whole : List Refused → List ℕ) (texts : List (Option (List ℕ))) (count : ℕ) (told : Option (List (List ℕ)))
+      → Plays old (g.W.Sink.taken l.initial.sink) l.initial.desk l.initial.refused.items l.initial.piece.items (out_from l.lines) whole texts (line_texts l.lines) count (g.B.Build.refusals l.initial.build) told (g.B.Build.refused l.initial.build)
+      → Plays old (g.W.Sink.taken l.sink) l.desk l.refused.items l.piece.items (out_from l.rest) whole texts (line_texts l.rest) count (g.B.Build.refusals l.build) told (g.B.Build.refused l.build);
   counted : g.W.Sink.faults l.initial.sink ≤ g.W.Sink.faults l.sink;
 }
 
