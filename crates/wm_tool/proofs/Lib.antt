@@ -1,3 +1,4 @@
+pub mod EndLemmas
 pub mod FieldLemmas
 pub mod FramesLemmas
 pub mod LawLemmas

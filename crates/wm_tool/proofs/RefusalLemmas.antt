@@ -4,6 +4,7 @@ use Rattle.std.specs.Prelude.{slice_get, min, IsTrue, option_and_then, option_ma
 use Rattle.std.specs.List.{flat_map, AllByRecursion}
 use Rattle.std.specs.Option.{option_to_list}
 use Rattle.std.proofs.lemmas.Bool.{eqb-true}
+use Rattle.std.proofs.lemmas.Bool.Decides.{Decides-eqb}
 use Rattle.std.proofs.lemmas.List.{append-nil}
 use Rattle.std.proofs.lemmas.Grind.{flat_map-append}
 use Rattle.wm_defs.specs.Counts.{Rose}
@@ -112,8 +113,7 @@ reads_pattern text k None e refusable = absurd (no_pattern text k e refusable)
 reads_pattern text k (Some gs) e refusable = ap (λ x. verdict_by (option_map (λ g. record { groups = g }) x) (Some k) text) e
 
 same_place : (n : ℕ) → eqb n n ≡ true
-same_place zero = refl
-same_place (suc n) = same_place n
+same_place n = (Decides-eqb n n).1 refl
 
 fresh_refusal : (n k : ℕ) → refusal_at n (fresh n (PatternRefused k)) ≡ Some k
 fresh_refusal n k = ap (λ b. cond b (Some k) None) (same_place n)

@@ -1,6 +1,6 @@
 -- A desk takes steps one after another, and what they tell is written in pieces.
-use Rattle.std.proofs.Common.{◌≡◌, ◌∙◌, refl, ap, sym, subst, ℕ, zero, suc, ◌+◌, ◌-◌, get_or, ◌≤◌, ◌⊎◌, inl, inr, List, [], ◌∷◌, ◌++◌, Option, None, Some, Result, Ok, Err, length, take, drop, arith, length-append, append_assoc}
-use Rattle.std.specs.Prelude.{pos, OnErr}
+use Rattle.std.proofs.Common.{◌≡◌, ◌∙◌, refl, ap, ap₂, sym, subst, ℕ, zero, suc, ◌+◌, ◌-◌, get_or, ◌<◌, ◌≤◌, ◌⊎◌, inl, inr, List, [], ◌∷◌, ◌++◌, Option, None, Some, Result, Ok, Err, length, take, drop, arith, length-append, append_assoc}
+use Rattle.std.specs.Prelude.{pos, OnErr, OnOk}
 use Rattle.std.proofs.lemmas.List.{append-nil, drop_all, take_all, take-append-drop}
 use Rattle.wm_frames.specs.declared.message.Message.{Message}
 use Rattle.wm_layouts.specs.Plan.{default_outputs}
@@ -13,10 +13,14 @@ use Rattle.wm_tool.specs.declared.script.Line.{Line}
 use Rattle.wm_tool.specs.declared.script.Line.TheVariants as line
 use Rattle.wm_tool.specs.declared.status.Refused.{Refused}
 use Rattle.wm_tool.specs.Ipc.{after_message, entry_by, framed, message_entry, message_step, message_texts, payload, replied, replies_from, request_of, text_of_request, text_step}
-use Rattle.wm_tool.specs.Output.{after, after_entry, entry_text, line_entry, line_step, line_texts, out_from, run_entry, start, told}
-use Rattle.wm_tool.specs.Refusals.{IsBacked, IsRising, refusal_at}
-use Rattle.wm_tool.specs.Running.{Backs, Grows, Holds, IsBackedTo, Leads, Plays, Runs, Stops, Writes}
-use Rattle.wm_tool.proofs.RefusalLemmas.{refusal_before, rising_weaker, verdict_same}
+use Rattle.wm_tool.specs.Output.{after, after_entry, entry_text, line_entry, line_step, entry_of, line_texts, out_from, run_entry, start, told}
+use Rattle.wm_tool.specs.Refusals.{IsBacked, IsRising, refusal_at, verdict_of}
+use Rattle.wm_tool.specs.Running.{Backs, Grows, Holds, IsBackedTo, Leads, Plays, Runs, Stops, Writes, fresh}
+use Rattle.wm_core.specs.Act.{Run, act_of}
+use Rattle.wm_core.specs.declared.step.Step.TheVariants as steps_of
+use Rattle.wm_criteria.specs.declared.prepared.Prepared.{Prepared}
+use Rattle.wm_criteria.specs.Verdict.{IsVerdict}
+use Rattle.wm_tool.proofs.RefusalLemmas.{keeps_backed, refusal_before, rising_weaker, verdict_is, verdict_same}
 
 -- ---- the beginning
 
@@ -130,14 +134,14 @@ writes_all now new piece held takes none =
 
 -- ---- one line or message
 
+drop_nothing : {A : Type 0} (k : ℕ) → drop {A = A} k [] ≡ []
+drop_nothing zero = refl
+drop_nothing (suc k) = refl
+
 drop_more : {A : Type 0} (n m : ℕ) (xs : List A) → drop (n + m) xs ≡ drop m (drop n xs)
-drop_more zero m xs = refl
-drop_more (suc n) m [] = sym (drop_none m)
-  where
-    drop_none : {A : Type 0} (m : ℕ) → drop m ([] : List A) ≡ []
-    drop_none zero = refl
-    drop_none (suc m) = refl
-drop_more (suc n) m (x ∷ xs) = drop_more n m xs
+drop_more zero m xs = let e : 0 + m ≡ m = omega arith in ap (λ k. drop k xs) e
+drop_more (suc n) m [] = drop_nothing (suc n + m) ∙ sym (drop_nothing m)
+drop_more (suc n) m (x ∷ xs) = let e : suc n + m ≡ suc (n + m) = omega arith in ap (λ k. drop k (x ∷ xs)) e ∙ drop_more n m xs
 
 drop_front : {A : Type 0} (xs ys : List A) → drop (length xs) (xs ++ ys) ≡ ys
 drop_front [] ys = refl
@@ -162,11 +166,11 @@ module _ (old now : Option (List ℕ)) (desk : DeskValue) (before later_refused 
             subst Makes (sym e)
             (p.runs.makes more (rising_weaker (length (step later_refused p.runs.history)) (length p.runs.history) more (omega (arith, longer later_refused p.runs.history)) rising))
         by_grown (inr g) =
-            subst Makes (sym g.1.1.0)
+            subst Makes (sym g.2)
             (subst (λ rs. p.runs.said ++ (piece ++ tells rs p.runs.history) ≡ whole rs) (sym (append_assoc before (g.0 ∷ []) more))
             (p.runs.makes (g.0 ∷ more)
-            (omega (arith, g.1.0, p.runs.stands.counted),
-            rising_weaker (length (step later_refused p.runs.history)) (g.0.place + 1) more (omega (arith, g.1.0, p.runs.stands.counted, g.1.1.1, longer later_refused p.runs.history)) rising)))
+            (omega (arith, g.1, p.runs.stands.counted),
+            rising_weaker (length (step later_refused p.runs.history)) (g.0.place + 1) more (omega (arith, g.1, p.runs.stands.counted, g.3, longer later_refused p.runs.history)) rising)))
 
     backed_after : IsBackedTo (desk.steps + length steps) texts later_refused count c2 told_first t2
     backed_after = backs texts ahead count told_first p.left p.backed
@@ -212,6 +216,26 @@ opens desk plan = sym (ap (λ outputs. opening (first_rect (record { x = pos 0; 
 run_same : (rs more : List Refused) (h : History) (text : List ℕ) → IsRising (suc (length h)) more → run_entry (rs ++ more) h text ≡ run_entry rs h text
 run_same rs more h text rising = rw (verdict_same (length h) rs more text rising) refl
 
+-- ---- a text that is run
+
+-- a text that was prepared at the place is the one that the history has
+pub run_entry_is : (place : ℕ) (history : History) (before after_refused : List Refused) (text : List ℕ) (p : Prepared) → refusal_at place before ≡ None → place ≡ length history → p.text ≡ text
+    → IsVerdict text p.verdict → after_refused ≡ before ++ fresh place p.verdict → entry_of (act_of (steps_of.Run p)) ≡ run_entry after_refused history text
+run_entry_is place history before after_refused text p none at same is grown =
+    ap₂ (λ t v. entry_of (Run t v)) same
+    (sym (verdict_is place before text p.verdict none is) ∙ (ap (λ rs. verdict_of rs place text) (sym grown) ∙ ap (λ n. verdict_of after_refused n text) at))
+
+pub unchanged : (place : ℕ) (steps : List (Option (List ℕ))) (rs : List Refused) (c : ℕ) (t : Option (List (List ℕ))) → Backs place steps rs rs c c t t
+unchanged place steps rs c t = keeps_backed place steps rs rs c c t t refl (tells_nothing t) (omega arith)
+
+pub on_ok : {A : Type 0} {E : Type 0} {P : Type 0} (r : Result A E) → P → OnOk r P
+on_ok (Ok x) p = p
+on_ok (Err e) p = tt
+
+pub ok_weaker : {A : Type 0} {E : Type 0} {P Q : Type 0} (r : Result A E) → OnOk r P → (P → Q) → OnOk r Q
+ok_weaker (Ok x) p weaker = weaker p
+ok_weaker (Err e) p weaker = tt
+
 -- ---- lines
 
 line_longer : (l : Line) (rs : List Refused) (h : History) → length (after l rs h) ≡ length h + length (line_step l)
@@ -226,6 +250,16 @@ line_same (line.Close con) rs more h rising = refl
 line_same (line.Run text) rs more h rising = ap (λ e. Some e) (run_same rs more h text rising)
 line_same line.Paint rs more h rising = refl
 
+pub none_left : (rest : List Line) → length rest < 1 → rest ≡ []
+none_left [] few = refl
+none_left (l ∷ rest) few = absurd (omega (arith, few))
+
+pub one_step : (l : Line) → length (line_step l) ≤ 1
+one_step (line.Map buffer) = omega arith
+one_step (line.Close con) = omega arith
+one_step (line.Run text) = omega arith
+one_step line.Paint = omega arith
+
 rest_is : (g d : Line) (rest : List Line) → 1 ≤ length rest → g ≡ get_or rest 0 d → rest ≡ g ∷ take (length rest - 1) (drop 1 rest)
 rest_is g d [] some is = absurd (omega arith)
 rest_is g d (l ∷ rest) some is = ap (λ x. x ∷ rest) (sym is) ∙ ap (λ xs. g ∷ xs) (sym (take_all (suc (length rest) - 1) rest (omega arith)))
@@ -235,7 +269,7 @@ module _ (old now : Option (List ℕ)) (desk : DeskValue) (before after_refused 
     (p : Plays old now desk before piece (out_from rest) whole texts (line_texts rest) count c1 told_first t1)
     (grown : Grows desk.steps (line_step g) before after_refused) (backs : Backs desk.steps (line_step g) before after_refused c1 c2 t1 t2)
   where
-    others : List Line
+    abbrev pub others : List Line
     others = take (length rest - 1) (drop 1 rest)
 
     first_line : Plays old now desk before piece (out_from (g ∷ others)) whole texts (line_step g ++ line_texts others) count c1 told_first t1
@@ -262,6 +296,10 @@ module _ (old now : Option (List ℕ)) (desk : DeskValue) (before after_refused 
 by_text_longer : (o : Option (List ℕ)) (rs : List Refused) (h : History) → length (after_entry (entry_by rs h o) h) ≡ length h + length (text_step o)
 by_text_longer None rs h = omega arith
 by_text_longer (Some text) rs h = omega arith
+
+pub one_text : (o : Option (List ℕ)) → length (text_step o) ≤ 1
+one_text None = omega arith
+one_text (Some text) = omega arith
 
 by_text_same : (o : Option (List ℕ)) (rs more : List Refused) (h : History) → IsRising (length (after_entry (entry_by rs h o) h)) more → entry_by (rs ++ more) h o ≡ entry_by rs h o
 by_text_same None rs more h rising = refl

@@ -1,10 +1,11 @@
 -- Texts that are UTF-8, or are not.
-use Rattle.std.proofs.Common.{◌≡◌, refl, ℕ, List, Option, None, Some, Bool, true, false}
+use Rattle.std.proofs.Common.{◌≡◌, ◌∙◌, refl, ap, ℕ, List, Option, None, Some, Bool, true, false}
 use Rattle.std.specs.Str.{is_utf8, IsUtf8}
 use Rattle.std.specs.Str.Lossy.{utf8_valid_len}
 use Rattle.std.proofs.lemmas.Str.{IsUtf8-from_is_utf8, is_utf8-from_IsUtf8}
 use Rattle.wm_tool.specs.declared.script.Line.TheVariants.{Run}
-use Rattle.wm_tool.specs.Ipc.{Request, ask, no_text, command_of}
+use Rattle.wm_frames.specs.declared.message.Message.{Message}
+use Rattle.wm_tool.specs.Ipc.{ask, no_text, request_by, request_of}
 use Rattle.wm_tool.specs.Script.{run_at}
 
 not_utf8 : (bytes : List ℕ) → (IsUtf8 bytes → ⊥) → is_utf8 bytes ≡ false
@@ -21,10 +22,10 @@ run_text bytes text = rw (is_utf8-from_IsUtf8 bytes text) refl
 pub run_no_text : (bytes : List ℕ) → (IsUtf8 bytes → ⊥) → run_at bytes ≡ None
 run_no_text bytes bad = rw (not_utf8 bytes bad) refl
 
--- a payload that is UTF-8 is a command text
-pub text_is_command : (bytes : List ℕ) → IsUtf8 bytes → command_of bytes ≡ ask bytes
-text_is_command bytes text = rw (is_utf8-from_IsUtf8 bytes text) refl
+-- a message that asks to run a text, which is UTF-8
+pub asks : (m : Message) → m.kind ≡ 0 → IsUtf8 m.payload → request_of m ≡ ask m.payload
+asks m kind text = ap (λ n. request_by n m.payload) kind ∙ rw (is_utf8-from_IsUtf8 m.payload text) refl
 
 -- any other has a first bad byte
-pub no_text_is_none : (bytes : List ℕ) (at : ℕ) → (IsUtf8 bytes → ⊥) → at ≡ utf8_valid_len bytes → command_of bytes ≡ no_text at
-no_text_is_none bytes at bad e = rw (not_utf8 bytes bad, e) refl
+pub asks_no_text : (m : Message) → m.kind ≡ 0 → (IsUtf8 m.payload → ⊥) → request_of m ≡ no_text (utf8_valid_len m.payload)
+asks_no_text m kind bad = ap (λ n. request_by n m.payload) kind ∙ rw (not_utf8 m.payload bad) refl

@@ -1,24 +1,23 @@
 //! The messages of i3-ipc are answered one after another, and each reply is written as it is made.
 ghost use Rattle.std.specs.Prelude.{◌≡◌, ℕ, List, Option, ◌+◌, ◌<◌, ◌≤◌, ◌^◌, [], ◌∷◌, ◌++◌, None, Some, IfErr, IfOk, OnErr, OnOk, length};
 ghost use Rattle.std.specs.Option.{option_map};
-ghost use Rattle.wm_core.specs.DeskValue.{Stands};
 ghost use Rattle.wm_core.specs.History.{answer, History, opening_of};
 ghost use Rattle.wm_json.specs.Replies.{replies_text};
 ghost use Rattle.wm_layouts.specs.Plan.{default_outputs};
 ghost use Rattle.wm_ports.specs.Told.{TakesAll, TakesPart};
 ghost use Rattle.wm_tool.specs.Ending.{HasStopped};
-ghost use Rattle.wm_tool.specs.Ipc.{after_message, framed, message_step, message_texts, plain_payload, replied, replies_from, replies_of, request_by, text_step};
+ghost use Rattle.wm_tool.specs.Ipc.{after_message, framed, message_step, message_texts, plain_payload, replied, replies_from, replies_of, request_by};
 ghost use Rattle.wm_tool.specs.Output.{run_entry};
 ghost use Rattle.wm_tool.specs.Refusals.{refusal_at, IsBacked};
 ghost use Rattle.wm_tool.specs.Running.{Backs, Grows, Leads, Plays, Stops};
 ghost use Rattle.wm_tool.specs.declared.status.Refused.{Refused};
 
-use crate::judging::judge;
+use crate::judging::run_text;
 use crate::replay::Stop;
 use std::alloc::Global;
 use std::str;
 use wm_base::NoMemory;
-use wm_core::{Answer, Desk, Step};
+use wm_core::{Answer, Desk};
 use wm_criteria::Build;
 use wm_frames::{Decoder, Message, encode};
 use wm_json::{Reply, compact, replies_json, success_value, version_value};
@@ -53,7 +52,8 @@ pub fn answer_all<B: Build, W: Sink>(
 {
     let mut desk = Desk::start(alloc, Plan::standard(alloc)?)?;
     let mut piece = Vec::new(alloc);
-    answer_queue(alloc, decoder, &mut desk, build, refused, &mut piece, sink)
+    answer_queue(alloc, decoder, &mut desk, build, refused, &mut piece, sink)?;
+    Ok(())
 }
 
 /// Answers the queued messages on the desk. Each reply is written before the next message is looked at.
@@ -133,14 +133,49 @@ fn answer_command<B: Build>(
         (B.refusals build.old) (B.refusals build.new) (B.refused build.old) (B.refused build.new) }
 {
     match str::from_utf8(message.payload.items()) {
-        Ok(text) => {
-            let replies = run_text(alloc, desk, text, build, refused)?;
-            push_reply(RUN_COMMAND, Some(replies), piece)
-        }
+        Ok(text) => answer_text(alloc, desk, text, build, refused, piece),
         Err(error) => {
             let replies = replies_json(alloc, &[Reply::Parse(error.valid_up_to())])?;
             push_reply(RUN_COMMAND, Some(replies), piece)
         }
+    }
+}
+
+/// Runs a text on the desk, and adds the frame of its replies. A text whose length does not fit 32 bits is want of memory.
+fn answer_text<B: Build>(
+    alloc: Global,
+    desk: &mut Desk,
+    text: &str,
+    build: &mut B,
+    refused: &mut Vec<crate::status::Refused>,
+    piece: &mut Vec<u8>,
+) -> Result<(), NoMemory>
+    requires few { desk.old.steps < 2 ^ 48 }
+    ensures ok { refusal_at desk.old.steps refused.old.items ≡ None →
+        OnOk result (Leads desk.old desk.new (λ history. run_entry refused.new.items history text.now ∷ history)
+            (λ history. framed 0 (Some (replies_text (replies_of (answer (opening_of desk.old.plan) history (run_entry refused.new.items history text.now))))))
+            piece.old.items piece.new.items) }
+    ensures steps { OnOk result (desk.new.steps ≡ desk.old.steps + 1) }
+    ensures plan { OnOk result (desk.new.plan ≡ desk.old.plan) }
+    ensures grows { Grows desk.old.steps (Some text.now ∷ []) refused.old.items refused.new.items }
+    ensures backs { Backs desk.old.steps (Some text.now ∷ []) refused.old.items refused.new.items
+        (B.refusals build.old) (B.refusals build.new) (B.refused build.old) (B.refused build.new) }
+{
+    if text.len() > u32::MAX as usize {
+        return Err(NoMemory);
+    }
+    let answer = run_text(alloc, desk, text, build, refused)?;
+    let replies = answer_replies(alloc, &answer)?;
+    push_reply(RUN_COMMAND, Some(replies), piece)
+}
+
+/// The text of the replies of an answer.
+fn answer_replies(alloc: Global, answer: &Answer) -> Result<Vec<u8>, NoMemory>
+    ensures { IfOk result (λ bytes. bytes.items ≡ replies_text (replies_of answer.now)) }
+{
+    match answer {
+        Answer::Replies(replies) => replies_json(alloc, replies.items()),
+        _ => replies_json(alloc, &[]),
     }
 }
 
@@ -171,34 +206,5 @@ fn kind_payload(alloc: Global, kind: u32) -> Result<Option<Vec<u8>>, NoMemory>
         GET_VERSION => Ok(Some(compact(alloc, &version_value(alloc)?)?)),
         0..=LAST_KIND => Ok(Some(compact(alloc, &success_value(alloc, false)?)?)),
         _ => Ok(None),
-    }
-}
-
-/// Runs a text on the desk, and gives the text of its replies. One whose length does not fit 32 bits is want of memory.
-fn run_text<B: Build>(
-    alloc: Global,
-    desk: &mut Desk,
-    text: &str,
-    build: &mut B,
-    refused: &mut Vec<crate::status::Refused>,
-) -> Result<Vec<u8>, NoMemory>
-    requires few { desk.old.steps < 2 ^ 48 }
-    ensures payload { refusal_at desk.old.steps refused.old.items ≡ None → (history : History) → Stands desk.old history →
-        IfOk result (λ bytes. bytes.items ≡ replies_text (replies_of (answer (opening_of desk.old.plan) history (run_entry refused.new.items history text.now)))) }
-    ensures stands { refusal_at desk.old.steps refused.old.items ≡ None → (history : History) → Stands desk.old history →
-        OnOk result (Stands desk.new (run_entry refused.new.items history text.now ∷ history)) }
-    ensures steps { OnOk result (desk.new.steps ≡ desk.old.steps + 1) }
-    ensures plan { OnOk result (desk.new.plan ≡ desk.old.plan) }
-    ensures grows { Grows desk.old.steps (text_step (Some text.now)) refused.old.items refused.new.items }
-    ensures backs { Backs desk.old.steps (text_step (Some text.now)) refused.old.items refused.new.items
-        (B.refusals build.old) (B.refusals build.new) (B.refused build.old) (B.refused build.new) }
-{
-    if text.len() > u32::MAX as usize {
-        return Err(NoMemory);
-    }
-    let text = judge(alloc, text, desk.steps(), build, refused)?;
-    match desk.step(0, &Step::Run(text))? {
-        Answer::Replies(replies) => replies_json(alloc, replies.items()),
-        _ => replies_json(alloc, &[]),
     }
 }

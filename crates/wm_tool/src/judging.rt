@@ -1,14 +1,19 @@
-//! The texts of a run are prepared, and it is noted which of their patterns were refused.
-ghost use Rattle.std.specs.Prelude.{◌≡◌, ◌++◌, ◌<◌, ◌≤◌, ◌^◌, length, IfOk, IsTrue};
+//! Texts are prepared and run on a desk, and it is noted which of their patterns were refused.
+ghost use Rattle.std.specs.Prelude.{◌≡◌, ◌++◌, ◌+◌, ◌<◌, ◌≤◌, ◌^◌, ◌∷◌, [], length, IfOk, IsTrue, None, OnOk, Some};
+ghost use Rattle.wm_core.specs.DeskValue.{Stands};
+ghost use Rattle.wm_core.specs.History.{answer, History, opening_of};
 ghost use Rattle.wm_defs.specs.Counts.{Rose};
 ghost use Rattle.wm_criteria.specs.Building.{Tells};
 ghost use Rattle.wm_criteria.specs.Prepared.{is_built, refused_by};
 ghost use Rattle.wm_criteria.specs.Verdict.{IsVerdict, OnRefusal};
-ghost use Rattle.wm_tool.specs.Running.{fresh_by};
+ghost use Rattle.wm_tool.specs.Output.{run_entry};
+ghost use Rattle.wm_tool.specs.Refusals.{refusal_at};
+ghost use Rattle.wm_tool.specs.Running.{Backs, fresh_by, Grows};
 
 use crate::status::Refused;
 use std::alloc::Global;
 use wm_base::NoMemory;
+use wm_core::{Answer, Desk, Step};
 use wm_criteria::{Build, Prepared, Verdict, prepare};
 
 /// Prepares a text that is run at this place of the history. A refused pattern is added to those so far.
@@ -34,4 +39,29 @@ pub fn judge<B: Build>(
         refused.push_reserved(Refused { place, pattern });
     }
     Ok(prepared)
+}
+
+/// Runs a text on the desk for caller 0, and gives what that is answered.
+pub fn run_text<B: Build>(
+    alloc: Global,
+    desk: &mut Desk,
+    text: &str,
+    build: &mut B,
+    refused: &mut Vec<Refused>,
+) -> Result<Answer, NoMemory>
+    requires few { desk.old.steps < 2 ^ 48 }
+    requires short { length text.now < 2 ^ 32 }
+    ensures answer { refusal_at desk.old.steps refused.old.items ≡ None → (history : History) → Stands desk.old history →
+        IfOk result (λ a. a ≡ answer (opening_of desk.old.plan) history (run_entry refused.new.items history text.now)) }
+    ensures stands { refusal_at desk.old.steps refused.old.items ≡ None → (history : History) → Stands desk.old history →
+        OnOk result (Stands desk.new (run_entry refused.new.items history text.now ∷ history)) }
+    ensures steps { OnOk result (desk.new.steps ≡ desk.old.steps + 1) }
+    ensures plan { OnOk result (desk.new.plan ≡ desk.old.plan) }
+    ensures grows { Grows desk.old.steps (Some text.now ∷ []) refused.old.items refused.new.items }
+    ensures backs { Backs desk.old.steps (Some text.now ∷ []) refused.old.items refused.new.items
+        (B.refusals build.old) (B.refusals build.new) (B.refused build.old) (B.refused build.new) }
+{
+    let text = judge(alloc, text, desk.steps(), build, refused)?;
+    let step = Step::Run(text);
+    desk.step(0, &step)
 }

@@ -17,7 +17,7 @@ ghost use Rattle.wm_tool.specs.declared.status.Refused.{Refused};
 ghost use Rattle.wm_tool.specs.declared.replay.Stop.TheVariants as stops;
 
 use crate::answers::push_answer;
-use crate::judging::judge;
+use crate::judging::run_text;
 use crate::script::Line;
 use std::alloc::{AllocError, Global};
 use wm_base::{NoMemory, Props, Text, TextRefusal};
@@ -163,8 +163,8 @@ fn run_line<B: Build>(
         }
         Line::Close(con) => take(alloc, desk, &Step::Close { con: *con }, piece),
         Line::Run(text) => {
-            let text = judge(alloc, text.as_str(), desk.steps(), build, refused)?;
-            take(alloc, desk, &Step::Run(text), piece)
+            let answer = run_text(alloc, desk, text.as_str(), build, refused)?;
+            push_answer(alloc, piece, &answer)
         }
         Line::Paint => paint(alloc, desk, piece),
     }

@@ -1,4 +1,5 @@
-use Rattle.std.proofs.Common.{◌+◌, ◌∙◌, ap, sym, arith}
+use Rattle.std.proofs.Common.{◌+◌, ◌∙◌, ap, subst, sym, arith}
+use Rattle.std.specs.Prelude.{IfSome}
 use Rattle.std.proofs.lemmas.List.Elements.{All-push}
 use Rattle.wm_tool.specs.Script.{script_from, read_from, IsFitLine, lines_of}
 use Rattle.wm_tool.proofs.ScriptLemmas.{with_lines, with_lines-push}
@@ -7,11 +8,11 @@ use Rattle.wm_tool.proofs.script.read_script.Goals as goal
 pub loop-rest-preserved : goal.loop-rest-preserved
 loop-rest-preserved c =
     let kept = c.loop-rest.invariant in
-    let line = sym c.read_line.ensures.value ∙ c.in-Some.is in
+    let line = sym c.in_ok-line.ensures.value ∙ c.in-Some.is in
     record {
       numbered = omega (arith, kept.numbered, c.in_ok-push.ensures.len);
       few = omega (arith, kept.few, c.in_ok-push.ensures.len, c.first_line.ensures.shorter);
-      fit = rw c.in_ok-push.ensures.items (All-push IsFitLine _ _ kept.fit c.in-Some.ensures.fit);
+      fit = rw c.in_ok-push.ensures.items (All-push IsFitLine _ _ kept.fit (subst (λ o. IfSome o IsFitLine) c.in-Some.is c.in_ok-line.ensures.fit));
       read =
           ap (λ xs. with_lines xs (script_from (c.loop-rest.number + 1) (lines_of c.first_line.result.1.now))) c.in_ok-push.ensures.items
           ∙ (with_lines-push c.loop-rest.lines.items c.in-Some.line _

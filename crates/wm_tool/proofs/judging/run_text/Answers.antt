@@ -1,0 +1,43 @@
+use Rattle.std.proofs.Common.{◌≡◌, ◌∙◌, ◌∷◌, [], ◌++◌, Some, subst}
+use Rattle.std.specs.Prelude.{IfOk, OnOk}
+use Rattle.std.proofs.lemmas.List.{append-nil}
+use Rattle.wm_core.specs.DeskValue.{Stands}
+use Rattle.wm_core.specs.History.{answer, opening_of}
+use Rattle.wm_tool.specs.Running.{fresh}
+use Rattle.wm_tool.proofs.RefusalLemmas.{backs_verdict, grows_verdict, keeps_backed}
+use Rattle.wm_tool.proofs.RunLemmas.{run_entry_is}
+use Rattle.wm_tool.proofs.judging.run_text.Goals as goal
+
+pub returns-in_err-text-clause-backs : goal.returns-in_err-text-clause-backs
+returns-in_err-text-clause-backs g c =
+    keeps_backed c.args.desk.now.steps (Some c.args.text.now ∷ []) c.args.refused.now.items c.judge.new.refused.items (g.B.Build.refusals c.args.build.now) (g.B.Build.refusals c.judge.new.build) (g.B.Build.refused c.args.build.now) (g.B.Build.refused c.judge.new.build)
+    (c.in_err-text.ensures.grown ∙ append-nil c.args.refused.now.items) c.in_err-text.ensures.told c.in_err-text.ensures.counted
+
+pub returns-clause-answer : goal.returns-clause-answer
+returns-clause-answer g c = λ none history s.
+    let p = c.in_ok-text.text in
+    let grown = subst (λ n. c.judge.new.refused.items ≡ c.args.refused.now.items ++ fresh n p.verdict) c.steps.ensures c.in_ok-text.ensures.grown in
+    subst (λ e. IfOk c.step.result (λ a. a ≡ answer (opening_of c.args.desk.now.plan) history e))
+    (run_entry_is c.args.desk.now.steps history c.args.refused.now.items c.judge.new.refused.items c.args.text.now p none s.counted c.in_ok-text.ensures.text c.in_ok-text.ensures.verdict grown)
+    (c.step.ensures.answer history s)
+
+pub returns-clause-stands : goal.returns-clause-stands
+returns-clause-stands g c = λ none history s.
+    let p = c.in_ok-text.text in
+    let grown = subst (λ n. c.judge.new.refused.items ≡ c.args.refused.now.items ++ fresh n p.verdict) c.steps.ensures c.in_ok-text.ensures.grown in
+    subst (λ e. OnOk c.step.result (Stands c.step.new.self (e ∷ history)))
+    (run_entry_is c.args.desk.now.steps history c.args.refused.now.items c.judge.new.refused.items c.args.text.now p none s.counted c.in_ok-text.ensures.text c.in_ok-text.ensures.verdict grown)
+    (c.step.ensures.stands history s)
+
+pub returns-clause-grows : goal.returns-clause-grows
+returns-clause-grows g c =
+    let p = c.in_ok-text.text in
+    let grown = subst (λ n. c.judge.new.refused.items ≡ c.args.refused.now.items ++ fresh n p.verdict) c.steps.ensures c.in_ok-text.ensures.grown in
+    grows_verdict c.args.desk.now.steps c.args.text.now p.verdict c.args.refused.now.items c.judge.new.refused.items grown
+
+pub returns-clause-backs : goal.returns-clause-backs
+returns-clause-backs g c =
+    let p = c.in_ok-text.text in
+    let grown = subst (λ n. c.judge.new.refused.items ≡ c.args.refused.now.items ++ fresh n p.verdict) c.steps.ensures c.in_ok-text.ensures.grown in
+    backs_verdict c.args.desk.now.steps c.args.text.now p.verdict c.args.refused.now.items c.judge.new.refused.items (g.B.Build.refusals c.args.build.now) (g.B.Build.refusals c.judge.new.build) (g.B.Build.refused c.args.build.now) (g.B.Build.refused c.judge.new.build)
+    c.in_ok-text.ensures.verdict grown c.in_ok-text.ensures.told c.in_ok-text.ensures.rose c.in_ok-text.ensures.counted
