@@ -12,31 +12,31 @@ use Rattle.wm_grammar.specs.Reading.{Commands, Groups, and_commands, before_comm
 use Rattle.wm_grammar.specs.Turns.{command_turn, front_turn, turn_at}
 use Rattle.wm_grammar.specs.Pieces.{is_semicolon}
 use Rattle.wm_grammar.specs.Farthest.{before_quote, before_last_quote, cut_off, inside, here, behind, farthest}
-use Rattle.wm_grammar.proofs.Cuts.{Cut, Suffix, suffix_length, Quoted, AllSome, if_some}
+use Rattle.wm_grammar.proofs.Cuts.{Cut, Suffix, suffix_length, quoted_length, AllSome, if_some}
 use Rattle.wm_grammar.proofs.CutCommands.{bind_some, map_some, each_some, some_at}
 use Rattle.wm_grammar.proofs.TurnCuts.{Turned, turned, turn_suffix, turn_kept}
 
 -- ---- a text that reads, turn by turn
 
-abbrev ran : (Bool → List ℕ → Bool) → Option (List ℕ) → Bool
+abbrev pub ran : (Bool → List ℕ → Bool) → Option (List ℕ) → Bool
 ran go None = false
 ran go (Some []) = true
 ran go (Some (c ∷ r)) = go (not (c == 44)) r
 
-abbrev runs : ℕ → Bool → List ℕ → Bool
+abbrev pub runs : ℕ → Bool → List ℕ → Bool
 runs zero fresh t = false
 runs (suc n) fresh t = ran (runs n) (turn_at fresh t)
 
-abbrev Runs : Bool → List ℕ → Type 0
+abbrev pub Runs : Bool → List ℕ → Type 0
 Runs fresh t = (n : ℕ) × (runs n fresh t ≡ true)
 
 -- ---- what was there
 
-bind_inv : {A B : Type 0} (o : Option A) (f : A → Option B) (y : B) → (o >>= f) ≡ Some y → (x : A) × (o ≡ Some x) × (f x ≡ Some y)
+pub bind_inv : {A B : Type 0} (o : Option A) (f : A → Option B) (y : B) → (o >>= f) ≡ Some y → (x : A) × (o ≡ Some x) × (f x ≡ Some y)
 bind_inv None f y e = absurd cc
 bind_inv (Some x) f y e = (x, refl, e)
 
-map_inv : {A B : Type 0} (o : Option A) (f : A → B) (y : B) → option_map f o ≡ Some y → (x : A) × (o ≡ Some x) × (f x ≡ y)
+pub map_inv : {A B : Type 0} (o : Option A) (f : A → B) (y : B) → option_map f o ≡ Some y → (x : A) × (o ≡ Some x) × (f x ≡ y)
 map_inv None f y e = absurd cc
 map_inv (Some x) f y e = (x, refl, cc)
 
@@ -45,7 +45,7 @@ turn_runs fresh s e n f h = (suc n, ap (ran (runs n)) f ∙ h)
 
 -- ---- commands that read run
 
-abbrev Rest : Commands → List ℕ
+abbrev pub Rest : Commands → List ℕ
 Rest m = drop 1 m.1
 
 more_run : (n : ℕ) (c : Command) (x : ℕ) (rest s : List ℕ) (m : Commands) → turn_at false s ≡ Some (x ∷ rest) → (b : Bool) → (x == 44) ≡ b → (if b then option_map (before_commands c) (commands_at n rest) else Some (c ∷ [], x ∷ rest)) ≡ Some m → Runs true (Rest m) → ((k : Commands) → commands_at n rest ≡ Some k → Runs true (Rest k) → Runs false rest) → Runs false s
@@ -90,7 +90,7 @@ group_run s t g c r e other h run =
     let turn : turn_at true t ≡ turn_at false k.1 = ap front_turn e ∙ turn_criteria c r k other v.1 in
     from_false t k.1 inner turn
 
-not_comma : (c : ℕ) → (c == 59) ≡ true → (c == 44) ≡ false
+pub not_comma : (c : ℕ) → (c == 59) ≡ true → (c == 44) ≡ false
 not_comma c e = ap (λ (x : ℕ). x == 44) (eqb-true c 59 e)
 
 some_run : (go : List ℕ → Groups) (t s : List ℕ) (gs : List Group) → skip t ≡ s → some_groups go s ≡ Some gs → ((r : List ℕ) (hs : List Group) → go r ≡ Some hs → Runs true r) → Runs true t
@@ -251,9 +251,6 @@ farthest_turn k fresh t e f = ap (λ (o : Option (List ℕ)). o >>= behind (fart
 
 by_eq : (w : List ℕ) (o p : Option ℕ) → o ≡ p → Found p w → Found o w
 by_eq w o p e f = (f.0, e ∙ f.1, f.2)
-
-quoted_length : (w r : List ℕ) → Quoted w r → length r ≤ length w
-quoted_length w r q = omega (arith, ap length q.2, length-append q.0 (34 ∷ (q.1 ++ r)), length-append q.1 r)
 
 ended : (k j : ℕ) (fresh : Bool) (u w e : List ℕ) → Cut u → turn_at fresh u ≡ Some e → ran (runs j) (Some e) ≡ true → length (u ++ w) < suc k → ((i : ℕ) (f : Bool) (s v : List ℕ) → Cut s → runs i f s ≡ true → length (s ++ v) < k → Found (farthest k f (s ++ v)) v) → Cut e → Suffix e u → Turned w (turn_at fresh (u ++ w)) e → Found (farthest (suc k) fresh (u ++ w)) w
 ended k j fresh u w [] h f run lt i kept x t = elim kept [ ]

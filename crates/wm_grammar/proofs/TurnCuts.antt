@@ -13,12 +13,12 @@ use Rattle.wm_grammar.proofs.CutCommands.{bind_some, map_some, each_some, Tail, 
 use Rattle.wm_grammar.proofs.CutCriteria.{Grows, criteria_grow, criteria_suffix}
 use Rattle.wm_grammar.specs.Turns.{command_turn, front_turn, turn_at}
 
-abbrev Told : Command × List ℕ → List ℕ
+abbrev pub Told : Command × List ℕ → List ℕ
 Told x = x.1
 
 -- ---- where a turn stops
 
-command_turn_suffix : (s : List ℕ) → AllSome (λ e. Suffix e s) (command_turn s)
+pub command_turn_suffix : (s : List ℕ) → AllSome (λ e. Suffix e s) (command_turn s)
 command_turn_suffix s = map_some (Tail s) (λ e. Suffix e s) (command_at s) (λ x. x.1) (command_suffix s) (λ x t. t)
 
 front_turn_suffix : (s : List ℕ) → AllSome (λ e. Suffix e s) (front_turn s)
@@ -49,7 +49,7 @@ no_command : command_at [] ≡ None
 unfolding command_at until from verb_of is_word
 no_command = refl
 
-nothing_behind : (e : List ℕ) → command_turn (skip []) ≡ Some e → ⊥
+pub nothing_behind : (e : List ℕ) → command_turn (skip []) ≡ Some e → ⊥
 unfolding skip
 nothing_behind e h = let none : command_turn [] ≡ None = ap (option_map Told) no_command in absurd (none_some e (sym none ∙ h))
   where
