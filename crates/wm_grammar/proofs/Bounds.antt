@@ -1,6 +1,6 @@
 -- No front of a text that reads and ends with ; goes farther than the search finds.
 use Rattle.std.proofs.Common.{◌≡◌, ℕ, zero, suc, ◌+◌, ◌-◌, ◌<◌, ◌≤◌, Bool, true, false, List, [], ◌∷◌, ◌++◌, length, take, drop, get_or, Option, Some, None, refl, sym, ap, subst, ◌∙◌, append_assoc, arith, inl, inr}
-use Rattle.std.specs.Prelude.{IfSome, if◌then◌else◌, ◌==◌, ◌||◌, not, option_map, is_some}
+use Rattle.std.specs.Prelude.{IfSome, IfOk, Result, Ok, Err, if◌then◌else◌, ◌==◌, ◌||◌, not, option_map, is_some}
 use Rattle.std.proofs.lemmas.Bool.{eqb-true, ne_eqb, false≢true, and_parts, false_from_ne_true}
 use Rattle.std.proofs.lemmas.List.{length-append, length-take, take_at, take-append-drop, take_all, take_more}
 use Rattle.wm_grammar.specs.declared.command.Command.{Command}
@@ -348,14 +348,19 @@ behind_some go fresh t (c ∷ r) le = ap (λ (x : List ℕ). first_of (go (not (
 farthest_at : (n : ℕ) (fresh : Bool) (t e : List ℕ) → 0 < n → turn_at fresh t ≡ Some e → farthest n fresh t ≡ behind (farthest (n - 1)) fresh t e
 farthest_at n fresh t e pos f = farthest_more n fresh t pos ∙ ap (λ (o : Option (List ℕ)). o >>= behind (farthest (n - 1)) fresh t) f
 
-pub search_end : (n : ℕ) (fresh : Bool) (t e : List ℕ) (best found all : Option ℕ) → 0 < n → turn_at fresh t ≡ Some e → length e < 1 → found ≡ here (farthest (n - 1)) fresh t e → first_of (farthest n fresh t) best ≡ all → first_of found best ≡ all
-search_end n fresh t e best found all pos f lt g h = ap (λ (o : Option ℕ). first_of o best) (g ∙ sym (farthest_at n fresh t e pos f ∙ behind_none (farthest (n - 1)) fresh t e lt)) ∙ h
+pub search_end : (n : ℕ) (fresh : Bool) (t e : List ℕ) (best all : Option ℕ) → 0 < n → turn_at fresh t ≡ Some e → length e < 1 → first_of (farthest n fresh t) best ≡ all → first_of (here (farthest (n - 1)) fresh t e) best ≡ all
+search_end n fresh t e best all pos f lt h = ap (λ (o : Option ℕ). first_of o best) (sym (farthest_at n fresh t e pos f ∙ behind_none (farthest (n - 1)) fresh t e lt)) ∙ h
 
-pub search_more : (n : ℕ) (fresh : Bool) (t e : List ℕ) (best found all : Option ℕ) → 0 < n → turn_at fresh t ≡ Some e → 1 ≤ length e → found ≡ here (farthest (n - 1)) fresh t e → first_of (farthest n fresh t) best ≡ all → first_of (farthest (n - 1) (not (get_or e 0 0 == 44)) (take (length e - 1) (drop 1 e))) (first_of found best) ≡ all
-search_more n fresh t e best found all pos f le g h =
+pub search_more : (n : ℕ) (fresh : Bool) (t e : List ℕ) (best all : Option ℕ) → 0 < n → turn_at fresh t ≡ Some e → 1 ≤ length e → first_of (farthest n fresh t) best ≡ all → first_of (farthest (n - 1) (not (get_or e 0 0 == 44)) (take (length e - 1) (drop 1 e))) (first_of (here (farthest (n - 1)) fresh t e) best) ≡ all
+search_more n fresh t e best all pos f le h =
     let next : Option ℕ = farthest (n - 1) (not (get_or e 0 0 == 44)) (take (length e - 1) (drop 1 e)) in
-    let whole : farthest n fresh t ≡ first_of next found = farthest_at n fresh t e pos f ∙ (behind_some (farthest (n - 1)) fresh t e le ∙ ap (λ (o : Option ℕ). first_of next o) (sym g)) in
+    let found : Option ℕ = here (farthest (n - 1)) fresh t e in
+    let whole : farthest n fresh t ≡ first_of next found = farthest_at n fresh t e pos f ∙ behind_some (farthest (n - 1)) fresh t e le in
     sym (first_assoc next found best) ∙ (ap (λ (o : Option ℕ). first_of o best) (sym whole) ∙ h)
+
+pub found_within : {E : Type 0} (n : ℕ) (fresh : Bool) (t : List ℕ) (r : Result (Option ℕ) E) → IfOk r (λ o. o ≡ farthest n fresh t) → IfOk r (λ o. IfSome o (λ k. k ≤ length t))
+found_within n fresh t (Ok o) h = farthest_within n fresh t o h
+found_within n fresh t (Err e) h = tt
 
 -- ---- no place behind the one that was found
 
