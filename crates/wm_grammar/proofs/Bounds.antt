@@ -2,6 +2,7 @@
 use Rattle.std.proofs.Common.{◌≡◌, ℕ, zero, suc, ◌+◌, ◌-◌, ◌<◌, ◌≤◌, Bool, true, false, List, [], ◌∷◌, ◌++◌, length, take, drop, get_or, Option, Some, None, refl, sym, ap, subst, ◌∙◌, append_assoc, arith, inl, inr}
 use Rattle.std.specs.Prelude.{IfSome, IfOk, Result, Ok, Err, if◌then◌else◌, ◌==◌, ◌||◌, not, option_map, is_some}
 use Rattle.std.proofs.lemmas.Bool.{eqb-true, ne_eqb, false≢true, and_parts, false_from_ne_true}
+use Rattle.std.proofs.Math.Seq.{drop-append_seam}
 use Rattle.std.proofs.lemmas.List.{length-append, length-take, take_at, take-append-drop, take_all, take_more}
 use Rattle.wm_grammar.specs.declared.command.Command.{Command}
 use Rattle.wm_grammar.specs.declared.batch.Criteria.{Criteria}
@@ -9,12 +10,12 @@ use Rattle.wm_grammar.specs.declared.batch.Group.{Group}
 use Rattle.wm_grammar.specs.Pieces.{◌>>=◌, first_of, has, skip}
 use Rattle.wm_grammar.specs.Openings.{command_at}
 use Rattle.wm_grammar.specs.Reading.{Commands, Groups, and_commands, before_commands, commands_at, criteria_part, group_of, group_at, and_groups, some_groups, groups_at, groups_of, is_whole, ends_group}
-use Rattle.wm_grammar.specs.Turns.{command_turn, front_turn, turn_at}
+use Rattle.wm_grammar.specs.Turns.{command_turn, front_turn, turn_at, command_part}
 use Rattle.wm_grammar.specs.Pieces.{is_semicolon}
 use Rattle.wm_grammar.specs.Farthest.{before_quote, before_last_quote, cut_off, inside, here, behind, farthest}
 use Rattle.wm_grammar.proofs.Cuts.{Cut, Suffix, suffix_length, quoted_length, AllSome, if_some}
 use Rattle.wm_grammar.proofs.CutCommands.{bind_some, map_some, each_some, some_at}
-use Rattle.wm_grammar.proofs.TurnCuts.{Turned, turned, turn_suffix, turn_kept}
+use Rattle.wm_grammar.proofs.TurnCuts.{Turned, turned, Begun, begun, turn_suffix, turn_kept}
 
 -- ---- a text that reads, turn by turn
 
@@ -129,14 +130,14 @@ quote_shorter (c ∷ r) = quote_step c r (before_last_quote r) (quote_shorter r)
 abbrev Within : List ℕ → ℕ → Type 0
 Within t n = n ≤ length t
 
-cut_shorter : (t e : List ℕ) → AllSome (λ b. length b < length t) (cut_off t e)
+cut_shorter : (t c e : List ℕ) → AllSome (λ b. length b < length t) (cut_off t c e)
 unfolding cut_off
-cut_shorter t e = bind_some (λ b. length b < length (take (length t - length e) t)) (λ b. length b < length t) (before_last_quote (take (length t - length e) t)) (λ b. if has is_semicolon b then Some b else None) (quote_shorter (take (length t - length e) t)) (λ b lt.
-    if_some (λ b. length b < length t) (has is_semicolon b) (Some b) None (λ f. omega (arith, length-take (length t - length e) t)) (λ f. tt))
+cut_shorter t c e = bind_some (λ b. length b < length (take (length t - length e) t)) (λ b. length b < length t) (before_last_quote (take (length t - length e) t)) (λ b. if has is_semicolon (drop (length t - length c) b) then Some b else None) (quote_shorter (take (length t - length e) t)) (λ b lt.
+    if_some (λ b. length b < length t) (has is_semicolon (drop (length t - length c) b)) (Some b) None (λ f. omega (arith, length-take (length t - length e) t)) (λ f. tt))
 
 inside_bound : (go : Bool → List ℕ → Option ℕ) (fresh : Bool) (t e : List ℕ) → ((f : Bool) (s : List ℕ) → AllSome (Within s) (go f s)) → AllSome (Within t) (inside go fresh t e)
 unfolding inside
-inside_bound go fresh t e i = bind_some (λ b. length b < length t) (Within t) (cut_off t e) (λ b. option_map (λ k. k + (length t - length b)) (go fresh b)) (cut_shorter t e) (λ b lt. map_some (Within b) (Within t) (go fresh b) (λ k. k + (length t - length b)) (i fresh b) (λ k le. omega arith))
+inside_bound go fresh t e i = bind_some (λ b. length b < length t) (Within t) (cut_off t (command_part fresh t) e) (λ b. option_map (λ k. k + (length t - length b)) (go fresh b)) (cut_shorter t (command_part fresh t) e) (λ b lt. map_some (Within b) (Within t) (go fresh b) (λ k. k + (length t - length b)) (i fresh b) (λ k le. omega arith))
 
 here_bound : (go : Bool → List ℕ → Option ℕ) (fresh : Bool) (t e : List ℕ) → Suffix e t → ((f : Bool) (s : List ℕ) → AllSome (Within s) (go f s)) → AllSome (Within t) (here go fresh t e)
 unfolding here
@@ -186,13 +187,22 @@ cut_has (c ∷ d ∷ r) w h = ap (λ (b : Bool). (c == 59) || b) (cut_has (d ∷
 abbrev Found : Option ℕ → List ℕ → Type 0
 Found o w = (n : ℕ) × (o ≡ Some n) × (n ≤ length w)
 
-inside_is : (go : Bool → List ℕ → Option ℕ) (fresh : Bool) (t e b : List ℕ) (n : ℕ) → before_last_quote (take (length t - length e) t) ≡ Some b → has is_semicolon b ≡ true → go fresh b ≡ Some n → inside go fresh t e ≡ Some (n + (length t - length b))
+inside_is : (go : Bool → List ℕ → Option ℕ) (fresh : Bool) (t e b : List ℕ) (n : ℕ) → before_last_quote (take (length t - length e) t) ≡ Some b → has is_semicolon (drop (length t - length (command_part fresh t)) b) ≡ true → go fresh b ≡ Some n → inside go fresh t e ≡ Some (n + (length t - length b))
 unfolding inside cut_off
 inside_is go fresh t e b n before semi got = rw (before, semi, got) refl
 
-inside_found : (go : Bool → List ℕ → Option ℕ) (fresh : Bool) (t e u w a b : List ℕ) → t ≡ u ++ w → w ≡ a ++ 34 ∷ (b ++ e) → Cut u → ((v : List ℕ) → length (u ++ v) < length t → Found (go fresh (u ++ v)) v) → Found (inside go fresh t e) w
-inside_found go fresh t e u w a b whole quote h i =
-    let parts : t ≡ ((u ++ a) ++ 34 ∷ b) ++ e = whole ∙ (ap (λ (x : List ℕ). u ++ x) quote ∙ regroup u a b e) in
+semi_behind : (fresh : Bool) (u w v : List ℕ) → Begun fresh u w → has is_semicolon (drop (length (u ++ w) - length (command_part fresh (u ++ w))) (u ++ v)) ≡ true
+semi_behind fresh u w v y =
+    let p : List ℕ = y.tail.0 in
+    let count : length (u ++ w) - length (command_part fresh (u ++ w)) ≡ length p = omega (arith, length-append u w, ap length y.whole, length-append y.start w, ap length y.tail.1, length-append p y.start) in
+    let parts : u ++ v ≡ p ++ (y.start ++ v) = ap (λ (t : List ℕ). t ++ v) y.tail.1 ∙ append_assoc p y.start v in
+    let left : drop (length (u ++ w) - length (command_part fresh (u ++ w))) (u ++ v) ≡ y.start ++ v = ap (λ (n : ℕ). drop n (u ++ v)) count ∙ (ap (λ (t : List ℕ). drop (length p) t) parts ∙ drop-append_seam p (y.start ++ v)) in
+    ap (has is_semicolon) left ∙ cut_has y.start v y.cut
+
+inside_found : (go : Bool → List ℕ → Option ℕ) (fresh : Bool) (e u w a b : List ℕ) → w ≡ a ++ 34 ∷ (b ++ e) → Begun fresh u w → ((v : List ℕ) → length (u ++ v) < length (u ++ w) → Found (go fresh (u ++ v)) v) → Found (inside go fresh (u ++ w) e) w
+inside_found go fresh e u w a b quote y i =
+    let t : List ℕ = u ++ w in
+    let parts : t ≡ ((u ++ a) ++ 34 ∷ b) ++ e = ap (λ (x : List ℕ). u ++ x) quote ∙ regroup u a b e in
     let len : length ((u ++ a) ++ 34 ∷ b) ≡ length t - length e = omega (arith, ap length parts, length-append ((u ++ a) ++ 34 ∷ b) e) in
     let taken : take (length t - length e) t ≡ (u ++ a) ++ 34 ∷ b = ap (λ (x : List ℕ). take (length t - length e) x) parts ∙ take_at ((u ++ a) ++ 34 ∷ b) e (length t - length e) len in
     let z = quote_behind (u ++ a) b in
@@ -202,10 +212,9 @@ inside_found go fresh t e u w a b whole quote h i =
     let short : length (u ++ v) < length (take (length t - length e) t) = some_at (λ x. length x < length (take (length t - length e) t)) (before_last_quote (take (length t - length e) t)) (u ++ v) (quote_shorter (take (length t - length e) t)) before in
     let shorter : length (u ++ v) < length t = omega (arith, length-take (length t - length e) t) in
     let f = i v shorter in
-    let semi : has is_semicolon (u ++ v) ≡ true = cut_has u v h in
     let got : go fresh (u ++ v) ≡ Some f.0 = f.1 in
     let le : f.0 ≤ length v = f.2 in
-    (f.0 + (length t - length (u ++ v)), inside_is go fresh t e (u ++ v) f.0 before semi got, omega (arith, le, ap length whole, length-append u w, length-append u v))
+    (f.0 + (length t - length (u ++ v)), inside_is go fresh t e (u ++ v) f.0 before (semi_behind fresh u w v y) got, omega (arith, le, length-append u w, length-append u v))
   where
     regroup : (u a b e : List ℕ) → u ++ (a ++ 34 ∷ (b ++ e)) ≡ ((u ++ a) ++ 34 ∷ b) ++ e
     regroup u a b e = simp append_assoc
@@ -260,7 +269,7 @@ ended k j fresh u w (c ∷ r) h f run lt i kept x (inl g) =
     (exact_found k fresh (u ++ w) w c r kept (λ cut. i j (not (c == 44)) r w cut run (omega (arith, length-append u w, length-append r w))))
 ended k j fresh u w (c ∷ r) h f run lt i kept x (inr (e, g, q)) =
     by_eq w (farthest (suc k) fresh (u ++ w)) (behind (farthest k) fresh (u ++ w) e) (farthest_turn k fresh (u ++ w) e g)
-    (late_found k fresh (u ++ w) e u w (quoted_length w e q) (inside_found (farthest k) fresh (u ++ w) e u w q.0 q.1 refl q.2 h (λ v short. i (suc j) fresh u v h (ap (ran (runs j)) f ∙ run) (omega arith))))
+    (late_found k fresh (u ++ w) e u w (quoted_length w e q) (inside_found (farthest k) fresh e u w q.0 q.1 q.2 (begun fresh u w _ h f) (λ v short. i (suc j) fresh u v h (ap (ran (runs j)) f ∙ run) (omega arith))))
 
 complete : (k j : ℕ) (fresh : Bool) (u w : List ℕ) → Cut u → runs j fresh u ≡ true → length (u ++ w) < k → Found (farthest k fresh (u ++ w)) w
 complete zero j fresh u w h run lt = absurd (omega arith)

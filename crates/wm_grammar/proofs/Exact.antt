@@ -5,7 +5,7 @@ use Rattle.std.proofs.lemmas.Bool.{eqb-true}
 use Rattle.std.proofs.lemmas.List.{length-append, take_at, take-append-drop}
 use Rattle.wm_grammar.specs.Pieces.{◌>>=◌, first_of, has, skip, is_semicolon}
 use Rattle.wm_grammar.specs.Reading.{IsReach, is_whole, groups_of, groups_at}
-use Rattle.wm_grammar.specs.Turns.{turn_at}
+use Rattle.wm_grammar.specs.Turns.{turn_at, command_part}
 use Rattle.wm_grammar.specs.Farthest.{Search, before_quote, before_last_quote, cut_off, inside, here, behind, farthest}
 use Rattle.wm_grammar.proofs.Cuts.{Cut, Suffix}
 use Rattle.wm_grammar.proofs.CutCommands.{some_at}
@@ -78,12 +78,12 @@ unfolding before_last_quote
 quote_front [] b e = absurd cc
 quote_front (c ∷ r) b e = quote_step c r b (before_last_quote r) e (λ d f. quote_front r d f)
 
-cut_front : (t e b : List ℕ) → cut_off t e ≡ Some b → (z : List ℕ) × (t ≡ b ++ z)
+cut_front : (t c e b : List ℕ) → cut_off t c e ≡ Some b → (z : List ℕ) × (t ≡ b ++ z)
 unfolding cut_off
-cut_front t e b h =
+cut_front t c e b h =
     let n : ℕ = length t - length e in
-    let v = bind_inv (before_last_quote (take n t)) (λ b. if has is_semicolon b then Some b else None) b h in
-    let same : v.0 ≡ b = chosen (has is_semicolon v.0) v.0 v.2 in
+    let v = bind_inv (before_last_quote (take n t)) (λ b. if has is_semicolon (drop (length t - length c) b) then Some b else None) b h in
+    let same : v.0 ≡ b = chosen (has is_semicolon (drop (length t - length c) v.0)) v.0 v.2 in
     let z = quote_front (take n t) v.0 v.1 in
     let parts : t ≡ (v.0 ++ z.0) ++ drop n t = sym (take-append-drop n t) ∙ ap (λ (s : List ℕ). s ++ drop n t) z.1 in
     (z.0 ++ drop n t, parts ∙ (append_assoc v.0 z.0 (drop n t) ∙ ap (λ (s : List ℕ). s ++ (z.0 ++ drop n t)) same))
@@ -101,9 +101,9 @@ front_exact fresh t d z k b e h y =
 inside_exact : (go : Search) (fresh : Bool) (t e : List ℕ) (b : ℕ) → inside go fresh t e ≡ Some b → Exactly go → Exact fresh t b
 unfolding inside
 inside_exact go fresh t e b h i =
-    let v = bind_inv (cut_off t e) (λ d. option_map (λ k. k + (length t - length d)) (go fresh d)) b h in
+    let v = bind_inv (cut_off t (command_part fresh t) e) (λ d. option_map (λ k. k + (length t - length d)) (go fresh d)) b h in
     let m = map_inv (go fresh v.0) (λ k. k + (length t - length v.0)) b v.2 in
-    let z = cut_front t e v.0 v.1 in
+    let z = cut_front t (command_part fresh t) e v.0 v.1 in
     front_exact fresh t v.0 z.0 m.0 b z.1 m.2 (i fresh v.0 m.0 m.1)
 
 -- ---- all places

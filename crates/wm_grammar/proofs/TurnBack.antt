@@ -12,10 +12,7 @@ use Rattle.wm_grammar.proofs.Cuts.{Cut, Suffix, suffix_length, cut_suffix, skip_
 use Rattle.wm_grammar.proofs.CutCommands.{bind_some, each_some, some_at, Tail, Weak, command_weak}
 use Rattle.wm_grammar.proofs.CutCriteria.{criteria_suffix}
 use Rattle.wm_grammar.proofs.CriteriaBack.{Short, Loose, criteria_loose}
-use Rattle.wm_grammar.proofs.TurnCuts.{Told, command_turn_suffix}
-
-none_some : (e : List ℕ) → None ≡ Some e → ⊥
-none_some e h = absurd cc
+use Rattle.wm_grammar.proofs.TurnCuts.{Told, command_turn_suffix, none_some}
 
 some_same : (a b : List ℕ) → Some a ≡ Some b → a ≡ b
 some_same a b h = cc

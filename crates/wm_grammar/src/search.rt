@@ -4,11 +4,11 @@ ghost use Rattle.std.specs.List.{All};
 ghost use Rattle.wm_grammar.specs.Farthest.{before_last_quote, cut_off, here, farthest};
 ghost use Rattle.wm_grammar.specs.Last.{at_turn, last_of};
 ghost use Rattle.wm_grammar.specs.Pieces.{first_of};
-ghost use Rattle.wm_grammar.specs.Turns.{command_turn, front_turn, turn_at};
+ghost use Rattle.wm_grammar.specs.Turns.{command_turn, front_turn, turn_at, command_part};
 
 use crate::groups::criteria_part;
 use crate::reading::command_at;
-use crate::words::{Stop, skip, starts, stops_in};
+use crate::words::{Stop, past, skip, starts, stops_in};
 use std::alloc::Global;
 use wm_base::NoMemory;
 
@@ -70,15 +70,31 @@ fn before_last_quote(text: &[u8]) -> Option<&[u8]>
     None
 }
 
-/// What stands before the last quote that a turn closed, where it has a `;`. The turn stopped at `end`.
+/// The text of a turn from its command on.
+#[tactic(auto, unfolding(crate::specs::Turns::command_part))]
+fn command_part(alloc: Global, fresh: bool, text: &[u8]) -> Result<&[u8], NoMemory>
+    ensures { IfOk result (λ c. c.now ≡ command_part fresh text.now) }
+{
+    if !fresh {
+        return Ok(text);
+    }
+    match criteria_part(alloc, skip(text))? {
+        Some((_, rest)) => Ok(rest),
+        None => Ok(text),
+    }
+}
+
+/// What stands before the last quote that a turn closed, where its command has a `;` there. The turn stopped at
+/// `end`.
 #[tactic(auto, unfolding(crate::specs::Farthest::cut_off))]
-fn cut_off<'a>(text: &'a [u8], end: &[u8]) -> Option<&'a [u8]>
-    ensures front { option_copied result ≡ cut_off text.now end.now }
+fn cut_off<'a>(text: &'a [u8], command: &[u8], end: &[u8]) -> Option<&'a [u8]>
+    ensures front { option_copied result ≡ cut_off text.now command.now end.now }
     ensures shorter { IfSome result (λ b. length b.now ≤ length text.now) }
 {
     let turn = &text[..text.len().saturating_sub(end.len())];
     let front = before_last_quote(turn)?;
-    if stops_in(front, Stop::Group) {
+    let behind = past(front, text.len().saturating_sub(command.len()));
+    if stops_in(behind, Stop::Group) {
         Some(front)
     } else {
         None
@@ -100,7 +116,8 @@ fn here(
     if let [b';', more @ ..] = end {
         return Ok(Some(more.len()));
     }
-    let Some(front) = cut_off(text, end) else {
+    let command = command_part(alloc, fresh, text)?;
+    let Some(front) = cut_off(text, command, end) else {
         return Ok(None)
     };
     match farthest(alloc, left, fresh, front)? {

@@ -26,15 +26,25 @@ const SIZES: [(&str, &str, usize, &str, bool); 20] = [
     ("restart ", "ß", 100000, "", true),
 ];
 
-/// A text so often, another one, a third one so often, and how far they are read.
-const LONG: [(&str, usize, &str, &str, usize); 7] = [
-    ("nop;", 32768, "nop", ";nop", 262147),
-    ("nop;", 32768, "zzz;", "nop;", 131072),
-    ("", 131072, "mark \"", "a;", 0),
-    ("", 131072, "mark --add \"", "a;", 14),
-    ("", 131072, "exec \"", "a;", 0),
-    ("kill,", 20000, "zzz", ";", 0),
-    ("mark --add \"a;b\", ", 10000, "zzz", ";zzz", 179996),
+/// A text so often, another one, a third one so often, one at the end, and how far they are read.
+const LONG: [(&str, usize, &str, &str, &str, usize); 10] = [
+    ("nop;", 32768, "nop", ";nop", "", 262147),
+    ("nop;", 32768, "zzz;", "nop;", "", 131072),
+    ("", 131072, "mark \"", "a;", "", 0),
+    ("", 131072, "mark --add \"", "a;", "", 14),
+    ("", 131072, "exec \"", "a;", "", 0),
+    ("kill,", 20000, "zzz", ";", "", 0),
+    ("mark --add \"a;b\", ", 10000, "zzz", ";zzz", "", 179996),
+    ("", 100000, "[class=a;b] exec ", "x\"", ", zzz", 0),
+    ("", 100000, "exec \"a;", "x\\\"", "\", zzz", 0),
+    (
+        "nop; ",
+        500,
+        "rename workspace \"a;b\" to ",
+        "x\"",
+        ", zzz",
+        2499,
+    ),
 ];
 
 /// The first text so often, then the second, then the third as often.
@@ -71,8 +81,9 @@ fn lengths(rt: HostRuntime) -> Result<(), Fail> {
 /// Long texts are read, and stop reading, in a time that their length decides.
 #[test]
 fn long_texts(rt: HostRuntime) -> Result<(), Fail> {
-    for (first, count, middle, last, want) in LONG {
-        let text = joined(&rt, first, count, middle, last)?;
+    for (first, count, middle, last, end, want) in LONG {
+        let mut text = joined(&rt, first, count, middle, last)?;
+        text.push_str(end)?;
         let at = match read(rt.alloc(), text.as_str()) {
             Ok(_) => text.len(),
             Err(ReadRefusal::Bad { at }) => at,

@@ -36,9 +36,11 @@ farthest-returns-in_default-end-clause-within t c = found_within c.args.most c.a
 
 pub farthest-loop-left-preserved : goal.farthest-loop-left-preserved
 farthest-loop-left-preserved t c =
-    let some : turn_at c.loop-left.at_front c.loop-left.rest.now ≡ Some c.in-Some.end.now = grind (arith, c.in_ok-end.ensures) in
-    (rw c.in_ok-keep.ensures.found (search_more c.loop-left.left c.loop-left.at_front c.loop-left.rest.now c.in-Some.end.now (last_of c.loop-left.turns.items) (farthest c.args.most c.args.fresh c.args.text.now) c.loop-left-test.true some c.in-len1-up.len_at_least c.loop-left.invariant.0),
-    omega (arith, c.loop-left.invariant.1), c.in_ok-keep.ensures.below c.args.most c.loop-left.invariant.2 (omega (arith, c.loop-left.invariant.1)))
+    let some : turn_at c.loop-left.at_front c.loop-left.rest.now ≡ Some c.in-Some.end.now = grind (arith, c.in_ok-end.ensures) in (
+      rw c.in_ok-keep.ensures.found (search_more c.loop-left.left c.loop-left.at_front c.loop-left.rest.now c.in-Some.end.now (last_of c.loop-left.turns.items) (farthest c.args.most c.args.fresh c.args.text.now) c.loop-left-test.true some c.in-len1-up.len_at_least c.loop-left.invariant.0),
+      omega (arith, c.loop-left.invariant.1),
+      c.in_ok-keep.ensures.below c.args.most c.loop-left.invariant.2 (omega (arith, c.loop-left.invariant.1)),
+    )
 
 pub farthest-returns-clause-found : goal.farthest-returns-clause-found
 farthest-returns-clause-found t c =
