@@ -1,5 +1,5 @@
 -- The place of the last of some turns that has one.
-use Rattle.std.specs.Prelude.{ℕ, List, [], ◌∷◌, Option, Some, None}
+use Rattle.std.specs.Prelude.{ℕ, List, [], ◌∷◌, Option, None}
 use Rattle.wm_grammar.specs.declared.search.Turn.{Turn}
 use Rattle.wm_grammar.specs.Pieces.{first_of}
 use Rattle.wm_grammar.specs.Farthest.{here, farthest}

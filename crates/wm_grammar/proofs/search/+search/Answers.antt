@@ -1,10 +1,8 @@
-use Rattle.std.proofs.Common.{arith, ◌≡◌, ◌<◌, ◌-◌, ℕ, List, Option, Some, None, [], ◌∷◌, ◌++◌, ◌∙◌, subst, length}
+use Rattle.std.proofs.Common.{arith, ◌≡◌, ◌<◌, ℕ, Option, Some, None, [], ◌∷◌, ◌++◌, ◌∙◌, subst, length}
 use Rattle.std.specs.Prelude.{IfOk}
-use Rattle.std.specs.List.{All}
 use Rattle.std.proofs.lemmas.List.Elements.{All-nil, All-same, All-pop}
 use Rattle.wm_grammar.specs.declared.search.Turn.{Turn}
-use Rattle.wm_grammar.specs.Pieces.{first_of}
-use Rattle.wm_grammar.specs.Farthest.{here, farthest}
+use Rattle.wm_grammar.specs.Farthest.{farthest}
 use Rattle.wm_grammar.specs.Last.{at_turn, last_of}
 use Rattle.wm_grammar.specs.Turns.{turn_at}
 use Rattle.wm_grammar.proofs.Bounds.{found_within, search_none, search_stop, search_end, search_more}
