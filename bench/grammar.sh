@@ -89,8 +89,10 @@ def timed(text):
     return [int(time) / 1e9 for time in times]
 
 
-def least(text):
-    return [min(times) for times in zip(*[timed(text) for _ in range(5)])]
+def least(texts):
+    """The least times of each text, all taken in turns, so that what else runs meets each alike."""
+    rounds = [[timed(text) for text in texts] for _ in range(15)]
+    return [[min(times) for times in zip(*runs)] for runs in zip(*rounds)]
 
 
 KINDS = [
@@ -101,7 +103,7 @@ KINDS = [
 worst = 0
 for name, text in KINDS:
     short, long = text(1 << 17), text(1 << 18)
-    for what, first, second in zip(("read", "printed"), least(short), least(long)):
+    for what, first, second in zip(("read", "printed"), *least([short, long])):
         if first > 0:
             worst = max(worst, second / first)
             speed = len(long) / second / 1e6
