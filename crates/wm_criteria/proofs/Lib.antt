@@ -1,3 +1,4 @@
 pub mod PlainLemmas
 pub mod NumberLemmas
 pub mod CountLemmas
+pub mod PartLemmas

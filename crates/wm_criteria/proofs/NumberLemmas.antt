@@ -24,7 +24,7 @@ among_itself first xs = record { same = λ n h. refl }
 
 pub among_more : (first : ℕ) (xs : List (List ℕ)) (second : ℕ) (ys : List (List ℕ)) (third : ℕ) (zs : List (List ℕ)) → IsAmong first xs second ys → IsAmong second ys third zs → IsAmong first xs third zs
 among_more first xs second ys third zs a b = record {
-  same = λ n h. a.same n (subst (λ (o : Option (List ℕ)). IsTrue (is_some o)) (sym (b.same n h)) h) ∙ b.same n h
+  same = λ n h. a.same n (subst (λ (o : Option (List ℕ)). IsTrue (is_some o)) (sym (b.same n h)) h) ∙ b.same n h;
 }
 
 -- the choice that a number makes, over what its test says

@@ -9,7 +9,7 @@ use Rattle.wm_criteria.specs.Plain.{Characters, character, characters, with_char
 
 -- ---- what a pattern is, from its first character on
 
-abbrev First : Type 0
+abbrev pub First : Type 0
 First = Option (ℕ × List ℕ)
 
 -- the two definitions at patterns of one byte and of more, over what their tests say
@@ -19,7 +19,7 @@ first_of_one x special = if◌then◌else◌ {A = First} special None (Some (x, 
 abbrev all_of_one : ℕ → Bool → Bool → Characters
 all_of_one x last special = if◌then◌else◌ {A = Characters} last (Some ([], true)) (if◌then◌else◌ {A = Characters} special None (Some (x ∷ [], false)))
 
-abbrev first_of_more : ℕ → ℕ → List ℕ → Bool → Bool → Bool → First
+abbrev pub first_of_more : ℕ → ℕ → List ℕ → Bool → Bool → Bool → First
 first_of_more x d s mark quotable special = if◌then◌else◌ {A = First} mark (if◌then◌else◌ {A = First} quotable (Some (d, s)) None) (if◌then◌else◌ {A = First} special None (Some (x, d ∷ s)))
 
 abbrev all_of_more : ℕ → ℕ → List ℕ → Bool → Bool → Bool → Characters
@@ -86,7 +86,7 @@ is_some-characters-step s c r e = ap (λ (o : Characters). is_some o) (character
 abbrev pub wanted_at : Characters → List ℕ → Bool
 wanted_at o t = option_map_or (λ x. stands x.0 x.1 t) o false
 
-stands-same : (c : ℕ) (w : List ℕ) (last : Bool) (t : List ℕ) → stands (c ∷ w) last (c ∷ t) ≡ stands w last t
+pub stands-same : (c : ℕ) (w : List ℕ) (last : Bool) (t : List ℕ) → stands (c ∷ w) last (c ∷ t) ≡ stands w last t
 stands-same c w last t = rw (eq-eqb c c refl, eqb-suc-suc (length t) (length w)) refl
 
 wanted_at-same : (c : ℕ) (o : Characters) (t : List ℕ) → wanted_at (with_character c o) (c ∷ t) ≡ wanted_at o t
