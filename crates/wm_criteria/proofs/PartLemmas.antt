@@ -1,10 +1,8 @@
 -- Plain patterns and the texts that they match.
-use Rattle.std.proofs.Common.{◌≡◌, ℕ, ◌+◌, ◌<◌, ◌≤◌, Bool, true, false, List, [], ◌∷◌, ◌++◌, length, take, drop, Option, Some, None, refl, sym, ◌∙◌, ap, subst, arith, append_assoc, append-nil, length-append, eqb-true, eq-eqb}
-use Rattle.std.specs.Prelude.{◌||◌, ◌&&◌, ◌==◌, not, nat_eq, option_map, if◌then◌else◌}
-use Rattle.std.specs.List.{flat_map, list_any, starts_with}
-use Rattle.std.proofs.Math.Dec.{eqb-suc-suc}
+use Rattle.std.proofs.Common.{◌≡◌, ℕ, Bool, true, false, List, [], ◌∷◌, ◌++◌, length, Some, refl, sym, ◌∙◌, ap, subst, arith, append_assoc, eqb-true}
+use Rattle.std.specs.Prelude.{◌||◌, ◌&&◌, ◌==◌, not, option_map, if◌then◌else◌}
 use Rattle.wm_grammar.specs.Pieces.{starts}
-use Rattle.wm_criteria.specs.Plain.{Plain, character, characters, is_found, is_part, is_special, is_quotable, places, plain_of, stands, with_character}
+use Rattle.wm_criteria.specs.Plain.{Plain, character, characters, is_found, is_part, is_special, is_quotable, plain_of, stands, with_character}
 use Rattle.wm_criteria.specs.Parts.{HasPart, mark, quoted}
 use Rattle.wm_criteria.proofs.PlainLemmas.{characters-step, first_of_more, stands-same}
 

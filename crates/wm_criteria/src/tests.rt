@@ -69,49 +69,50 @@ fn told(rt: &HostRuntime, p: &Prepared) -> Result<String, Fail> {
     })
 }
 
-/// What is told of a text that was prepared, and of its bare copy.
+/// What is told of a text that was prepared, of its bare copy, and of the text that was read alone.
 fn seen<B: Build>(rt: &HostRuntime, build: &mut B, text: &str) -> Result<String, Fail>
     requires { length text.now < 2 ^ 32 }
 {
     let prepared = prepare(rt.alloc(), text, build)?;
-    let bare = prepared.bare(rt.alloc())?;
+    let copy = prepared.bare(rt.alloc())?;
+    let alone = prepare_bare(rt.alloc(), text)?;
     let prepared = told(rt, &prepared)?;
-    let bare = told(rt, &bare)?;
-    Ok(format!(in rt.alloc(); "{prepared}, {bare}")?)
+    let copy = told(rt, &copy)?;
+    let alone = told(rt, &alone)?;
+    Ok(format!(in rt.alloc(); "{prepared}, {copy}, {alone}")?)
 }
 
+const REFUSED_0: &str = "refused 0 true, refused 0 true, ready false";
+
+const REFUSED_1: &str = "refused 1 true, refused 1 true, ready false";
+
+const REFUSED_2: &str = "refused 2 true, refused 2 true, ready false";
+
+const READY: &str = "ready true, ready true, ready true";
+
 const VERDICTS: [(&str, &str); 10] = [
-    ("", "ready true, ready true"),
+    ("", READY),
     (
         "[class=\"^term$\"] mark a; mark b, nop; splt h",
-        "bad 37 true, bad 37 true",
+        "bad 37 true, bad 37 true, bad 37 true",
     ),
-    (
-        "[title=\"zz\"] nop; [title=\"zz\"] mark a",
-        "ready true, ready true",
-    ),
-    ("[title=\"(\"] nop", "refused 0 true, refused 0 true"),
-    (
-        "[class=x title=\"(\"] nop",
-        "refused 1 true, refused 1 true",
-    ),
-    (
-        "[class=__focused__ title=\"(\"] nop",
-        "refused 0 true, refused 0 true",
-    ),
-    (
-        "[con_mark=__focused__ title=\"(\"] nop",
-        "refused 1 true, refused 1 true",
-    ),
+    ("[title=\"zz\"] nop; [title=\"zz\"] mark a", READY),
+    ("[title=\"(\"] nop", REFUSED_0),
+    ("[class=x title=\"(\"] nop", REFUSED_1),
+    ("[class=__focused__ title=\"(\"] nop", REFUSED_0),
+    ("[con_mark=__focused__ title=\"(\"] nop", REFUSED_1),
     (
         "[window_type=\"(\" con_id=4 urgent=last floating] nop",
-        "ready true, ready true",
+        READY,
     ),
     (
         "[machine=a] nop; nop; [instance=b+ workspace=\"(\"] nop",
-        "refused 2 true, refused 2 true",
+        REFUSED_2,
     ),
-    ("[window_role=a+] nop", "ready true, ready false"),
+    (
+        "[window_role=a+] nop",
+        "ready true, ready false, ready false",
+    ),
 ];
 
 #[test]
@@ -135,9 +136,10 @@ fn long_text(rt: HostRuntime) -> Result<(), Fail> {
     }
     text.push_str(" [title=\"a(\"] nop    ")?;
     assert_eq!(rt; text.len(), 262144);
-    let prepared = prepare(rt.alloc(), text.as_str(), &mut RegexBuild::new())?;
-    assert_eq!(rt; told(&rt, &prepared)?.as_str(), "refused 15419 true");
-    let bare = prepare_bare(rt.alloc(), text.as_str())?;
-    assert_eq!(rt; told(&rt, &bare)?.as_str(), "ready false");
+    let found = seen(&rt, &mut RegexBuild::new(), text.as_str())?;
+    assert_eq!(rt;
+        found.as_str(),
+        "refused 15419 true, refused 15419 true, ready false"
+    );
     Ok(())
 }
