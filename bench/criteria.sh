@@ -38,36 +38,42 @@ fn time_preparing(rt: &HostRuntime, name: &str, text: &str) -> io::Result<()> {
     println!(rt; "prepare, {name}: {took} us, built {built}")
 }
 
-/// Prints how long the calls with a pattern and a text take.
-fn time_searching(rt: &HostRuntime, pattern: &str, text: &str) -> io::Result<()> {
+/// Plain patterns and texts.
+const CASES: [(&str, &str); 4] = [
+    ("^term$", "term"),
+    ("256", "xterm-256color"),
+    ("a\\.b$", "a window with a long title, named a.b"),
+    ("^x", "firefox"),
+];
+
+/// Prints how long the calls with patterns and texts in turn take.
+fn time_searching(rt: &HostRuntime) -> io::Result<()> {
     let mut plain = 0u32;
     let start = Instant::now(rt)?;
-    for _ in 0..CALLS {
+    for i in 0..CALLS {
+        let (pattern, _) = CASES[i as usize % CASES.len()];
         if is_plain(pattern) {
             plain = plain.saturating_add(1);
         }
     }
     let took = start.elapsed(rt)?.as_micros();
-    println!(rt; "is_plain {pattern}: {plain} of {CALLS} calls in {took} us")?;
-    if !is_plain(pattern) {
-        return Ok(());
-    }
+    println!(rt; "is_plain: {plain} of {CALLS} calls in {took} us")?;
     let mut found = 0u32;
     let start = Instant::now(rt)?;
-    for _ in 0..CALLS {
-        if plain_search(pattern, text) {
+    for i in 0..CALLS {
+        let (pattern, text) = CASES[i as usize % CASES.len()];
+        if is_plain(pattern) && plain_search(pattern, text) {
             found = found.saturating_add(1);
         }
     }
     let took = start.elapsed(rt)?.as_micros();
-    println!(rt; "plain_search {pattern} in {text}: {found} of {CALLS} calls in {took} us")
+    println!(rt; "is_plain and plain_search: {found} of {CALLS} calls in {took} us")
 }
 
 fn main(rt: HostRuntime) -> io::Result<()> {
     time_preparing(&rt, "14 keys, 7 patterns built", "[class=a+ instance=b+ window_role=c+ window_type=normal machine=d+ title=e+ con_mark=f+ workspace=g+ id=1 con_id=__focused__ urgent=latest floating tiling all] nop")?;
     time_preparing(&rt, "14 keys, 7 patterns plain", "[class=^a$ instance=b window_role=c window_type=normal machine=d title=e con_mark=f workspace=g id=1 con_id=__focused__ urgent=latest floating tiling all] nop")?;
-    time_searching(&rt, "^term$", "term")?;
-    time_searching(&rt, "256", "xterm-256color")
+    time_searching(&rt)
 }
 PROGRAM
 cd "$folder/crates/criteria_bench"
