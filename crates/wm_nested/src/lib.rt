@@ -1,0 +1,22 @@
+//! The container tree: one nested value, and the calls that look into it and change it.
+#![tactic(auto)]
+
+mod attach;
+mod change;
+mod copy;
+mod count;
+mod edit;
+mod kind;
+mod look;
+mod part;
+mod place;
+mod recency;
+mod row;
+mod spot;
+mod start;
+mod tree;
+mod words;
+
+pub use place::{NewCon, Place, TreeRefusal};
+pub use tree::Tree;
+pub use part::{ConKind, ConPart, ConState, NodeKind, OutputPart, Part, SpacePart, Swallow, SwallowKey};
