@@ -1,2 +1,3 @@
+pub mod ExchangeLemmas
 pub mod ForestLemmas
 pub mod RecencyLemmas

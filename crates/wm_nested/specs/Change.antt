@@ -1,12 +1,13 @@
 -- Changing a forest at one node: each word gives the forest back as it was where the node is not there.
-use Rattle.std.specs.Prelude.{Bool, true, false, ◌&&◌, not, if◌then◌else◌, Option, None, Some}
+use Rattle.std.specs.Prelude.{ℕ, [], Bool, true, false, ◌&&◌, not, if◌then◌else◌, Option, None, Some}
+use Rattle.wm_base.specs.declared.geometry.Rect.{Rect}
 use Rattle.wm_base.specs.declared.ids.ConId.{ConId}
 use Rattle.wm_nested.specs.declared.part.Part.{Part}
 use Rattle.wm_nested.specs.declared.part.NodeKind.{NodeKind}
 use Rattle.wm_nested.specs.declared.part.NodeKind.TheVariants.{Root, Output, Space, Con}
 use Rattle.wm_nested.specs.declared.part.ConKind.{ConKind}
 use Rattle.wm_nested.specs.declared.part.ConKind.TheVariants.{Split, Window, Placeholder}
-use Rattle.wm_nested.specs.Counts.{but, share_of}
+use Rattle.wm_nested.specs.Counts.{but}
 use Rattle.wm_nested.specs.Forest.{Forest, end, con}
 use Rattle.wm_nested.specs.Look.{same, has, in_row, node_in, first_alone}
 
@@ -94,20 +95,40 @@ settled_row shown (con part kids floats rest) =
     then settled_row shown rest
     else con part (settled_row (shown_of part.kind) kids) floats (settled_row shown rest)
 
--- ---- one container in the place of another
+-- ---- a container that comes to another place
 
--- a node with the share of another
-abbrev pub with_share_of : NodeKind → NodeKind → NodeKind
-with_share_of kind (Root c) = Root c
-with_share_of kind (Output o) = Output o
-with_share_of kind (Space s) = Space s
-with_share_of kind (Con c) = Con (record c { share = share_of kind })
+-- the id that no node has
+abbrev pub nobody : ConId
+nobody = record { 0 = 0 }
 
--- the first node of a row stands where a node stood, with the share of that place
-abbrev pub standing : Forest → Part → Forest → Forest → Forest → Forest
-standing end part kids floats rest = con part kids floats rest
-standing (con new below above behind) part kids floats rest = con (record new { kind = with_share_of part.kind new.kind }) below above rest
+abbrev pub or_rect : Option Rect → Option Rect → Option Rect
+or_rect None old = old
+or_rect (Some r) old = Some r
+
+-- a container with this share, and with this outer rectangle where one is given
+abbrev pub placed : ℕ → Option Rect → NodeKind → NodeKind
+placed share rect (Root c) = Root c
+placed share rect (Output o) = Output o
+placed share rect (Space s) = Space s
+placed share rect (Con c) = Con (record c { share = share; state = record c.state { rect = or_rect rect c.state.rect } })
+
+-- the first node of a row as it comes to its new place; from another workspace it and what is below it lose fullscreen
+abbrev pub arriving : ℕ → Option Rect → Bool → Forest → Forest
+arriving share rect away end = end
+arriving share rect away (con part kids floats rest) =
+    if away
+    then con (record part { kind = unfull_kind (placed share rect part.kind) }) (unfull nobody kids) (unfull nobody floats) rest
+    else con (record part { kind = placed share rect part.kind }) kids floats rest
+
+-- the first node of a row in the place of a node
+abbrev pub in_place : Forest → Part → Forest → Forest → Forest → Forest
+in_place end part kids floats rest = con part kids floats rest
+in_place (con new below above behind) part kids floats rest = con new below above rest
 
 -- the first node of a row in the place of the node c
-abbrev pub filled : ConId → Forest → Forest → Forest
-filled c node forest = at c standing node forest
+abbrev pub replaced : ConId → Forest → Forest → Forest
+replaced c node forest = at c in_place node forest
+
+-- what stands in a place while two containers change places
+abbrev pub hole : Forest
+hole = con (record { id = nobody; kind = Root nobody; marks = [] }) end end end

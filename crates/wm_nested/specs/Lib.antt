@@ -5,9 +5,11 @@ pub mod ForestCode
 pub mod ForestFalls
 pub mod Kinds
 pub mod Look
+pub mod Move
 pub mod Place
 pub mod Recency
 pub mod Row
+pub mod Sets
 pub mod Spot
 pub mod TreeValue
 pub mod Words

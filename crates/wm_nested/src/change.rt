@@ -1,15 +1,16 @@
 //! Changing rows: taking out, putting behind, and what raising and settling make of a row.
 ghost use Rattle.std.specs.Prelude.{◌≡◌, false, true, if◌then◌else◌, is_some, MatchOption};
-ghost use Rattle.wm_nested.specs.Change.{append, is_end, is_id, is_split, is_vacant, settled_row, shown_of, to_end, unfull, unfull_kind, without};
+ghost use Rattle.wm_nested.specs.Change.{append, arriving, hole, placed, replaced, is_end, is_id, is_split, is_vacant, settled_row, shown_of, to_end, unfull, unfull_kind, without};
 ghost use Rattle.wm_nested.specs.Counts.{but};
-ghost use Rattle.wm_nested.specs.Forest.{end};
+ghost use Rattle.wm_nested.specs.Forest.{end, con};
 ghost use Rattle.wm_nested.specs.Look.{same, has, in_row, only, node_in, first_alone, rest_of};
-ghost use Rattle.wm_nested.specs.Row.{row_of};
+ghost use Rattle.wm_nested.specs.Row.{alone, row_of};
 
-use crate::part::{ConKind, NodeKind};
+use crate::part::{ConKind, NodeKind, Part};
 use crate::row::{Cell, Row};
+use std::alloc::Global;
 use std::mem;
-use wm_base::ConId;
+use wm_base::{ConId, List, Rect};
 
 impl NodeKind {
     /// Takes fullscreen from a container.
@@ -18,6 +19,18 @@ impl NodeKind {
     {
         if let NodeKind::Con(con) = self {
             con.state.fullscreen = false;
+        }
+    }
+
+    /// Gives a container this share, and this outer rectangle where one is given.
+    fn place(&mut self, share: u32, rect: Option<Rect>)
+        ensures { self.new ≡ placed share rect self.old }
+    {
+        if let NodeKind::Con(con) = self {
+            con.share = share;
+            if rect.is_some() {
+                con.state.rect = rect;
+            }
         }
     }
 
@@ -32,7 +45,76 @@ impl NodeKind {
     }
 }
 
+/// The id that no node has.
+pub(crate) const NOBODY: ConId = ConId(0);
+
 impl Cell {
+    /// A cell that stands in a place while two containers change places.
+    pub(crate) fn hole(alloc: Global) -> Cell
+        ensures { alone result ≡ hole }
+    {
+        let part = Part {
+            id: NOBODY,
+            kind: NodeKind::Root { current: NOBODY },
+            marks: List::of(Vec::new(alloc)),
+        };
+        Cell {
+            part,
+            kids: Row::new(),
+            floats: Row::new(),
+            rest: Row::new(),
+        }
+    }
+
+    /// Makes this a cell that stands in a place while two containers change places.
+    pub(crate) fn empty(&mut self, alloc: Global)
+        ensures { alone self.new ≡ hole }
+    {
+        *self = Cell::hole(alloc);
+    }
+
+    /// Makes the node ready for its new place. From another workspace (`away`) it loses fullscreen, and so does what
+    /// is below it.
+    pub(crate) fn arrive(&mut self, share: u32, rect: Option<Rect>, away: bool)
+        ensures row { row_of self.new ≡ arriving share rect away (row_of self.old) }
+        ensures alone { alone self.new ≡ arriving share rect away (alone self.old) }
+    {
+        self.part.kind.place(share, rect);
+        if away {
+            self.part.kind.clear_fullscreen();
+            self.kids.clear_fullscreen(NOBODY);
+            self.floats.clear_fullscreen(NOBODY);
+        }
+    }
+
+    /// Changes places with a node other than this one, below it or behind it. Says whether it is there.
+    #[cycle(swap)]
+    #[tactic(auto, using(crate::proofs::ForestLemmas::at_absent))]
+    fn swap_below(&mut self, id: ConId, spare: &mut Cell) -> bool
+        requires { same self.old.part.id id ≡ false }
+        ensures found { result ≡ has id (row_of self.old) }
+        ensures left { row_of self.new ≡ replaced id (alone spare.old) (row_of self.old) }
+        ensures taken { alone spare.new ≡ (if has id (row_of self.old) then only id (row_of self.old) else alone spare.old) }
+    {
+        let Cell {
+            part: _,
+            kids,
+            floats,
+            rest,
+        } = self;
+        kids.swap(id, spare) || floats.swap(id, spare) || rest.swap(id, spare)
+    }
+
+    /// Changes places with another node; each row keeps its rest.
+    fn swap_with(&mut self, spare: &mut Cell)
+        ensures here { row_of self.new ≡ con spare.old.part spare.old.kids spare.old.floats self.old.rest }
+        ensures there { alone spare.new ≡ alone self.old }
+    {
+        mem::swap(&mut self.part, &mut spare.part);
+        mem::swap(&mut self.kids, &mut spare.kids);
+        mem::swap(&mut self.floats, &mut spare.floats);
+    }
+
     /// Takes a node other than this one out of the rows below it and behind it.
     #[cycle(take_out)]
     #[tactic(auto, using(crate::proofs::ForestLemmas::at_absent))]
@@ -132,6 +214,23 @@ impl Row {
             None => None,
             Some(cell) if cell.part.id == id => Some(self.take_first()),
             Some(cell) => cell.take_out_below(id),
+        }
+    }
+
+    /// Changes the node's place with that of the spare cell, where it is here. Says whether it is.
+    #[cycle(swap)]
+    pub(crate) fn swap(&mut self, id: ConId, spare: &mut Cell) -> bool
+        ensures found { result ≡ has id self.old }
+        ensures left { self.new ≡ replaced id (alone spare.old) self.old }
+        ensures taken { alone spare.new ≡ (if has id self.old then only id self.old else alone spare.old) }
+    {
+        match &mut self.first {
+            None => false,
+            Some(cell) if cell.part.id == id => {
+                cell.swap_with(spare);
+                true
+            }
+            Some(cell) => cell.swap_below(id, spare),
         }
     }
 

@@ -1,5 +1,5 @@
 //! Copies of the tree's nodes. A copied text shares its bytes.
-ghost use Rattle.std.specs.Prelude.{◌≡◌, IfOk};
+ghost use Rattle.std.specs.Prelude.{◌≡◌, ◌++◌, ◌∷◌, [], IfOk};
 
 use crate::part::{ConKind, ConPart, NodeKind, OutputPart, Part, SpacePart, Swallow, SwallowKey};
 use crate::row::{Cell, Row};
@@ -26,6 +26,15 @@ fn copy_texts(alloc: Global, texts: &[Text]) -> Result<List<Text>, AllocError>
     for text in texts {
         copy.push(text.clone()?)?;
     }
+    Ok(List::of(copy))
+}
+
+/// The texts, and one more behind them.
+pub fn copy_texts_and(alloc: Global, texts: &[Text], last: &Text) -> Result<List<Text>, AllocError>
+    ensures { IfOk result (λ copy. copy ≡ texts.now ++ last.now ∷ []) }
+{
+    let mut copy = copy_texts(alloc, texts)?.into_vec();
+    copy.push(last.clone()?)?;
     Ok(List::of(copy))
 }
 

@@ -47,6 +47,13 @@ impl Model for Row {
 }
 
 impl Cell {
+    /// The cell on the heap.
+    pub fn boxed(self, alloc: Global) -> Result<Box<Cell>, AllocError>
+        ensures { IfOk result (λ cell. cell.value ≡ self) }
+    {
+        Ok(Box::new(alloc, self)?)
+    }
+
     /// Whether the node is this one, or is below it at any depth.
     pub fn holds(&self, id: ConId) -> bool
         ensures { result ≡ has id (alone self.now) }

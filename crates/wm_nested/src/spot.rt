@@ -1,10 +1,11 @@
 //! Where a node stands in the tree.
 ghost use Rattle.std.specs.Prelude.{◌≡◌, is_some};
 ghost use Rattle.wm_nested.specs.Look.{has};
+ghost use Rattle.wm_nested.specs.Row.{alone};
 ghost use Rattle.wm_nested.specs.Spot.{holder_by, spot_below, spot_of, spot_in, space_at, room_below, fits};
 
 use crate::part::{NodeKind, Part};
-use crate::row::Row;
+use crate::row::{Cell, Row};
 use wm_base::ConId;
 
 /// How many levels there may be below a workspace.
@@ -119,5 +120,14 @@ impl Row {
                     && cell.rest.fits(room)
             }
         }
+    }
+}
+
+impl Cell {
+    /// Whether the node and what is below it have at most so many levels.
+    pub fn fits(&self, room: u32) -> bool
+        ensures { result ≡ fits room (alone self.now) }
+    {
+        room > 0 && self.kids.fits(room - 1) && self.floats.fits(room - 1)
     }
 }

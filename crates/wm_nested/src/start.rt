@@ -43,6 +43,7 @@ impl Tree {
             border,
             inner,
             outer,
+            spare: Box::new(alloc, Cell::hole(alloc))?,
         })
     }
 }

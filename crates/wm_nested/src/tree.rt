@@ -29,6 +29,7 @@ pub struct Tree {
     pub(crate) border: Border,
     pub(crate) inner: u32,
     pub(crate) outer: u32,
+    pub(crate) spare: Box<Cell>,
 }
 
 impl Model for Tree {
@@ -72,6 +73,7 @@ impl Tree {
             border: self.border,
             inner: self.inner,
             outer: self.outer,
+            spare: Box::new(self.alloc, Cell::hole(self.alloc))?,
         })
     }
 
