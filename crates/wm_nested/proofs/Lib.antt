@@ -1,3 +1,14 @@
+pub mod AttachLemmas
+pub mod ChangeLemmas
+pub mod CountLemmas
+pub mod EditLemmas
 pub mod ExchangeLemmas
 pub mod ForestLemmas
+pub mod PutLemmas
+pub mod RaiseLemmas
 pub mod RecencyLemmas
+pub mod RowLemmas
+pub mod SettleLemmas
+pub mod SoundLemmas
+pub mod StandLemmas
+pub mod TimesLemmas

@@ -1,6 +1,7 @@
 -- Counts of a forest: containers, marks, the nodes of a row and their shares.
 use Rattle.std.specs.Prelude.{ℕ, ◌+◌, ◌/◌, ◌==◌, length, if◌then◌else◌}
 use Rattle.wm_base.specs.declared.ids.ConId.{ConId}
+use Rattle.wm_nested.specs.declared.part.Part.{Part}
 use Rattle.wm_nested.specs.declared.part.NodeKind.{NodeKind}
 use Rattle.wm_nested.specs.declared.part.NodeKind.TheVariants.{Root, Output, Space, Con}
 use Rattle.wm_nested.specs.Forest.{Forest, end, con}
@@ -12,15 +13,24 @@ one_con (Output o) = 0
 one_con (Space s) = 0
 one_con (Con c) = 1
 
--- how many containers there are, at any depth
-abbrev pub con_count : Forest → ℕ
-con_count end = 0
-con_count (con part kids floats rest) = one_con part.kind + con_count kids + con_count floats + con_count rest
+-- what the parts of all nodes count together, at any depth
+abbrev pub count : (Part → ℕ) → Forest → ℕ
+count m end = 0
+count m (con part kids floats rest) = m part + count m kids + count m floats + count m rest
 
--- how many marks there are, at any depth
+abbrev pub con_of : Part → ℕ
+con_of p = one_con p.kind
+
+-- how many containers there are
+abbrev pub con_count : Forest → ℕ
+con_count f = count con_of f
+
+-- how many marks there are
+abbrev pub marks_of : Part → ℕ
+marks_of p = length p.marks
+
 abbrev pub mark_count : Forest → ℕ
-mark_count end = 0
-mark_count (con part kids floats rest) = length part.marks + mark_count kids + mark_count floats + mark_count rest
+mark_count f = count marks_of f
 
 -- how many nodes a row has
 abbrev pub row_length : Forest → ℕ

@@ -10,6 +10,7 @@ pub mod Place
 pub mod Recency
 pub mod Row
 pub mod Sets
+pub mod Sound
 pub mod Spot
 pub mod TreeValue
 pub mod Words

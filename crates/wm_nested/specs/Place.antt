@@ -1,5 +1,5 @@
 -- Places in a forest, and what is put there.
-use Rattle.std.specs.Prelude.{ℕ, Bool, true, false, codes, if◌then◌else◌, [], Option, None, Some, nat_le, nat_lt, ◌&&◌, not}
+use Rattle.std.specs.Prelude.{◌≡◌, ◌≢◌, ℕ, Bool, true, false, codes, if◌then◌else◌, [], Option, None, Some, nat_le, nat_lt, ◌&&◌, not}
 use Rattle.wm_base.specs.declared.errors.Limit.{Limit}
 use Rattle.wm_base.specs.declared.errors.Limit.TheVariants.{Containers, Children, Depth, Ids}
 use Rattle.wm_base.specs.declared.geometry.Rect.{Rect}
@@ -7,7 +7,8 @@ use Rattle.wm_base.specs.declared.ids.ConId.{ConId}
 use Rattle.wm_base.specs.declared.plan.Border.{Border}
 use Rattle.wm_base.specs.declared.plan.Layout.TheVariants.{SplitH}
 use Rattle.wm_nested.specs.declared.part.Part.{Part}
-use Rattle.wm_nested.specs.declared.part.NodeKind.TheVariants.{Con}
+use Rattle.wm_nested.specs.declared.part.NodeKind.{NodeKind}
+use Rattle.wm_nested.specs.declared.part.NodeKind.TheVariants.{Root, Output, Space, Con}
 use Rattle.wm_nested.specs.declared.part.ConKind.{ConKind}
 use Rattle.wm_nested.specs.declared.part.ConKind.TheVariants.{Split, Window, Placeholder}
 use Rattle.wm_nested.specs.declared.place.Place.{Place}
@@ -19,7 +20,7 @@ use Rattle.wm_nested.specs.Forest.{Forest, con}
 use Rattle.wm_nested.specs.Change.{at, append}
 use Rattle.wm_nested.specs.Counts.{con_count, newcomer_share, row_length, row_with}
 use Rattle.wm_nested.specs.Kinds.{last_split_of}
-use Rattle.wm_nested.specs.Look.{only, first_kids, first_part, first_floats}
+use Rattle.wm_nested.specs.Look.{con_kind, first_floats, first_kids, first_part, has, kind_of, only, space_kind}
 use Rattle.wm_nested.specs.Spot.{room_below, spot_in, top}
 
 -- the node that a place names; the root for the scratchpad
@@ -137,3 +138,39 @@ passed_limit p forest next_id =
     else if not (nat_lt 0 (room_at p forest)) then Some Depth
     else if nat_lt 4000000000 next_id then Some Ids
     else None
+
+-- ---- which places there are
+
+abbrev pub IsSplit : ConKind → Type 0
+IsSplit (Split layout last) = Unit {0}
+IsSplit (Window props owner natural) = ⊥
+IsSplit (Placeholder props swallows) = ⊥
+
+-- a workspace or a split
+abbrev pub TakesKids : NodeKind → Type 0
+TakesKids (Root c) = ⊥
+TakesKids (Output o) = ⊥
+TakesKids (Space w) = Unit {0}
+TakesKids (Con c) = IsSplit c.kind
+
+abbrev pub TakesFirst : Option Part → Type 0
+TakesFirst None = ⊥
+TakesFirst (Some part) = TakesKids part.kind
+
+abbrev pub is_tiled : Option Spot → Bool
+is_tiled None = false
+is_tiled (Some s) = s.tiled
+
+-- c is a tiled container
+abbrev pub IsTiled : ConId → Forest → Type 0
+IsTiled c forest = (kind_of con_kind c forest ≢ None) × (is_tiled (spot_in top c forest) ≡ true)
+
+-- the place is beside a tiled container, in a workspace or a split, among the floating windows of a workspace, or in
+-- the scratchpad, where its node is there
+abbrev pub IsPlace : Place → Forest → Type 0
+IsPlace (After c) forest = has c forest ≡ true → IsTiled c forest
+IsPlace (Before c) forest = has c forest ≡ true → IsTiled c forest
+IsPlace (First c) forest = has c forest ≡ true → TakesFirst (first_part (only c forest))
+IsPlace (Last c) forest = has c forest ≡ true → TakesFirst (first_part (only c forest))
+IsPlace (Float w r) forest = has w forest ≡ true → kind_of space_kind w forest ≢ None
+IsPlace (Scratchpad r) forest = Unit {0}

@@ -18,10 +18,10 @@ space_by space id (Con c) = space
 abbrev pub space_at : Option ConId → Part → Option ConId
 space_at space part = space_by space part.id part.kind
 
--- how many levels there may be below a node: 32 below a workspace, and one less below each container
+-- how many levels there may be below a node: one less below each container, and 32 at the top
 abbrev pub room_below : ℕ → NodeKind → ℕ
-room_below room (Root c) = 0
-room_below room (Output o) = 0
+room_below room (Root c) = 32
+room_below room (Output o) = 32
 room_below room (Space s) = 32
 room_below room (Con c) = room - 1
 

@@ -79,8 +79,7 @@ pub fn room_below(room: u32, kind: &NodeKind) -> u32
     ensures { result ≡ room_below room kind.now }
 {
     match kind {
-        NodeKind::Root { .. } | NodeKind::Output(_) => 0,
-        NodeKind::Space(_) => MAX_DEPTH,
+        NodeKind::Root { .. } | NodeKind::Output(_) | NodeKind::Space(_) => MAX_DEPTH,
         NodeKind::Con(_) => room.saturating_sub(1),
     }
 }
