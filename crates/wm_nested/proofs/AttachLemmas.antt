@@ -110,23 +110,23 @@ above_ready None found st c border rect newcomer spot low = absurd spot
 above_ready (Some s) end st c border rect newcomer spot low = absurd (omega arith)
 above_ready (Some s) (con part kids floats rest) st c border rect newcomer spot low = newcomer_sound false (room_below s.room part.kind) c 0 border rect newcomer low refl
 
-space_room : (n : ℕ) (part : Option Part) → kind_by space_kind part ≢ None → 0 < room_under n part
+pub space_room : (n : ℕ) (part : Option Part) → kind_by space_kind part ≢ None → room_under n part ≡ 32
 space_room n None ok = absurd (ok refl)
 space_room n (Some part) ok = by_kind part.kind ok
   where
-    by_kind : (kind : NodeKind) → space_kind kind ≢ None → 0 < room_below n kind
-    by_kind (Root c) ok = omega arith
-    by_kind (Output o) ok = omega arith
-    by_kind (Space w) ok = omega arith
+    by_kind : (kind : NodeKind) → space_kind kind ≢ None → room_below n kind ≡ 32
+    by_kind (Root c) ok = refl
+    by_kind (Output o) ok = refl
+    by_kind (Space w) ok = refl
     by_kind (Con c) ok = absurd (ok refl)
 
 -- the root is where it is looked for
-pub root_room : (n : ℕ) (f : Forest) → IsSoundRow roots false 0 f → in_row root f ≡ true → 0 < room_under n (first_part (only root f))
+pub root_room : (n : ℕ) (f : Forest) → IsSoundRow roots false 0 f → in_row root f ≡ true → room_under n (first_part (only root f)) ≡ 32
 root_room n end s h = cc
 root_room n (con part kids floats rest) s h = by_kind part.kind s.0
   where
-    by_kind : (kind : NodeKind) → IsNode roots false 0 part.id kind part.marks kids → 0 < room_under n (first_part (cond (same part.id root) (con (record part { kind = kind }) kids floats end) (cond (has root kids) (only root kids) (cond (has root floats) (only root floats) (only root rest)))))
-    by_kind (Root c) k = rw (same_self part.id root k.0) (omega arith)
+    by_kind : (kind : NodeKind) → IsNode roots false 0 part.id kind part.marks kids → room_under n (first_part (cond (same part.id root) (con (record part { kind = kind }) kids floats end) (cond (has root kids) (only root kids) (cond (has root floats) (only root floats) (only root rest))))) ≡ 32
+    by_kind (Root c) k = rw (same_self part.id root k.0) refl
     by_kind (Output o) k = absurd k
     by_kind (Space w) k = absurd k
     by_kind (Con c) k = absurd k
@@ -157,9 +157,9 @@ ready_new (Last c) newcomer t s there ok none =
     let r = room_here (Last c) t.nodes t.next_id none in
     under_ready (spot_in top c t.nodes) (only c t.nodes) (row_with c t.nodes t.nodes) (id t.next_id) t.border None newcomer (has_spot c top t.nodes there) (stands c roots top t.nodes t.nodes s.shaped s.shaped).1 (ok there) r.levels_left (r.children_left refl)
 ready_new (Float w rect) newcomer t s there ok none =
-    above_ready (spot_in top w t.nodes) (only w t.nodes) (row_with w t.nodes t.nodes) (id t.next_id) t.border (Some rect) newcomer (has_spot w top t.nodes there) (space_room (row_room w t.nodes) (first_part (only w t.nodes)) (ok there))
+    above_ready (spot_in top w t.nodes) (only w t.nodes) (row_with w t.nodes t.nodes) (id t.next_id) t.border (Some rect) newcomer (has_spot w top t.nodes there) (omega (arith, space_room (row_room w t.nodes) (first_part (only w t.nodes)) (ok there)))
 ready_new (Scratchpad rect) newcomer t s there ok none =
-    above_ready (spot_in top root t.nodes) (only root t.nodes) (row_with root t.nodes t.nodes) (id t.next_id) t.border (Some rect) newcomer (has_spot root top t.nodes there) (root_room (row_room root t.nodes) t.nodes s.shaped s.rooted)
+    above_ready (spot_in top root t.nodes) (only root t.nodes) (row_with root t.nodes t.nodes) (id t.next_id) t.border (Some rect) newcomer (has_spot root top t.nodes there) (omega (arith, root_room (row_room root t.nodes) t.nodes s.shaped s.rooted))
 
 -- ---- the tree with a new container
 

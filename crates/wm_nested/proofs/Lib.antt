@@ -4,6 +4,9 @@ pub mod CountLemmas
 pub mod EditLemmas
 pub mod ExchangeLemmas
 pub mod ForestLemmas
+pub mod LookLemmas
+pub mod MarkLemmas
+pub mod MoveLemmas
 pub mod PutLemmas
 pub mod RaiseLemmas
 pub mod RecencyLemmas
@@ -12,3 +15,4 @@ pub mod SettleLemmas
 pub mod SoundLemmas
 pub mod StandLemmas
 pub mod TimesLemmas
+pub mod WrapLemmas

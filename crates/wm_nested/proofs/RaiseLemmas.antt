@@ -25,7 +25,7 @@ use Rattle.wm_nested.proofs.TimesLemmas.{times-raised}
 abbrev pub unfull_part : ConId → Part → Part
 unfull_part c part = cond (same part.id c) part (record part { kind = unfull_kind part.kind })
 
-unfull_node : (l : Level) (tiled : Bool) (room : ℕ) (id : ConId) (kind : NodeKind) (marks : List (List ℕ)) (kids : Forest) → IsNode l tiled room id kind marks kids → IsNode l tiled room id (unfull_kind kind) marks kids
+pub unfull_node : (l : Level) (tiled : Bool) (room : ℕ) (id : ConId) (kind : NodeKind) (marks : List (List ℕ)) (kids : Forest) → IsNode l tiled room id kind marks kids → IsNode l tiled room id (unfull_kind kind) marks kids
 unfull_node l tiled room id (Root c) marks kids h = h
 unfull_node l tiled room id (Output o) marks kids h = h
 unfull_node l tiled room id (Space w) marks kids h = h
@@ -34,19 +34,19 @@ unfull_node outputs tiled room id (Con c) marks kids h = h
 unfull_node spaces tiled room id (Con c) marks kids h = h
 unfull_node containers tiled room id (Con c) marks kids h = h
 
-unfull_room : (room : ℕ) (kind : NodeKind) → room_below room (unfull_kind kind) ≡ room_below room kind
+pub unfull_room : (room : ℕ) (kind : NodeKind) → room_below room (unfull_kind kind) ≡ room_below room kind
 unfull_room room (Root c) = refl
 unfull_room room (Output o) = refl
 unfull_room room (Space w) = refl
 unfull_room room (Con c) = refl
 
-unfull_ranks : (kind : NodeKind) → ranks (unfull_kind kind) ≡ ranks kind
+pub unfull_ranks : (kind : NodeKind) → ranks (unfull_kind kind) ≡ ranks kind
 unfull_ranks (Root c) = refl
 unfull_ranks (Output o) = refl
 unfull_ranks (Space w) = refl
 unfull_ranks (Con c) = refl
 
-unfull_one : (kind : NodeKind) → one_con (unfull_kind kind) ≡ one_con kind
+pub unfull_one : (kind : NodeKind) → one_con (unfull_kind kind) ≡ one_con kind
 unfull_one (Root c) = refl
 unfull_one (Output o) = refl
 unfull_one (Space w) = refl
@@ -68,13 +68,13 @@ module _ (c : ConId) where
   row_length-unfull end = refl
   row_length-unfull (con part kids floats rest) = omega (arith, row_length-unfull rest)
 
-  keeps-unfull : (l : Level) (f : Forest) → KeepsRow l f (unfull c f)
+  pub keeps-unfull : (l : Level) (f : Forest) → KeepsRow l f (unfull c f)
   keeps-unfull roots f = λ i h. in_row-unfull i f ∙ h
   keeps-unfull outputs f = λ i h. in_row-unfull i f ∙ h
   keeps-unfull spaces f = λ i h. in_row-unfull i f ∙ h
   keeps-unfull containers f = tt
 
-  ends-unfull : (f : Forest) → f ≡ end → unfull c f ≡ end
+  pub ends-unfull : (f : Forest) → f ≡ end → unfull c f ≡ end
   ends-unfull f e = ap (unfull c) e
 
   node_step : (b : Bool) (l : Level) (tiled : Bool) (room : ℕ) (part : Part) (kids : Forest) → IsNode l tiled room part.id part.kind part.marks kids
