@@ -1,7 +1,6 @@
 -- Putting a new container into a tree keeps what holds of every tree.
-use Rattle.std.proofs.Common.{◌≡◌, ◌≢◌, ℕ, ◌+◌, ◌≤◌, ◌<◌, Bool, true, false, cond, leb, ltb, ◌&&◌, ◌||◌, not, ◌⊎◌, inl, inr, ⊎_elim, List, [], ◌∷◌, ◌++◌, Option, None, Some, refl, ap, sym, ◌∙◌, subst, arith}
+use Rattle.std.proofs.Common.{◌≡◌, ◌≢◌, ℕ, ◌+◌, ◌≤◌, ◌<◌, Bool, true, false, cond, leb, ltb, ◌&&◌, ◌||◌, not, ◌⊎◌, inl, inr, ⊎_elim, [], ◌∷◌, ◌++◌, Option, None, Some, refl, sym, subst, arith}
 use Rattle.std.proofs.lemmas.Bool.Decides.{eqb_tells, nat_tests}
-use Rattle.wm_base.specs.declared.errors.Limit.{Limit}
 use Rattle.wm_base.specs.declared.errors.Limit.TheVariants.{Containers, Children, Depth, Ids}
 use Rattle.wm_base.specs.declared.geometry.Rect.{Rect}
 use Rattle.wm_base.specs.declared.ids.ConId.{ConId}
@@ -18,13 +17,13 @@ use Rattle.wm_nested.specs.Forest.{Forest, end, con}
 use Rattle.wm_nested.specs.Change.{nobody}
 use Rattle.wm_nested.specs.Counts.{con_of, con_count, count, marks_of, newcomer_share, row_length, row_with}
 use Rattle.wm_nested.specs.Look.{first_kids, first_part, has, in_row, kind_by, only, same, space_kind}
-use Rattle.wm_nested.specs.Place.{IsPlace, TakesFirst, TakesKids, is_tiled, named, new_kind, new_part, passed_limit, put, rect_at, room_at, room_by, room_under, row_room, share_at, siblings, tiles}
-use Rattle.wm_nested.specs.Sound.{HasKids, HasShare, IsNode, IsSound, IsSoundRow, containers, one_of, rank_of, roots, tally, times}
+use Rattle.wm_nested.specs.Place.{IsPlace, TakesFirst, is_tiled, named, new_kind, new_part, passed_limit, put, rect_at, room_at, room_by, room_under, row_room, share_at, siblings, tiles}
+use Rattle.wm_nested.specs.Sound.{HasKids, HasShare, IsNode, IsSound, IsSoundRow, containers, one_of, rank_of, roots, tally}
 use Rattle.wm_nested.specs.Spot.{room_below, spot_in, top}
 use Rattle.wm_nested.specs.TreeValue.{TreeValue, id, root}
 use Rattle.wm_nested.specs.Words.{attached}
 use Rattle.wm_nested.proofs.CountLemmas.{count-put, counted, there}
-use Rattle.wm_nested.proofs.PutLemmas.{Above, Beside, IsConFirst, IsSoundAt, IsSoundBelow, Under, sound-put_after, sound-put_before, sound-put_first, sound-put_float, sound-put_last}
+use Rattle.wm_nested.proofs.PutLemmas.{Above, Beside, IsConFirst, Under, sound-put_after, sound-put_before, sound-put_first, sound-put_float, sound-put_last}
 use Rattle.wm_nested.proofs.RecencyLemmas.{same_self}
 use Rattle.wm_nested.proofs.RowLemmas.{KeepsRow}
 use Rattle.wm_nested.proofs.StandLemmas.{HasSpot, SoundKids, SoundStanding, has_spot, mean_bounds, stands}
@@ -214,3 +213,7 @@ one_new-attached p newcomer t v named_there h other =
     let row : Forest = con (new_part (id t.next_id) (share_at p t.nodes) t.border (rect_at p) newcomer) end end end in
     let none : tally v row ≡ 0 = rw other refl in
     there v t.nodes (omega (arith, counted v (attached p newcomer t).nodes h, count-put (one_of v) p row t.nodes named_there, none))
+
+-- the same of nodes that are those after attaching
+pub one_new_by : (p : Place) (newcomer : NewCon) (t : TreeValue) (new : Forest) (v : ConId) → new ≡ (attached p newcomer t).nodes → has (named p) t.nodes ≡ true → has v new ≡ true → same (id t.next_id) v ≡ false → has v t.nodes ≡ true
+one_new_by p newcomer t new v e named_there h other = one_new-attached p newcomer t v named_there (rw e at h) other

@@ -1,5 +1,5 @@
 -- A change at one node, by cases on where the node stands.
-use Rattle.std.proofs.Common.{◌≡◌, Bool, true, false, cond, Option, None, Some}
+use Rattle.std.proofs.Common.{Bool, true, false, cond, Option, None, Some}
 use Rattle.wm_base.specs.declared.ids.ConId.{ConId}
 use Rattle.wm_nested.specs.declared.part.Part.{Part}
 use Rattle.wm_nested.specs.declared.spot.Spot.{Spot}

@@ -1,8 +1,7 @@
 -- What a change takes out and puts in is counted.
-use Rattle.std.proofs.Common.{◌≡◌, ℕ, ◌+◌, ◌≤◌, Bool, true, false, cond, ◌||◌, Option, refl, ap, sym, arith}
+use Rattle.std.proofs.Common.{◌≡◌, ℕ, ◌+◌, ◌≤◌, Bool, true, false, cond, ◌||◌, Option, refl, arith}
 use Rattle.wm_base.specs.declared.ids.ConId.{ConId}
 use Rattle.wm_nested.specs.declared.part.Part.{Part}
-use Rattle.wm_nested.specs.declared.kind.KindEdit.{KindEdit}
 use Rattle.wm_nested.specs.declared.place.Place.{Place}
 use Rattle.wm_nested.specs.declared.place.Place.TheVariants.{After, Before, First, Last, Float, Scratchpad}
 use Rattle.wm_nested.specs.Forest.{Forest, end, con}

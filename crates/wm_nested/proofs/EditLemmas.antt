@@ -1,23 +1,26 @@
 -- A change of what one node says of itself, or of its marks, keeps what holds of the rows of every tree.
-use Rattle.std.proofs.Common.{◌≡◌, ℕ, ◌+◌, ◌≤◌, Bool, true, false, ◌⊎◌, inl, List, length, Option, None, Some, refl, ap, sym, subst, arith}
+use Rattle.std.proofs.Common.{◌≡◌, ℕ, ◌≤◌, Bool, true, inl, List, Option, None, Some, refl, sym, subst, arith}
 use Rattle.wm_base.specs.declared.ids.ConId.{ConId}
 use Rattle.wm_base.specs.declared.plan.Layout.{Layout}
 use Rattle.wm_nested.specs.declared.kind.KindEdit.{KindEdit}
 use Rattle.wm_nested.specs.declared.kind.KindEdit.TheVariants as edits
+use Rattle.wm_base.specs.declared.geometry.Edges.{Edges}
+use Rattle.wm_nested.specs.declared.part.ConState.{ConState}
+use Rattle.wm_nested.specs.Place.{is_tiled}
 use Rattle.wm_nested.specs.declared.part.Part.{Part}
 use Rattle.wm_nested.specs.declared.part.ConKind.{ConKind}
 use Rattle.wm_nested.specs.declared.part.ConKind.TheVariants.{Split, Window, Placeholder}
 use Rattle.wm_nested.specs.declared.part.NodeKind.{NodeKind}
 use Rattle.wm_nested.specs.declared.part.NodeKind.TheVariants.{Root, Output, Space, Con}
 use Rattle.wm_nested.specs.declared.spot.Spot.{Spot}
-use Rattle.wm_nested.specs.Forest.{Forest, end, con}
+use Rattle.wm_nested.specs.Forest.{Forest, con}
 use Rattle.wm_nested.specs.Change.{at}
-use Rattle.wm_nested.specs.Counts.{count, one_con, row_length, row_with}
+use Rattle.wm_nested.specs.Counts.{one_con, row_with}
 use Rattle.wm_nested.specs.Kinds.{changed, kind_changed, laid_out, titled}
-use Rattle.wm_nested.specs.Look.{only, same, in_row, first_kids}
-use Rattle.wm_nested.specs.Sound.{Level, roots, outputs, spaces, containers, below, HasKids, HasShare, IsNode, IsSoundRow, ranks}
+use Rattle.wm_nested.specs.Look.{only, in_row, first_kids}
+use Rattle.wm_nested.specs.Sound.{Level, roots, outputs, spaces, containers, HasKids, HasShare, IsNode, IsSoundRow, ranks}
 use Rattle.wm_nested.specs.Spot.{room_below, spot_in, spot_of}
-use Rattle.wm_nested.proofs.RowLemmas.{KeepsRow, same_row, behind_row, Grows, keeps_sound}
+use Rattle.wm_nested.proofs.RowLemmas.{same_row, behind_row, Grows, keeps_sound}
 use Rattle.wm_nested.proofs.PutLemmas.{Here}
 
 -- what a change needs of its node: a share within its limits, a workspace or output that is there
@@ -111,6 +114,49 @@ sound-changed c edit l s forest ok p = keeps_sound c kind_changed edit 0 (λ fou
     here : (l : Level) (s : Spot) (whole : Forest) (part : Part) (kids floats rest : Forest) → FitsEditAt edit (Some (spot_of s part)) kids
         → Here 0 l s (con part kids floats rest) (con (record part { kind = changed edit part.kind }) kids floats rest)
     here l s whole part kids floats rest ok p =
-        let e = changed_room edit part.kind s.room in
-        ((changed_con edit part.kind l s.tiled s.room part.id part.marks kids ok p.0, p.1, rw e p.2, rw e p.3, p.4),
-          behind_row l part (record part { kind = changed edit part.kind }) kids floats rest kids floats rest refl (same_row l rest), omega arith)
+        let e = changed_room edit part.kind s.room in (
+          (changed_con edit part.kind l s.tiled s.room part.id part.marks kids ok p.0, p.1, rw e p.2, rw e p.3, p.4),
+          behind_row l part (record part { kind = changed edit part.kind }) kids floats rest kids floats rest refl (same_row l rest),
+          omega arith,
+        )
+
+-- some changes fit everywhere
+pub fits_layout : (l : Layout) (sp : Option Spot) (kids : Forest) → FitsEditAt (edits.Layout l) sp kids
+fits_layout l None kids = tt
+fits_layout l (Some s) kids = tt
+
+pub fits_state : (x : ConState) (sp : Option Spot) (kids : Forest) → FitsEditAt (edits.State x) sp kids
+fits_state x None kids = tt
+fits_state x (Some s) kids = tt
+
+pub fits_title : (t : List ℕ) (sp : Option Spot) (kids : Forest) → FitsEditAt (edits.Title t) sp kids
+fits_title t None kids = tt
+fits_title t (Some s) kids = tt
+
+pub fits_format : (t : List ℕ) (sp : Option Spot) (kids : Forest) → FitsEditAt (edits.TitleFormat t) sp kids
+fits_format t None kids = tt
+fits_format t (Some s) kids = tt
+
+pub fits_name : (n : List ℕ) (sp : Option Spot) (kids : Forest) → FitsEditAt (edits.Name n) sp kids
+fits_name n None kids = tt
+fits_name n (Some s) kids = tt
+
+pub fits_gaps : (inner outer : ℕ) (sp : Option Spot) (kids : Forest) → FitsEditAt (edits.Gaps inner outer) sp kids
+fits_gaps inner outer None kids = tt
+fits_gaps inner outer (Some s) kids = tt
+
+pub fits_reserved : (e : Edges) (sp : Option Spot) (kids : Forest) → FitsEditAt (edits.Reserved e) sp kids
+fits_reserved e None kids = tt
+fits_reserved e (Some s) kids = tt
+
+pub fits_share : (n : ℕ) (sp : Option Spot) (kids : Forest) → is_tiled sp ≡ true → 1 ≤ n → n ≤ 1048576 → FitsEditAt (edits.Share n) sp kids
+fits_share n None kids tiled low high = tt
+fits_share n (Some s) kids tiled low high = let Share : Bool → Type 0 = λ b. HasShare b n in subst Share (sym tiled) (low, high)
+
+pub fits_shown : (w : ConId) (sp : Option Spot) (kids : Forest) → in_row w kids ≡ true → FitsEditAt (edits.Shown w) sp kids
+fits_shown w None kids h = tt
+fits_shown w (Some s) kids h = h
+
+pub fits_current : (o : ConId) (sp : Option Spot) (kids : Forest) → in_row o kids ≡ true → FitsEditAt (edits.Current o) sp kids
+fits_current o None kids h = tt
+fits_current o (Some s) kids h = h

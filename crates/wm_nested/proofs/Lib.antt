@@ -3,10 +3,12 @@ pub mod ChangeLemmas
 pub mod CountLemmas
 pub mod EditLemmas
 pub mod ExchangeLemmas
+pub mod FocusLemmas
 pub mod ForestLemmas
 pub mod LookLemmas
 pub mod MarkLemmas
 pub mod MoveLemmas
+pub mod PlaceLemmas
 pub mod PutLemmas
 pub mod RaiseLemmas
 pub mod RecencyLemmas
@@ -14,5 +16,6 @@ pub mod RowLemmas
 pub mod SettleLemmas
 pub mod SoundLemmas
 pub mod StandLemmas
+pub mod StartLemmas
 pub mod TimesLemmas
 pub mod WrapLemmas

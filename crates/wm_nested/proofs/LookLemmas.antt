@@ -1,5 +1,5 @@
 -- Looking for a node after another one was taken out or replaced.
-use Rattle.std.proofs.Common.{◌≡◌, ℕ, ◌+◌, ◌≤◌, Bool, true, false, cond, ◌||◌, Option, None, Some, refl, ap, sym, ◌∙◌, arith}
+use Rattle.std.proofs.Common.{◌≡◌, ℕ, ◌+◌, ◌≤◌, Bool, true, false, cond, ◌||◌, Option, Some, refl, arith}
 use Rattle.wm_base.specs.declared.ids.ConId.{ConId}
 use Rattle.wm_nested.specs.declared.part.Part.{Part}
 use Rattle.wm_nested.specs.declared.spot.Spot.{Spot}
@@ -8,10 +8,10 @@ use Rattle.wm_nested.specs.Change.{at, in_place, replaced, without}
 use Rattle.wm_nested.specs.Counts.{but, row_length, row_with}
 use Rattle.wm_nested.specs.Look.{first_kids, first_part, has, in_row, only, same}
 use Rattle.wm_nested.specs.Sound.{Level, below, containers, tally}
-use Rattle.wm_nested.specs.Spot.{spot_below, spot_in, spot_of, top}
+use Rattle.wm_nested.specs.Spot.{spot_in, spot_of, top}
 use Rattle.wm_nested.proofs.ChangeLemmas.{by_place}
 use Rattle.wm_nested.proofs.CountLemmas.{counted, tally-absent}
-use Rattle.wm_nested.proofs.ForestLemmas.{but_absent, or_false}
+use Rattle.wm_nested.proofs.ForestLemmas.{but_absent}
 
 pub none_of_four : (a k l r : Bool) → (a || k || l || r) ≡ false → (a ≡ false) × (k ≡ false) × (l ≡ false) × (r ≡ false)
 none_of_four false false false false h = (refl, refl, refl, refl)

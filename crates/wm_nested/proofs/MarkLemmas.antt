@@ -1,5 +1,5 @@
 -- Other marks of a container keep what holds of every tree.
-use Rattle.std.proofs.Common.{◌≡◌, ℕ, suc, ◌+◌, ◌≤◌, ◌<◌, Bool, true, false, cond, leb, ◌||◌, not, ◌⊎◌, inl, List, [], ◌∷◌, ◌++◌, length, filter, Option, None, Some, refl, ap, sym, ◌∙◌, subst, arith}
+use Rattle.std.proofs.Common.{◌≡◌, ℕ, suc, ◌+◌, ◌≤◌, ◌<◌, Bool, true, false, cond, leb, ◌||◌, not, inl, List, [], ◌∷◌, ◌++◌, length, refl, ap, sym, ◌∙◌, subst, arith}
 use Rattle.std.proofs.lemmas.Bool.Decides.{nat_tests}
 use Rattle.std.specs.Str.{bytes_eq}
 use Rattle.wm_base.specs.declared.ids.ConId.{ConId}
@@ -9,16 +9,16 @@ use Rattle.wm_nested.specs.declared.part.NodeKind.TheVariants.{Root, Output, Spa
 use Rattle.wm_nested.specs.declared.spot.Spot.{Spot}
 use Rattle.wm_nested.specs.Forest.{Forest, end, con}
 use Rattle.wm_nested.specs.Change.{at, nobody}
-use Rattle.wm_nested.specs.Counts.{con_of, count, mark_count, marks_of, row_length, row_with}
-use Rattle.wm_nested.specs.Look.{first_marks, has, only}
+use Rattle.wm_nested.specs.Counts.{con_of, mark_count, row_with}
+use Rattle.wm_nested.specs.Look.{first_marks, only}
 use Rattle.wm_nested.specs.Move.{is_full_of_marks, marked, marks_in, marks_word, other_marks, unmark_word, unmarked}
 use Rattle.wm_nested.specs.Sound.{Level, roots, outputs, spaces, containers, IsNode, IsSound, IsSoundRow, one_of, rank_of}
-use Rattle.wm_nested.specs.Spot.{spot_in, spot_of, top}
+use Rattle.wm_nested.specs.Spot.{top}
 use Rattle.wm_nested.specs.TreeValue.{TreeValue, root}
 use Rattle.wm_nested.proofs.ChangeLemmas.{by_change}
 use Rattle.wm_nested.proofs.CountLemmas.{count-same}
 use Rattle.wm_nested.proofs.PutLemmas.{Here, IsConFirst, con_level}
-use Rattle.wm_nested.proofs.RowLemmas.{KeepsRow, same_row, behind_row, Grows, keeps_sound}
+use Rattle.wm_nested.proofs.RowLemmas.{same_row, behind_row, Grows, keeps_sound}
 
 other_shorter : (n : List ℕ) (marks : List (List ℕ)) → length (other_marks n marks) ≤ length marks
 other_shorter n [] = omega arith

@@ -1,7 +1,6 @@
 -- Moving a container keeps what holds of every tree.
-use Rattle.std.proofs.Common.{◌≡◌, ◌≢◌, ℕ, ◌+◌, ◌≤◌, ◌<◌, Bool, true, false, cond, leb, ◌&&◌, not, List, Option, None, Some, refl, ap, sym, ◌∙◌, subst, arith}
+use Rattle.std.proofs.Common.{◌≡◌, ◌≢◌, ℕ, ◌≤◌, ◌<◌, Bool, true, false, cond, leb, ◌&&◌, not, List, Option, None, Some, refl, ap, sym, ◌∙◌, subst, arith}
 use Rattle.std.proofs.lemmas.Bool.Decides.{nat_tests}
-use Rattle.wm_base.specs.declared.errors.Limit.{Limit}
 use Rattle.wm_base.specs.declared.errors.Limit.TheVariants.{Children, Depth}
 use Rattle.wm_base.specs.declared.geometry.Rect.{Rect}
 use Rattle.wm_base.specs.declared.ids.ConId.{ConId}
@@ -14,18 +13,18 @@ use Rattle.wm_nested.specs.declared.spot.Spot.{Spot}
 use Rattle.wm_nested.specs.Forest.{Forest, end, con}
 use Rattle.wm_nested.specs.Change.{arriving, nobody, placed, unfull, unfull_kind, without}
 use Rattle.wm_nested.specs.Counts.{but, con_of, count, marks_of, newcomer_share, one_con, row_length, row_with}
-use Rattle.wm_nested.specs.Look.{con_kind, first_kids, first_part, has, kind_by, only, same, space_kind}
+use Rattle.wm_nested.specs.Look.{con_kind, first_kids, first_part, has, kind_by, only, same}
 use Rattle.wm_nested.specs.Move.{apart, moved, moved_share, passed_by_move}
-use Rattle.wm_nested.specs.Place.{IsPlace, TakesFirst, is_tiled, named, put, rect_at, room_at, room_by, room_under, row_room, siblings, tiles}
-use Rattle.wm_nested.specs.Sound.{Level, containers, below, HasShare, IsNode, IsSound, IsSoundRow, one_of, rank_of, ranks, roots, tally}
-use Rattle.wm_nested.specs.Spot.{fits, room_below, spot_below, spot_in, spot_of, top}
+use Rattle.wm_nested.specs.Place.{IsPlace, TakesFirst, is_tiled, named, rect_at, room_by, room_under, row_room, siblings}
+use Rattle.wm_nested.specs.Sound.{Level, containers, HasShare, IsNode, IsSound, IsSoundRow, one_of, rank_of, ranks, roots}
+use Rattle.wm_nested.specs.Spot.{fits, room_below, spot_in, spot_of, top}
 use Rattle.wm_nested.specs.TreeValue.{TreeValue, root}
 use Rattle.wm_nested.proofs.AttachLemmas.{Ready, root_room, sound-put, space_room}
 use Rattle.wm_nested.proofs.ChangeLemmas.{by_change, by_place}
 use Rattle.wm_nested.proofs.CountLemmas.{count-put, count-without}
-use Rattle.wm_nested.proofs.LookLemmas.{SeenAs, kids-without, row-without, seen-without}
+use Rattle.wm_nested.proofs.LookLemmas.{kids-without, row-without, seen-without}
 use Rattle.wm_nested.proofs.PutLemmas.{Above, Beside, IsConFirst, IsSoundAt, IsSoundBelow, Under, con_level, sound-without}
-use Rattle.wm_nested.proofs.RaiseLemmas.{count-unfull, keeps-unfull, ends-unfull, row_length-unfull, sound-unfull, unfull_node, unfull_one, unfull_ranks, unfull_room}
+use Rattle.wm_nested.proofs.RaiseLemmas.{count-unfull, ends-unfull, row_length-unfull, sound-unfull, unfull_node, unfull_one, unfull_ranks, unfull_room}
 use Rattle.wm_nested.proofs.RowLemmas.{node_keeps}
 use Rattle.wm_nested.proofs.StandLemmas.{HasSpot, SoundKids, SoundStanding, has_spot, mean_bounds, sound-but, stands}
 use Rattle.wm_nested.proofs.WrapLemmas.{resound}
@@ -100,8 +99,7 @@ arrived tiled other room room' share rect away (con part kids floats end) ok fit
 
     by_test : (b : Bool) → IsSoundRow containers other room' (cond b (con (record part { kind = unfull_kind (placed share rect part.kind) }) (unfull nobody kids) (unfull nobody floats) end) (con (record part { kind = placed share rect part.kind }) kids floats end))
     by_test true =
-        let kind = placed share rect part.kind in
-        (
+        let kind = placed share rect part.kind in (
           unfull_node containers other room' part.id kind part.marks (unfull nobody kids) (node_keeps containers other room' part.id kind part.marks kids (unfull nobody kids) tt (ends-unfull nobody kids) node_there),
           omega (arith, row_length-unfull nobody kids, p.1),
           rw (unfull_room room' kind) (sound-unfull nobody containers true (room_below room' kind) kids kids_there),
@@ -203,8 +201,7 @@ beside c i t rect away s con_first there named_there apart ok few fit =
     let stood = (stands i roots top f f s.shaped s.shaped).0 in
     let fine = standing_share (spot_in top i f) (only i f) (row_with i f f) c stood ok.0 ok.1 in
     let Con : Option Part → Type 0 = λ q. kind_by con_kind q ≢ None in
-    let At : Option Spot → Type 0 = λ q. IsSoundAt q (arriving share rect away (only c f)) in
-    (
+    let At : Option Spot → Type 0 = λ q. IsSoundAt q (arriving share rect away (only c f)) in (
       subst Con (sym e.part) ok.0,
       subst At (sym e.spot) (sound_at (spot_in top i f) (arriving share rect away (only c f)) ok.1 (at_spot (spot_in top i f) (only c f) share rect away node (found_alone c f) ok.1 fit fine)),
       omega (arith, row-without c i f (s.once c) apart, few, row_length-arriving share rect away (only c f), found_alone c f),
@@ -221,8 +218,7 @@ under c i t rect away s con_first there named_there apart ok few fit =
     let fine = kids_share (spot_in top i f) (first_part (only i f)) (first_kids (only i f)) c (has_spot i top f named_there) (stands i roots top f f s.shaped s.shaped).1 ok in
     let Takes : Option Part → Type 0 = λ q. TakesFirst q in
     let Below : Option Spot → Type 0 = λ q. IsSoundBelow true q (first_part (only i f)) (arriving share rect away (only c f)) in
-    let BelowPart : Option Part → Type 0 = λ q. IsSoundBelow true (spot_in top i (without c f)) q (arriving share rect away (only c f)) in
-    (
+    let BelowPart : Option Part → Type 0 = λ q. IsSoundBelow true (spot_in top i (without c f)) q (arriving share rect away (only c f)) in (
       subst Takes (sym e.part) ok,
       subst BelowPart (sym e.part) (subst Below (sym e.spot) (below_spot true (spot_in top i f) (first_part (only i f)) (only c f) share rect away (has_spot i top f named_there) (some_part (first_part (only i f)) ok) node (found_alone c f) fit fine)),
       omega (arith, kids-without c i f (s.once c) apart, few, row_length-arriving share rect away (only c f), found_alone c f),
@@ -266,8 +262,10 @@ count_moved : (m : Part → ℕ) (c : ConId) (p : Place) (t : TreeValue) → ((p
 count_moved m c p t hu hp named_there outside =
     let row : Forest = arriving (moved_share c p t.nodes) (rect_at p) (apart t c (named p)) (only c t.nodes) in
     omega (
-      arith, count-put m p row (without c t.nodes) ((seen-without c (named p) top t.nodes outside).there ∙ named_there),
-      count-arriving m (moved_share c p t.nodes) (rect_at p) hu (hp (moved_share c p t.nodes) (rect_at p)) (apart t c (named p)) (only c t.nodes), count-without m c t.nodes,
+      arith,
+      count-put m p row (without c t.nodes) ((seen-without c (named p) top t.nodes outside).there ∙ named_there),
+      count-arriving m (moved_share c p t.nodes) (rect_at p) hu (hp (moved_share c p t.nodes) (rect_at p)) (apart t c (named p)) (only c t.nodes),
+      count-without m c t.nodes,
     )
 
 pub sound-moved : (c : ConId) (p : Place) (t : TreeValue) → IsConFirst (only c t.nodes) → has c t.nodes ≡ true → has (named p) t.nodes ≡ true → has (named p) (only c t.nodes) ≡ false → IsPlace p t.nodes

@@ -1,5 +1,5 @@
 -- What is taken out, and what is put at a place, keeps what holds of the rows of every tree.
-use Rattle.std.proofs.Common.{◌≡◌, ◌≢◌, ℕ, ◌+◌, ◌≤◌, Bool, true, false, ◌⊎◌, inl, inr, List, Option, None, Some, refl, ap, sym, subst, arith}
+use Rattle.std.proofs.Common.{◌≡◌, ◌≢◌, ℕ, ◌+◌, ◌≤◌, Bool, true, false, inl, inr, List, Option, None, Some, refl, sym, subst, arith}
 use Rattle.wm_base.specs.declared.ids.ConId.{ConId}
 use Rattle.wm_nested.specs.declared.part.Part.{Part}
 use Rattle.wm_nested.specs.declared.part.ConKind.{ConKind}
@@ -10,11 +10,11 @@ use Rattle.wm_nested.specs.declared.spot.Spot.{Spot}
 use Rattle.wm_nested.specs.Forest.{Forest, end, con}
 use Rattle.wm_nested.specs.Change.{append, at, without}
 use Rattle.wm_nested.specs.Counts.{row_length, row_with}
-use Rattle.wm_nested.specs.Look.{only, con_kind, first_kids, first_part, in_row, kind_by}
+use Rattle.wm_nested.specs.Look.{only, con_kind, first_kids, first_part, kind_by}
 use Rattle.wm_nested.specs.Place.{IsSplit, TakesFirst, TakesKids, before_first}
 use Rattle.wm_nested.specs.Sound.{Level, roots, outputs, spaces, containers, below, HasKids, IsNode, IsSoundRow}
 use Rattle.wm_nested.specs.Spot.{room_below, spot_in, spot_of}
-use Rattle.wm_nested.proofs.RowLemmas.{KeepsRow, same_row, behind_row, node_keeps, Grows, keeps_sound}
+use Rattle.wm_nested.proofs.RowLemmas.{KeepsRow, same_row, behind_row, Grows, keeps_sound}
 
 -- the row found begins with a container
 abbrev pub IsConFirst : Forest → Type 0

@@ -1,5 +1,5 @@
 -- Raising a container in its workspace keeps what holds of every tree.
-use Rattle.std.proofs.Common.{◌≡◌, ℕ, ◌+◌, ◌≤◌, Bool, true, false, cond, ◌||◌, ◌⊎◌, inl, List, Option, None, Some, refl, ap, sym, ◌∙◌, arith}
+use Rattle.std.proofs.Common.{◌≡◌, ℕ, ◌+◌, Bool, true, false, cond, ◌||◌, inl, List, Option, None, Some, refl, ap, ◌∙◌, arith}
 use Rattle.wm_base.specs.declared.ids.ConId.{ConId}
 use Rattle.wm_nested.specs.declared.part.Part.{Part}
 use Rattle.wm_nested.specs.declared.part.NodeKind.{NodeKind}
@@ -8,9 +8,9 @@ use Rattle.wm_nested.specs.declared.spot.Spot.{Spot}
 use Rattle.wm_nested.specs.Forest.{Forest, end, con}
 use Rattle.wm_nested.specs.Change.{append, at, nobody, raised_in, to_end, unfull, unfull_kind}
 use Rattle.wm_nested.specs.Counts.{but, con_of, count, marks_of, one_con, row_length, row_with}
-use Rattle.wm_nested.specs.Look.{first_alone, in_row, node_in, only, same}
+use Rattle.wm_nested.specs.Look.{first_alone, in_row, node_in, same}
 use Rattle.wm_nested.specs.Sound.{Level, roots, outputs, spaces, containers, below, IsNode, IsSound, IsSoundRow, one_of, rank_of, ranks}
-use Rattle.wm_nested.specs.Spot.{room_below, spot_in, spot_of, top}
+use Rattle.wm_nested.specs.Spot.{room_below, top}
 use Rattle.wm_nested.specs.TreeValue.{TreeValue, root, workspace_of}
 use Rattle.wm_nested.specs.Words.{raised_at, with_raised}
 use Rattle.wm_nested.proofs.CountLemmas.{count-append, count-same}
@@ -88,14 +88,13 @@ module _ (c : ConId) where
 
   pub sound-unfull : (l : Level) (tiled : Bool) (room : ℕ) (f : Forest) → IsSoundRow l tiled room f → IsSoundRow l tiled room (unfull c f)
   sound-unfull l tiled room end p = p
-  sound-unfull l tiled room (con part kids floats rest) p =
-      (
-        node_step (same part.id c) l tiled room part (unfull c kids) (node_keeps l tiled room part.id part.kind part.marks kids (unfull c kids) (keeps-unfull (below l) kids) (ends-unfull kids) p.0),
-        omega (arith, row_length-unfull kids, p.1),
-        rw (room_step (same part.id c) room part) (sound-unfull (below l) true (room_below room part.kind) kids p.2),
-        rw (room_step (same part.id c) room part) (sound-unfull containers false (room_below room part.kind) floats p.3),
-        sound-unfull l tiled room rest p.4,
-      )
+  sound-unfull l tiled room (con part kids floats rest) p = (
+    node_step (same part.id c) l tiled room part (unfull c kids) (node_keeps l tiled room part.id part.kind part.marks kids (unfull c kids) (keeps-unfull (below l) kids) (ends-unfull kids) p.0),
+    omega (arith, row_length-unfull kids, p.1),
+    rw (room_step (same part.id c) room part) (sound-unfull (below l) true (room_below room part.kind) kids p.2),
+    rw (room_step (same part.id c) room part) (sound-unfull containers false (room_below room part.kind) floats p.3),
+    sound-unfull l tiled room rest p.4,
+  )
 
   pub count-unfull : (m : Part → ℕ) → ((part : Part) → m (record part { kind = unfull_kind part.kind }) ≡ m part) → (f : Forest) → count m (unfull c f) ≡ count m f
   count-unfull m h end = refl
@@ -148,11 +147,17 @@ pub sound-raised_in : (w c : ConId) (l : Level) (s : Spot) (forest : Forest) →
 sound-raised_in w c l s forest p = keeps_sound w raised_in c 0 (λ found sp st. Unit {0}) (λ found sp st h. inl refl) here l s forest forest tt p
   where
     here : (l : Level) (s : Spot) (whole : Forest) (part : Part) (kids floats rest : Forest) → Unit {0} → Here 0 l s (con part kids floats rest) (con part (unfull c kids) (to_end c (unfull c floats)) rest)
-    here l s whole part kids floats rest ok p =
-        ((node_keeps l s.tiled s.room part.id part.kind part.marks kids (unfull c kids) (keeps-unfull c (below l) kids) (ends-unfull c kids) p.0, omega (arith, row_length-unfull c kids, p.1),
-            sound-unfull c (below l) true (room_below s.room part.kind) kids p.2,
-            sound-to_end c containers false (room_below s.room part.kind) (unfull c floats) (sound-unfull c containers false (room_below s.room part.kind) floats p.3), p.4),
-          behind_row l part part kids floats rest (unfull c kids) (to_end c (unfull c floats)) rest refl (same_row l rest), omega arith)
+    here l s whole part kids floats rest ok p = (
+      (
+        node_keeps l s.tiled s.room part.id part.kind part.marks kids (unfull c kids) (keeps-unfull c (below l) kids) (ends-unfull c kids) p.0,
+        omega (arith, row_length-unfull c kids, p.1),
+        sound-unfull c (below l) true (room_below s.room part.kind) kids p.2,
+        sound-to_end c containers false (room_below s.room part.kind) (unfull c floats) (sound-unfull c containers false (room_below s.room part.kind) floats p.3),
+        p.4,
+      ),
+      behind_row l part part kids floats rest (unfull c kids) (to_end c (unfull c floats)) rest refl (same_row l rest),
+      omega arith,
+    )
 
 count-raised_in : (m : Part → ℕ) → ((part : Part) → m (record part { kind = unfull_kind part.kind }) ≡ m part) → (w c : ConId) (f : Forest) → count m (at w raised_in c f) ≡ count m f
 count-raised_in m h w c = count-same m w raised_in c (λ part kids floats rest. omega (arith, count-unfull c m h kids, count-to_end m c (unfull c floats), count-unfull c m h floats))

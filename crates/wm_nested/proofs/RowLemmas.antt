@@ -1,5 +1,5 @@
 -- A change at one node keeps what holds of the rows of every tree.
-use Rattle.std.proofs.Common.{◌≡◌, ◌≢◌, ℕ, ◌+◌, ◌≤◌, Bool, true, false, ◌||◌, ◌⊎◌, inl, inr, ⊎_elim, List, [], Option, None, Some, refl, ap, subst, arith}
+use Rattle.std.proofs.Common.{◌≡◌, ℕ, ◌+◌, ◌≤◌, Bool, true, false, ◌||◌, ◌⊎◌, inl, inr, ⊎_elim, List, Option, Some, refl, ap, arith}
 use Rattle.wm_base.specs.declared.ids.ConId.{ConId}
 use Rattle.wm_nested.specs.declared.part.Part.{Part}
 use Rattle.wm_nested.specs.declared.part.ConKind.{ConKind}
@@ -8,11 +8,11 @@ use Rattle.wm_nested.specs.declared.part.NodeKind.{NodeKind}
 use Rattle.wm_nested.specs.declared.part.NodeKind.TheVariants.{Root, Output, Space, Con}
 use Rattle.wm_nested.specs.declared.spot.Spot.{Spot}
 use Rattle.wm_nested.specs.Forest.{Forest, end, con}
-use Rattle.wm_nested.specs.Change.{append, at}
+use Rattle.wm_nested.specs.Change.{at}
 use Rattle.wm_nested.specs.Counts.{row_length, row_with}
-use Rattle.wm_nested.specs.Look.{same, has, only, in_row}
+use Rattle.wm_nested.specs.Look.{same, only, in_row}
 use Rattle.wm_nested.specs.Sound.{Level, roots, outputs, spaces, containers, below, HasKids, IsNode, IsSoundRow}
-use Rattle.wm_nested.specs.Spot.{room_below, spot_below, spot_in, spot_of}
+use Rattle.wm_nested.specs.Spot.{spot_below, spot_in, spot_of}
 use Rattle.wm_nested.proofs.ChangeLemmas.{by_place}
 
 -- a row above the containers keeps its nodes
@@ -76,7 +76,7 @@ pub record Grows (d : ℕ) (l : Level) (tiled : Bool) (room : ℕ) (whole old ne
 module _ {X : Type 0} (c : ConId) (f : X → Part → Forest → Forest → Forest → Forest) (x : X) (d : ℕ) (Allowed : Forest → Option Spot → Forest → Type 0)
     (room_left : (found : Forest) (sp : Option Spot) (st : Forest) → Allowed found sp st → (d ≡ 0) ⊎ (row_length st + d ≤ 256))
     (here : (l : Level) (s : Spot) (whole : Forest) (part : Part) (kids floats rest : Forest) → Allowed (con part kids floats end) (Some (spot_of s part)) whole → IsSoundRow l s.tiled s.room (con part kids floats rest)
-        → IsSoundRow l s.tiled s.room (f x part kids floats rest) × KeepsRow l (con part kids floats rest) (f x part kids floats rest) × (row_length (f x part kids floats rest) ≤ row_length (con part kids floats rest) + d))
+    → IsSoundRow l s.tiled s.room (f x part kids floats rest) × KeepsRow l (con part kids floats rest) (f x part kids floats rest) × (row_length (f x part kids floats rest) ≤ row_length (con part kids floats rest) + d))
   where
     abbrev Kept : Level → Spot → Forest → Forest → Forest → Forest → Option Spot → Forest → Type 0
     Kept l s whole old new found sp st = Allowed found sp st → IsSoundRow l s.tiled s.room old → Grows d l s.tiled s.room whole old new st

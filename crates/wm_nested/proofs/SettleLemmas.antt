@@ -1,5 +1,5 @@
 -- Settling keeps what holds of every tree.
-use Rattle.std.proofs.Common.{◌≡◌, ℕ, ◌+◌, ◌-◌, ◌≤◌, Bool, true, false, cond, ◌||◌, ◌&&◌, not, List, Option, None, Some, refl, ap, sym, ◌∙◌, arith}
+use Rattle.std.proofs.Common.{◌≡◌, ℕ, ◌+◌, ◌-◌, ◌≤◌, Bool, true, false, cond, ◌||◌, ◌&&◌, not, List, Option, None, Some, refl, ap, ◌∙◌, arith}
 use Rattle.wm_base.specs.declared.ids.ConId.{ConId}
 use Rattle.wm_nested.specs.declared.part.Part.{Part}
 use Rattle.wm_nested.specs.declared.part.ConKind.{ConKind}
@@ -7,7 +7,7 @@ use Rattle.wm_nested.specs.declared.part.ConKind.TheVariants.{Split, Window, Pla
 use Rattle.wm_nested.specs.declared.part.NodeKind.{NodeKind}
 use Rattle.wm_nested.specs.declared.part.NodeKind.TheVariants.{Root, Output, Space, Con}
 use Rattle.wm_nested.specs.Forest.{Forest, end, con}
-use Rattle.wm_nested.specs.Change.{is_end, is_id, is_split, is_vacant, nobody, settled_row, shown_of}
+use Rattle.wm_nested.specs.Change.{is_end, is_vacant, nobody, settled_row, shown_of}
 use Rattle.wm_nested.specs.Counts.{con_of, count, marks_of, row_length}
 use Rattle.wm_nested.specs.Look.{has, in_row, same}
 use Rattle.wm_nested.specs.Recency.{inside}
@@ -15,8 +15,7 @@ use Rattle.wm_nested.specs.Sound.{Level, roots, outputs, spaces, containers, bel
 use Rattle.wm_nested.specs.Spot.{room_below}
 use Rattle.wm_nested.specs.TreeValue.{TreeValue, root}
 use Rattle.wm_nested.specs.Words.{settled}
-use Rattle.wm_nested.proofs.CountLemmas.{count-settled, counted, tally-absent, there}
-use Rattle.wm_nested.proofs.RecencyLemmas.{same_is, same_self}
+use Rattle.wm_nested.proofs.CountLemmas.{count-settled, counted, tally-absent}
 use Rattle.wm_nested.proofs.SoundLemmas.{rank_le}
 use Rattle.wm_nested.proofs.TimesLemmas.{times-dropped, times-kept}
 

@@ -1,5 +1,5 @@
 -- Each change of a tree keeps what holds of every tree.
-use Rattle.std.proofs.Common.{◌≡◌, ◌≢◌, ℕ, ◌+◌, ◌≤◌, Bool, true, false, cond, not, List, [], ◌∷◌, ◌++◌, length, Option, None, Some, refl, ap, sym, ◌∙◌, subst, arith}
+use Rattle.std.proofs.Common.{◌≡◌, ◌+◌, ◌≤◌, Bool, true, false, cond, not, List, Option, None, Some, refl, ap, sym, ◌∙◌, subst, arith}
 use Rattle.wm_base.specs.declared.ids.ConId.{ConId}
 use Rattle.wm_nested.specs.declared.kind.KindEdit.{KindEdit}
 use Rattle.wm_nested.specs.declared.part.Part.{Part}
@@ -8,16 +8,18 @@ use Rattle.wm_nested.specs.declared.part.NodeKind.TheVariants.{Root, Output, Spa
 use Rattle.wm_nested.specs.Forest.{Forest, end, con}
 use Rattle.wm_nested.specs.Change.{at, nobody, without}
 use Rattle.wm_nested.specs.Counts.{con_of, count, marks_of}
-use Rattle.wm_nested.specs.Kinds.{changed, kind_changed}
+use Rattle.wm_nested.specs.Kinds.{kind_changed}
 use Rattle.wm_nested.specs.Look.{first_kids, has, only, same}
 use Rattle.wm_nested.specs.Recency.{outside}
 use Rattle.wm_nested.specs.Sound.{IsSound, one_of, rank_of, ranked, ranks, roots, tally, times}
 use Rattle.wm_nested.specs.Spot.{spot_in, top}
-use Rattle.wm_nested.specs.TreeValue.{TreeValue, root}
+use Rattle.wm_nested.specs.TreeValue.{TreeValue, parent, root}
+use Rattle.wm_nested.specs.Sets.{IsShowable, shown_by, with_shown}
+use Rattle.wm_nested.specs.declared.kind.KindEdit.TheVariants as edits
 use Rattle.wm_nested.specs.Words.{detached, edited}
 use Rattle.wm_nested.proofs.CountLemmas.{count-same, count-without, counted, found_counted, tally-absent, there}
 use Rattle.wm_nested.proofs.ForestLemmas.{at_absent}
-use Rattle.wm_nested.proofs.EditLemmas.{FitsEditAt, changed_one, changed_ranks, sound-changed}
+use Rattle.wm_nested.proofs.EditLemmas.{FitsEditAt, fits_shown, changed_one, changed_ranks, sound-changed}
 use Rattle.wm_nested.proofs.PutLemmas.{IsConFirst, sound-without}
 use Rattle.wm_nested.proofs.TimesLemmas.{times-dropped, times-kept}
 
@@ -115,3 +117,21 @@ sound-edited c edit t ok s =
       few_marks = omega (arith, count-same marks_of c kind_changed edit (λ part kids floats rest. refl) t.nodes, s.few_marks);
       ids = s.ids;
     }
+
+-- a tree that is one that is sound
+pub as_is : (next new : TreeValue) → new ≡ next → IsSound next → IsSound new
+as_is next new e s = subst IsSound (sym e) s
+
+-- the same of nodes that are those after taking out
+pub none_new_by : (c : ConId) (t : TreeValue) (new : Forest) (v : ConId) → new ≡ without c t.nodes → has v new ≡ true → has v t.nodes ≡ true
+none_new_by c t new v e h = none_new-without c t.nodes v (rw e at h)
+
+pub gone_by : (c : ConId) (t : TreeValue) (new : Forest) → new ≡ without c t.nodes → IsSound t → has c new ≡ false
+gone_by c t new e s = rw e (gone-detached c t s)
+
+shown_by_sound : (o : Option ConId) (w : ConId) (t : TreeValue) → IsShowable o w t.nodes → IsSound t → IsSound (shown_by o w t)
+shown_by_sound None w t ok s = s
+shown_by_sound (Some o) w t ok s = sound-edited o (edits.Shown w) t (fits_shown w (spot_in top o t.nodes) (first_kids (only o t.nodes)) ok) s
+
+pub sound-shown : (w : ConId) (t : TreeValue) → IsShowable (parent t w) w t.nodes → IsSound t → IsSound (with_shown w t)
+sound-shown w t ok s = shown_by_sound (parent t w) w t ok s

@@ -1,11 +1,10 @@
 -- The row in which a node stands, and the children of a node, are sound where the tree is; the mean of their shares is within its limits.
-use Rattle.std.proofs.Common.{◌≡◌, ◌≢◌, ℕ, ◌+◌, ◌*◌, ◌/◌, ◌≤◌, ◌<◌, Bool, true, false, cond, eqb, ◌||◌, Option, None, Some, List, refl, ap, sym, ◌∙◌, subst, arith}
+use Rattle.std.proofs.Common.{◌≡◌, ℕ, ◌*◌, ◌/◌, ◌≤◌, ◌<◌, Bool, true, false, cond, eqb, ◌||◌, Option, None, Some, List, refl, sym, subst, arith}
 use Rattle.std.proofs.Math.Nat.{div-le_of_le-mul}
 use Rattle.std.proofs.lemmas.Nat.{le-div}
 use Rattle.std.proofs.lemmas.Bool.Decides.{nat_tests}
 use Rattle.wm_base.specs.declared.ids.ConId.{ConId}
 use Rattle.wm_nested.specs.declared.part.Part.{Part}
-use Rattle.wm_nested.specs.declared.part.ConPart.{ConPart}
 use Rattle.wm_nested.specs.declared.part.NodeKind.{NodeKind}
 use Rattle.wm_nested.specs.declared.part.NodeKind.TheVariants.{Root, Output, Space, Con}
 use Rattle.wm_nested.specs.declared.spot.Spot.{Spot}
@@ -13,7 +12,7 @@ use Rattle.wm_nested.specs.Forest.{Forest, end, con}
 use Rattle.wm_nested.specs.Counts.{but, newcomer_share, row_length, row_with, share_of, share_sum}
 use Rattle.wm_nested.specs.Place.{TakesKids}
 use Rattle.wm_nested.specs.Look.{only, first_kids, first_part, has, same}
-use Rattle.wm_nested.specs.Sound.{Level, roots, outputs, spaces, containers, below, HasShare, IsNode, IsSoundRow}
+use Rattle.wm_nested.specs.Sound.{Level, containers, HasShare, IsNode, IsSoundRow}
 use Rattle.wm_nested.specs.Spot.{room_below, spot_below, spot_in, spot_of}
 use Rattle.wm_nested.proofs.ChangeLemmas.{by_place}
 use Rattle.wm_nested.proofs.PutLemmas.{IsConFirst, con_level, node_takes}
@@ -46,8 +45,7 @@ stands c =
     here : (l : Level) (s : Spot) (whole : Forest) (part : Part) (kids floats rest : Forest) → Stands l s whole (con part kids floats rest) rest (con part kids floats end) (Some (spot_of s part)) whole
     here l s whole part kids floats rest w p =
         let Whole : Level → Type 0 = λ m. IsSoundRow m s.tiled s.room whole in
-        let Kids : Level → Type 0 = λ m. IsSoundRow m true (room_below s.room part.kind) kids in
-        (
+        let Kids : Level → Type 0 = λ m. IsSoundRow m true (room_below s.room part.kind) kids in (
           λ ok. subst Whole (sym (con_level l s.tiled s.room part.id part.kind part.marks kids ok p.0)) w,
           λ ok. subst Kids (sym (node_takes l s.tiled s.room part.id part.kind part.marks kids kids ok p.0).1) p.2,
         )

@@ -1,7 +1,6 @@
 -- A container in a new split keeps what holds of every tree.
-use Rattle.std.proofs.Common.{◌≡◌, ◌≢◌, ℕ, ◌+◌, ◌-◌, ◌≤◌, ◌<◌, Bool, true, false, cond, leb, ltb, not, ◌&&◌, ◌⊎◌, inl, List, [], Option, None, Some, refl, ap, sym, ◌∙◌, subst, arith}
+use Rattle.std.proofs.Common.{◌≡◌, ℕ, ◌-◌, ◌≤◌, ◌<◌, Bool, true, false, cond, leb, ltb, not, ◌&&◌, inl, List, Option, None, Some, refl, ap, sym, subst, arith}
 use Rattle.std.proofs.lemmas.Bool.Decides.{nat_tests}
-use Rattle.wm_base.specs.declared.errors.Limit.{Limit}
 use Rattle.wm_base.specs.declared.errors.Limit.TheVariants.{Containers, Depth, Ids}
 use Rattle.wm_base.specs.declared.ids.ConId.{ConId}
 use Rattle.wm_base.specs.declared.plan.Border.{Border}
@@ -14,19 +13,19 @@ use Rattle.wm_nested.specs.declared.place.NewCon.TheVariants as new
 use Rattle.wm_nested.specs.declared.spot.Spot.{Spot}
 use Rattle.wm_nested.specs.Forest.{Forest, end, con}
 use Rattle.wm_nested.specs.Change.{at}
-use Rattle.wm_nested.specs.Counts.{con_of, con_count, count, marks_of, row_length, row_with, share_of}
+use Rattle.wm_nested.specs.Counts.{con_of, con_count, marks_of, row_with, share_of}
 use Rattle.wm_nested.specs.Kinds.{changed}
 use Rattle.wm_nested.specs.Look.{first_part, has, only, same}
 use Rattle.wm_nested.specs.Move.{passed_by_wrap, share_by, share_in, wrap_word, wrapped}
 use Rattle.wm_nested.specs.Place.{IsTiled, is_tiled, new_part, room_by, row_room}
-use Rattle.wm_nested.specs.Sound.{Level, roots, outputs, spaces, containers, HasShare, IsNode, IsSound, IsSoundRow, one_of, rank_of, tally}
+use Rattle.wm_nested.specs.Sound.{Level, roots, containers, HasShare, IsNode, IsSound, IsSoundRow, one_of, rank_of}
 use Rattle.wm_nested.specs.Spot.{fits, room_below, spot_in, spot_of, top}
-use Rattle.wm_nested.specs.TreeValue.{TreeValue, id, root}
-use Rattle.wm_nested.proofs.AttachLemmas.{Grown, sound-grown}
+use Rattle.wm_nested.specs.TreeValue.{TreeValue, id}
+use Rattle.wm_nested.proofs.AttachLemmas.{sound-grown}
 use Rattle.wm_nested.proofs.CountLemmas.{count-more}
 use Rattle.wm_nested.proofs.EditLemmas.{changed_one, changed_ranks}
 use Rattle.wm_nested.proofs.PutLemmas.{Here, IsConFirst, con_level}
-use Rattle.wm_nested.proofs.RowLemmas.{KeepsRow, Grows, keeps_sound}
+use Rattle.wm_nested.proofs.RowLemmas.{Grows, keeps_sound}
 use Rattle.wm_nested.proofs.StandLemmas.{HasSpot, has_spot}
 
 -- ---- rows with other room
@@ -53,9 +52,9 @@ resound tiled room other (con part kids floats rest) fit p =
     let low : 0 < other = positive a.0 in
     let n = resound_node tiled room other part.id part.kind part.marks kids low p.0 in
     let Kids : ℕ → Type 0 = λ r. IsSoundRow containers true r kids in
-    let Floats : ℕ → Type 0 = λ r. IsSoundRow containers false r floats in
-    (
-      n.0, p.1,
+    let Floats : ℕ → Type 0 = λ r. IsSoundRow containers false r floats in (
+      n.0,
+      p.1,
       subst Kids n.1 (resound true (room_below room part.kind) (other - 1) kids a.1 p.2),
       subst Floats n.1 (resound false (room_below room part.kind) (other - 1) floats a.2 p.3),
       resound tiled room other rest a.3 p.4,
@@ -106,13 +105,16 @@ shaped-wrapped c n share border layout l s forest ok p = keeps_sound c wrap_word
         subst At (con_level l s.tiled s.room part.id part.kind part.marks kids ok.0 p.0) (λ q.
         let own = node_share s.tiled s.room part.id part.kind part.marks kids q.0 in
         let Share : ℕ → Type 0 = λ z. HasShare s.tiled z in
-        let below = resound s.tiled s.room (s.room - 1) (con part kids floats end) ok.2.1 (q.0, q.1, q.2, q.3, tt) in
-        (
+        let below = resound s.tiled s.room (s.room - 1) (con part kids floats end) ok.2.1 (q.0, q.1, q.2, q.3, tt) in (
           (
-            (own.1, subst Share (sym ok.1) own.0, omega arith, tt), omega arith,
+            (own.1, subst Share (sym ok.1) own.0, omega arith, tt),
+            omega arith,
             (whole_share s.tiled (s.room - 1) part.id part.kind part.marks kids ok.2.0 below.0, below.1, rw (whole_room (s.room - 1) part.kind) below.2, rw (whole_room (s.room - 1) part.kind) below.3, tt),
-            tt, q.4,
-          ), tt, omega arith,
+            tt,
+            q.4,
+          ),
+          tt,
+          omega arith,
         )) p
 
 -- what passes no limit is within all
@@ -136,7 +138,7 @@ sound-wrapped c layout t there ok none s =
     let split : Part = new_part (id t.next_id) (share_in c t.nodes) t.border None (new.Split layout) in
     let r = room_step (con_count t.nodes) t.next_id (fits (row_room c t.nodes - 1) (only c t.nodes)) (leb 4096 (con_count t.nodes)) (ltb 4000000000 t.next_id) refl refl none in
     let g = shaped-wrapped c (id t.next_id) (share_in c t.nodes) t.border layout roots top t.nodes
-        (ok.0, refl, wraps_here (spot_in top c t.nodes) (only c t.nodes) (has_spot c top t.nodes there) ok.1 r.levels_left) s.shaped in
+    (ok.0, refl, wraps_here (spot_in top c t.nodes) (only c t.nodes) (has_spot c top t.nodes there) ok.1 r.levels_left) s.shaped in
     sound-grown t (at c wrap_word split t.nodes) s (g.sound, g.keeps)
     (record {
       ones = λ i. count-more (one_of i) c wrap_word split (one_of i split) (λ part kids floats rest. omega arith) t.nodes there;

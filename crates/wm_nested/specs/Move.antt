@@ -1,5 +1,5 @@
 -- Moving, wrapping and exchanging containers, and their marks.
-use Rattle.std.specs.Prelude.{◌≡◌, ℕ, ◌+◌, ◌-◌, Bool, true, false, ◌&&◌, ◌||◌, not, ◌⊎◌, nat_le, nat_lt, if◌then◌else◌, List, [], ◌∷◌, ◌++◌, length, filter, Option, None, Some}
+use Rattle.std.specs.Prelude.{◌≢◌, ◌≡◌, ℕ, ◌+◌, ◌-◌, Bool, true, false, ◌&&◌, ◌||◌, not, ◌⊎◌, nat_le, nat_lt, if◌then◌else◌, List, [], ◌∷◌, ◌++◌, length, filter, Option, None, Some}
 use Rattle.std.specs.Str.{bytes_eq}
 use Rattle.wm_base.specs.declared.errors.Limit.{Limit}
 use Rattle.wm_base.specs.declared.errors.Limit.TheVariants.{Containers, Children, Depth, Marks, Ids}
@@ -15,8 +15,8 @@ use Rattle.wm_nested.specs.Forest.{Forest, end, con}
 use Rattle.wm_nested.specs.Change.{at, arriving, hole, nobody, replaced, without}
 use Rattle.wm_nested.specs.Counts.{but, con_count, mark_count, newcomer_share, row_length, share_of}
 use Rattle.wm_nested.specs.Kinds.{changed}
-use Rattle.wm_nested.specs.Look.{has, only, first_marks, first_part, same}
-use Rattle.wm_nested.specs.Place.{named, new_part, put, rect_at, room_at, row_room, siblings, tiles}
+use Rattle.wm_nested.specs.Look.{con_kind, first_marks, first_part, has, kind_of, only, same}
+use Rattle.wm_nested.specs.Place.{IsPlace, named, new_part, put, rect_at, room_at, row_room, siblings, tiles}
 use Rattle.wm_nested.specs.Spot.{fits}
 use Rattle.wm_nested.specs.TreeValue.{TreeValue, id, workspace_of}
 
@@ -39,6 +39,12 @@ apart t a b = not (same_space (workspace_of t a) (workspace_of t b))
 -- the node c, with what is below it, taken out and put at the place
 abbrev pub moved : ConId → Place → TreeValue → TreeValue
 moved c p t = record t { nodes = put p (arriving (moved_share c p t.nodes) (rect_at p) (apart t c (named p)) (only c t.nodes)) (without c t.nodes) }
+
+-- c is a container, the place is one, and its node is neither c nor below it, where they are there
+abbrev pub IsMove : ConId → Place → Forest → Type 0
+IsMove c p forest =
+    (has c forest ≡ true → kind_of con_kind c forest ≢ None) × IsPlace p forest ×
+    (has c forest ≡ true → has (named p) forest ≡ true → has (named p) (only c forest) ≡ false)
 
 -- the first limit that moving c to the place would pass
 abbrev pub passed_by_move : ConId → Place → Forest → Option Limit

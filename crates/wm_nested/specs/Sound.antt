@@ -1,10 +1,9 @@
 -- What holds of every tree: its shape and limits, and that each id is there once.
-use Rattle.std.specs.Prelude.{◌≡◌, true, false, ℕ, ◌+◌, ◌≤◌, pos, negsuc, ◌≤ℤ◌, if◌then◌else◌, Bool, length, List, [], ◌∷◌, Option, None, Some}
-use Rattle.std.specs.Option.{IsSome}
+use Rattle.std.specs.Prelude.{◌≡◌, true, false, ℕ, ◌+◌, ◌≤◌, pos, negsuc, ◌≤ℤ◌, if◌then◌else◌, Bool, length, List, [], ◌∷◌}
 use Rattle.wm_base.specs.declared.geometry.Rect.{Rect}
 use Rattle.wm_base.specs.declared.ids.ConId.{ConId}
+use Rattle.wm_base.specs.declared.plan.OutputPlan.{OutputPlan}
 use Rattle.wm_nested.specs.declared.part.Part.{Part}
-use Rattle.wm_nested.specs.declared.part.ConPart.{ConPart}
 use Rattle.wm_nested.specs.declared.part.ConKind.{ConKind}
 use Rattle.wm_nested.specs.declared.part.ConKind.TheVariants.{Split, Window, Placeholder}
 use Rattle.wm_nested.specs.declared.part.NodeKind.{NodeKind}
@@ -24,6 +23,11 @@ pub record IsOutputRect (r : Rect) : Type 0 where
   pub y_high : r.y ≤ℤ pos 131071
   pub width : r.w ≤ 16384
   pub height : r.h ≤ 16384
+
+-- the rectangles of planned outputs are within their limits
+abbrev pub FitPlans : List OutputPlan → Type 0
+FitPlans [] = Unit {0}
+FitPlans (plan ∷ plans) = IsOutputRect plan.rect × FitPlans plans
 
 -- the row of the root, a row of outputs, of workspaces, or of containers
 pub data Level : Type 0 where

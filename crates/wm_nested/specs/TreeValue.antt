@@ -1,5 +1,5 @@
 -- The value of a tree, its opening, and what is seen in it.
-use Rattle.std.specs.Prelude.{ℕ, ◌+◌, ◌*◌, List, [], ◌∷◌, length, Option, None, Some, option_and_then, refl, if◌then◌else◌}
+use Rattle.std.specs.Prelude.{Bool, true, false, ◌&&◌, ℕ, ◌+◌, ◌*◌, List, [], ◌∷◌, length, Option, None, Some, option_and_then, refl, if◌then◌else◌}
 use Rattle.std.specs.Coded.{Coded, code_by, coded×, coded_ℕ, coded_list, coded_option}
 use Rattle.wm_base.specs.contracts.ids.ConId as con_id
 use Rattle.wm_base.specs.contracts.plan.Border as border_of
@@ -10,11 +10,13 @@ use Rattle.wm_base.specs.declared.plan.OutputPlan.{OutputPlan}
 use Rattle.wm_nested.specs.declared.part.Part.{Part}
 use Rattle.wm_nested.specs.declared.part.NodeKind.{NodeKind}
 use Rattle.wm_nested.specs.declared.part.NodeKind.TheVariants.{Root, Output, Space, Con}
+use Rattle.wm_nested.specs.declared.place.Place.{Place}
+use Rattle.wm_nested.specs.declared.place.Place.TheVariants.{After, Last}
 use Rattle.wm_nested.specs.declared.spot.Spot.{Spot}
 use Rattle.wm_nested.specs.Forest.{Forest, end, con}
 use Rattle.wm_nested.specs.ForestCode.{forest_code}
 use Rattle.wm_nested.specs.Change.{shown_of}
-use Rattle.wm_nested.specs.Look.{has, only, node_in, first_alone, first_kids, first_part, kind_by}
+use Rattle.wm_nested.specs.Look.{has, only, node_in, first_alone, first_kids, first_part, kind_by, same}
 use Rattle.wm_nested.specs.Recency.{first_held}
 use Rattle.wm_nested.specs.Spot.{spot_in, top}
 
@@ -185,6 +187,35 @@ leaf_of ids (con part kids floats rest) = Some (follow part.id (leaf_at ids kids
 -- the node that is reached from c by the focused child until there is none
 abbrev pub leaf : TreeValue → ConId → Option ConId
 leaf t c = leaf_of t.recency (only c t.nodes)
+
+-- ---- where a new window goes
+
+abbrev pub is_con_kind : NodeKind → Bool
+is_con_kind (Root c) = false
+is_con_kind (Output o) = false
+is_con_kind (Space s) = false
+is_con_kind (Con c) = true
+
+abbrev pub is_con : Option Part → Bool
+is_con None = false
+is_con (Some part) = is_con_kind part.kind
+
+abbrev pub is_tiled_spot : Option Spot → Bool
+is_tiled_spot None = false
+is_tiled_spot (Some s) = s.tiled
+
+-- c is a tiled container
+abbrev pub is_tiled_con : TreeValue → ConId → Bool
+is_tiled_con t c = is_con (first_part (only c t.nodes)) && is_tiled_spot (spot t c)
+
+-- last into a focused workspace; after the focused container where that is tiled; after the leaf of the workspace
+-- where a floating window is focused, or last in it where nothing is tiled
+abbrev pub newcomer_place : TreeValue → Place
+newcomer_place t =
+    if same (focused t) (shown t) then Last (shown t)
+    else if is_tiled_con t (focused t) then After (focused t)
+    else if is_tiled_con t (or_id (leaf t (shown t)) (shown t)) then After (or_id (leaf t (shown t)) (shown t))
+    else Last (shown t)
 
 -- ---- how the logic stores it
 

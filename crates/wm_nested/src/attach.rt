@@ -2,8 +2,10 @@
 ghost use Rattle.std.specs.Prelude.{◌≡◌, ◌≢◌, ◌≤◌, false, true, Err, None, IfOk, IfErr, OnOk, OnErr, IfSome, MatchOption};
 ghost use Rattle.wm_nested.specs.Counts.{newcomer_share, row_length};
 ghost use Rattle.wm_nested.specs.Look.{has, same};
-ghost use Rattle.wm_nested.specs.Place.{named, passed_limit, put, room_at, row_room, share_at, siblings};
+ghost use Rattle.wm_nested.specs.Place.{IsPlace, named, passed_limit, put, room_at, row_room, share_at, siblings};
+ghost use Rattle.wm_nested.specs.Sound.{IsSound};
 ghost use Rattle.wm_nested.specs.TreeValue.{id};
+ghost use Rattle.wm_base.specs.declared.ids.ConId.{ConId};
 ghost use Rattle.wm_nested.specs.Words.{attached, IsAttachCause};
 ghost use Rattle.wm_nested.specs.declared.place.TreeRefusal.TheVariants.{Full, Missing};
 ghost use Rattle.wm_nested.specs.declared.place.TreeRefusal.TheVariants as refusals;
@@ -31,6 +33,9 @@ impl Tree {
         ensures id { IfOk result (λ new_id. new_id ≡ id self.old.next_id) }
         ensures room { OnOk result (passed_limit at self.old.nodes self.old.next_id ≡ None) }
         ensures err { OnErr result (self.new ≡ self.old) }
+        ensures sound { IsPlace at self.old.nodes → IsSound self.old → IsSound self.new }
+        ensures one_new { OnOk result ((v : ConId) → has v self.new.nodes ≡ true →
+            same (id self.old.next_id) v ≡ false → has v self.old.nodes ≡ true) }
 
         // A missing node is reported before a limit, and a limit before want of memory.
         ensures missing { has (named at) self.old.nodes ≡ false → result ≡ Err (Missing (named at)) }
@@ -71,7 +76,11 @@ impl Tree {
         if self.next_id > MAX_ID {
             return Err(full(Limit::Ids));
         }
-        Ok(if at.tiles() { siblings.newcomer_share() } else { 0 })
+        Ok(if at.tiles() {
+            siblings.newcomer_share()
+        } else {
+            0
+        })
     }
 }
 

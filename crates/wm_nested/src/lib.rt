@@ -5,11 +5,13 @@ mod attach;
 mod change;
 mod copy;
 mod count;
+mod cursor;
 mod edit;
 mod kind;
 mod look;
 mod marks;
 mod moving;
+mod newcomer;
 mod part;
 mod place;
 mod recency;
@@ -20,6 +22,9 @@ mod start;
 mod tree;
 mod words;
 
+pub use cursor::Cursor;
+pub use part::{
+    ConKind, ConPart, ConState, NodeKind, OutputPart, Part, SpacePart, Swallow, SwallowKey,
+};
 pub use place::{NewCon, Place, TreeRefusal};
 pub use tree::Tree;
-pub use part::{ConKind, ConPart, ConState, NodeKind, OutputPart, Part, SpacePart, Swallow, SwallowKey};

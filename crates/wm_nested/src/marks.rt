@@ -1,6 +1,7 @@
 //! Marks of containers, and urgent windows.
-ghost use Rattle.std.specs.Prelude.{◌≡◌, ◌++◌, ◌∷◌, ◌≤◌, [], false, true, Err, IfOk, IfErr, OnOk, OnErr};
-ghost use Rattle.wm_nested.specs.Look.{has};
+ghost use Rattle.std.specs.Prelude.{None, ◌≢◌, ◌≡◌, ◌++◌, ◌∷◌, ◌≤◌, [], false, true, Err, IfOk, IfErr, OnOk, OnErr};
+ghost use Rattle.wm_nested.specs.Look.{con_kind, has, kind_of};
+ghost use Rattle.wm_nested.specs.Sound.{IsSound};
 ghost use Rattle.wm_nested.specs.Move.{is_full_of_marks, marked, marks_in, marks_word, other_marks, unmark_word, unmarked, IsMarkCause};
 ghost use Rattle.wm_nested.specs.Recency.{without_id};
 ghost use Rattle.wm_nested.specs.declared.place.TreeRefusal.TheVariants.{Full, Missing};
@@ -80,6 +81,8 @@ impl Tree {
     /// Puts the mark last among the container's. No container has it yet, and it has 1 to 256 bytes.
     pub fn add_mark(&mut self, con: ConId, n: &Text) -> Result<(), TreeRefusal>
         ensures ok { OnOk result (self.new ≡ marked con n.now self.old) }
+        ensures sound { (has con self.old.nodes ≡ true → kind_of con_kind con self.old.nodes ≢ None) →
+            IsSound self.old → IsSound self.new }
         ensures err { OnErr result (self.new ≡ self.old) }
         ensures missing { has con self.old.nodes ≡ false → result ≡ Err (Missing con) }
         ensures full { has con self.old.nodes ≡ true → is_full_of_marks con self.old.nodes ≡ true →
@@ -112,7 +115,8 @@ impl Tree {
 
     /// Takes the mark from the container.
     pub fn remove_mark(&mut self, con: ConId, n: &Text)
-        ensures { self.new ≡ unmarked con n.now self.old }
+        ensures tree { self.new ≡ unmarked con n.now self.old }
+        ensures sound { IsSound self.old → IsSound self.new }
     {
         let alloc = self.alloc;
         self.nodes.change(con, Unmark { alloc, name: n });
@@ -121,6 +125,7 @@ impl Tree {
     /// Puts the window last among the urgent ones. It is not urgent yet.
     pub fn add_urgent(&mut self, con: ConId) -> Result<(), TreeRefusal>
         ensures ok { OnOk result (self.new ≡ record self.old { urgent = self.old.urgent ++ con ∷ [] }) }
+        ensures sound { IsSound self.old → IsSound self.new }
         ensures err { OnErr result (self.new ≡ self.old) }
         ensures missing { has con self.old.nodes ≡ false → result ≡ Err (Missing con) }
         ensures cause { IfErr result (λ e. (has con self.old.nodes ≡ true) → e ≡ refusals.NoMemory) }
@@ -135,7 +140,8 @@ impl Tree {
 
     /// Takes the urgency from the container.
     pub fn remove_urgent(&mut self, con: ConId)
-        ensures { self.new ≡ record self.old { urgent = without_id con self.old.urgent } }
+        ensures tree { self.new ≡ record self.old { urgent = without_id con self.old.urgent } }
+        ensures sound { IsSound self.old → IsSound self.new }
     {
         recency::remove(&mut self.urgent, con);
     }

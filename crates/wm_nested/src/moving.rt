@@ -2,8 +2,9 @@
 ghost use Rattle.std.specs.Prelude.{◌≡◌, ◌≢◌, ◌≤◌, false, true, Err, None, IfOk, IfErr, OnOk, OnErr, IfSome, MatchOption, IsOk, is_some};
 ghost use Rattle.wm_nested.specs.Change.{arriving, hole};
 ghost use Rattle.wm_nested.specs.Look.{has, only};
-ghost use Rattle.wm_nested.specs.Move.{apart, exchanged, exchanged_nodes, is_too_deep, moved, moved_share, passed_by_move, passed_by_wrap, same_space, share_in, wrap_word, wrapped, IsExchangeCause, IsMoveCause, IsWrapCause};
-ghost use Rattle.wm_nested.specs.Place.{named, put};
+ghost use Rattle.wm_nested.specs.Move.{IsMove, apart, exchanged, exchanged_nodes, is_too_deep, moved, moved_share, passed_by_move, passed_by_wrap, same_space, share_in, wrap_word, wrapped, IsExchangeCause, IsMoveCause, IsWrapCause};
+ghost use Rattle.wm_nested.specs.Place.{IsTiled, named, put};
+ghost use Rattle.wm_nested.specs.Sound.{IsSound};
 ghost use Rattle.wm_nested.specs.Row.{alone};
 ghost use Rattle.wm_nested.specs.TreeValue.{id};
 ghost use Rattle.wm_nested.specs.declared.place.TreeRefusal.TheVariants.{Full, Missing};
@@ -49,6 +50,7 @@ impl Tree {
     pub fn move_to(&mut self, con: ConId, at: Place) -> Result<(), TreeRefusal>
         ensures ok { OnOk result (self.new ≡ moved con at self.old) }
         ensures err { OnErr result (self.new ≡ self.old) }
+        ensures sound { IsMove con at self.old.nodes → IsSound self.old → IsSound self.new }
         ensures missing { has con self.old.nodes ≡ false → result ≡ Err (Missing con) }
         ensures no_place { has con self.old.nodes ≡ true → has (named at) self.old.nodes ≡ false →
             result ≡ Err (Missing (named at)) }
@@ -105,6 +107,7 @@ impl Tree {
     /// the split's id.
     pub fn wrap(&mut self, con: ConId, layout: Layout) -> Result<ConId, TreeRefusal>
         ensures ok { OnOk result (self.new ≡ wrapped con layout self.old) }
+        ensures sound { (has con self.old.nodes ≡ true → IsTiled con self.old.nodes) → IsSound self.old → IsSound self.new }
         ensures id { IfOk result (λ new_id. new_id ≡ id self.old.next_id) }
         ensures err { OnErr result (self.new ≡ self.old) }
         ensures missing { has con self.old.nodes ≡ false → result ≡ Err (Missing con) }

@@ -61,9 +61,19 @@ pub struct ConPart {
 /// A split, a window of the caller with the number `owner`, or a placeholder for a window.
 #[derive(Debug, Drop)]
 pub enum ConKind {
-    Split { layout: Layout, last_split: Layout },
-    Window { props: Props, owner: u32, natural: Size },
-    Placeholder { props: Props, swallows: List<Swallow> },
+    Split {
+        layout: Layout,
+        last_split: Layout,
+    },
+    Window {
+        props: Props,
+        owner: u32,
+        natural: Size,
+    },
+    Placeholder {
+        props: Props,
+        swallows: List<Swallow>,
+    },
 }
 
 /// What a placeholder's window looks like: patterns that all match.

@@ -29,9 +29,18 @@ pub enum Place {
 /// window, or a split without children.
 #[derive(Debug, Drop)]
 pub enum NewCon {
-    Window { props: Props, owner: u32, natural: Size },
-    Placeholder { props: Props, swallows: List<Swallow> },
-    Split { layout: Layout },
+    Window {
+        props: Props,
+        owner: u32,
+        natural: Size,
+    },
+    Placeholder {
+        props: Props,
+        swallows: List<Swallow>,
+    },
+    Split {
+        layout: Layout,
+    },
 }
 
 /// Why a change was refused. The tree is as it was before.

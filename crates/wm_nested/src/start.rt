@@ -1,6 +1,7 @@
 //! The opening tree of a plan's outputs.
 ghost use Rattle.std.specs.Prelude.{◌≡◌, ◌≤◌, ◌<◌, ◌+◌, ◌*◌, ◌∷◌, [], IfOk, length, vec_len};
 ghost use Rattle.wm_nested.specs.Forest.{end, con};
+ghost use Rattle.wm_nested.specs.Sound.{FitPlans, IsSound};
 ghost use Rattle.wm_nested.specs.TreeValue.{digit, id, ids_from, opening, opening_outputs, output_part, space_part};
 
 use crate::part::{NodeKind, OutputPart, Part, SpacePart};
@@ -22,7 +23,8 @@ impl Tree {
         outer: u32,
     ) -> Result<Tree, NoMemory>
         requires { length outputs.now ≤ 8 }
-        ensures { IfOk result (λ tree. tree ≡ opening outputs.now border inner outer) }
+        ensures tree { IfOk result (λ tree. tree ≡ opening outputs.now border inner outer) }
+        ensures sound { 1 ≤ length outputs.now → FitPlans outputs.now → IfOk result (λ tree. IsSound tree) }
     {
         let count = outputs.len() as u32;
         let root = Part {
@@ -115,13 +117,7 @@ fn output_part(
 }
 
 /// An empty workspace named by the number k.
-fn space_part(
-    alloc: Global,
-    id: ConId,
-    k: u32,
-    inner: u32,
-    outer: u32,
-) -> Result<Part, NoMemory>
+fn space_part(alloc: Global, id: ConId, k: u32, inner: u32, outer: u32) -> Result<Part, NoMemory>
     requires few { k ≤ 8 }
     requires some { 1 ≤ k }
     ensures { IfOk result (λ part. part ≡ space_part id (digit k) inner outer) }

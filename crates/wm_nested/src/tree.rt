@@ -4,8 +4,10 @@ ghost use Rattle.std.specs.Option.{option_copied};
 ghost use Rattle.wm_nested.specs.Forest.{Forest, end, con};
 ghost use Rattle.wm_nested.specs.Look.{node_in, con_kind, first_floats, first_kids, first_marks, has, kind_of, nth_id, only, output_kind, space_kind};
 ghost use Rattle.wm_nested.specs.Row.{alone, row_of};
+ghost use Rattle.wm_nested.specs.Sound.{IsSound};
 ghost use Rattle.wm_nested.specs.TreeValue.{current, current_of, current_in, floating_row, focused, focused_child, floats_by, leaf, parent, shown, shown_space, spot, tiled_by, workspace_of};
 
+use crate::cursor::Cursor;
 use crate::part::{ConPart, NodeKind, OutputPart, SpacePart};
 use crate::recency;
 use crate::row::{Cell, Row};
@@ -182,6 +184,13 @@ impl Tree {
         self.next_id
     }
 
+    /// The row of the root: its children are the outputs.
+    pub fn nodes(&self) -> Cursor<'_>
+        ensures { result ≡ self.now.nodes }
+    {
+        Cursor::at(&self.nodes)
+    }
+
     /// The border of new containers, and the inner and outer gap of new workspaces.
     pub fn defaults(&self) -> (Border, u32, u32)
         ensures { result ≡ (self.now.border, self.now.inner, self.now.outer) }
@@ -267,7 +276,8 @@ impl Tree {
     /// The focused node: the most recent one within the workspace that the current output shows, itself included.
     #[tactic(auto, using(crate::proofs::ForestLemmas::first_held_end))]
     pub fn focused(&self) -> ConId
-        ensures { result ≡ focused self.now }
+        ensures value { result ≡ focused self.now }
+        ensures there { IsSound self.now → has result self.now.nodes ≡ true }
     {
         match self.shown_space() {
             Some(space) => recency::first_below(&self.recency, space).unwrap_or(self.shown()),

@@ -3,6 +3,9 @@ ghost use Rattle.std.specs.Prelude.{◌≡◌, ◌≢◌, ◌≤◌, false, true
 ghost use Rattle.wm_nested.specs.Look.{con_kind, has, kind_of};
 ghost use Rattle.wm_nested.specs.Words.{detached, edited, raised_at, settled, with_raised};
 ghost use Rattle.wm_nested.specs.Change.{raised_in};
+ghost use Rattle.wm_nested.specs.Place.{IsTiled};
+ghost use Rattle.wm_nested.specs.Sound.{IsSound};
+ghost use Rattle.wm_base.specs.declared.ids.ConId.{ConId};
 ghost use Rattle.wm_nested.specs.declared.kind.KindEdit.TheVariants as edits;
 ghost use Rattle.wm_nested.specs.declared.place.TreeRefusal.TheVariants.{Missing};
 
@@ -38,6 +41,10 @@ impl Tree {
         ensures missing { has con self.old.nodes ≡ false → result ≡ Err (Missing con) }
         ensures there { has con self.old.nodes ≡ true → IsOk result }
         ensures tree { self.new ≡ detached con self.old }
+        ensures none_new { (v : ConId) → has v self.new.nodes ≡ true → has v self.old.nodes ≡ true }
+        ensures gone { IsSound self.old → has con self.new.nodes ≡ false }
+        ensures sound { (has con self.old.nodes ≡ true → kind_of con_kind con self.old.nodes ≢ None) →
+            IsSound self.old → IsSound self.new }
     {
         let Some(gone) = self.nodes.take_out(con) else {
             return Err(TreeRefusal::Missing(con));
@@ -49,14 +56,16 @@ impl Tree {
 
     /// Gives the split or workspace another layout.
     pub fn set_layout(&mut self, con: ConId, l: Layout)
-        ensures { self.new ≡ edited con (edits.Layout l) self.old }
+        ensures tree { self.new ≡ edited con (edits.Layout l) self.old }
+        ensures sound { IsSound self.old → IsSound self.new }
     {
         self.nodes.change(con, KindEdit::Layout(l));
     }
 
     /// Gives the tiled container another share, from 1 to 1,048,576.
     pub fn set_share(&mut self, con: ConId, s: u32)
-        ensures { self.new ≡ edited con (edits.Share s) self.old }
+        ensures tree { self.new ≡ edited con (edits.Share s) self.old }
+        ensures sound { IsTiled con self.old.nodes → 1 ≤ s → s ≤ 1048576 → IsSound self.old → IsSound self.new }
     {
         self.nodes.change(con, KindEdit::Share(s));
     }
@@ -64,7 +73,8 @@ impl Tree {
     /// Puts the container or workspace first in the order of recency and takes its urgency. A floating window comes
     /// last among the floating windows, and any other window of its workspace loses fullscreen.
     pub fn raise(&mut self, con: ConId)
-        ensures { self.new ≡ with_raised con self.old }
+        ensures tree { self.new ≡ with_raised con self.old }
+        ensures sound { IsSound self.old → IsSound self.new }
     {
         let space = self.workspace_of(con);
         self.nodes.raise_at(con, space);
@@ -74,7 +84,8 @@ impl Tree {
 
     /// Removes splits without children, and then workspaces without containers that are not shown.
     pub fn settle(&mut self)
-        ensures { self.new ≡ settled self.old }
+        ensures tree { self.new ≡ settled self.old }
+        ensures sound { IsSound self.old → IsSound self.new }
     {
         self.nodes.settle(None);
         recency::keep_all(&mut self.recency, &self.nodes);
