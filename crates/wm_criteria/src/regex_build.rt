@@ -1,29 +1,48 @@
 //! A build over the crate of regular expressions.
-ghost use Rattle.std.specs.Prelude.{◌≡◌, ◌≤◌, Err, IfOk};
-ghost use Rattle.wm_criteria.specs.Building.{IsReadFrom};
+ghost use Rattle.std.specs.Prelude.{◌≡◌, ◌≤◌, None, Err, IfOk};
+ghost use Rattle.wm_defs.specs.Counts.{Rose};
+ghost use Rattle.wm_criteria.specs.Building.{IsReadFrom, IsRefused, Tells, refused_in};
+ghost use Rattle.wm_criteria.specs.declared.build.BuildFault.TheVariants.{Refused};
 
 use crate::build::{Build, BuildFault};
 use regex::{Error, Regex};
 use std::alloc::Global;
+use std::marker::Model;
 
-/// Builds every pattern that the crate reads, and counts the others. It tells no texts.
+/// Builds every pattern that the crate reads, and counts the others. It tells no texts, and is seen as its count.
 #[derive(Debug, Drop)]
 pub struct RegexBuild {
     refusals: u64,
 }
 
+impl Model for RegexBuild {
+    ghost use Rattle.std.specs.Prelude.{ℕ};
+
+    ghost Value = { ℕ };
+
+    ghost view = { λ build. build.refusals };
+}
+
 impl RegexBuild {
     /// A build that has refused nothing yet.
-    pub fn new() -> RegexBuild {
+    pub fn new() -> RegexBuild
+        ensures { result ≡ 0 }
+    {
         RegexBuild { refusals: 0 }
     }
 }
 
 impl Build for RegexBuild {
-    ghost refusals = { λ build. build.refusals };
+    ghost refusals = { λ count. count };
 
-    /// Builds the pattern. It is refused where the crate refuses it for another reason than memory.
-    fn build(&mut self, alloc: Global, pattern: &str) -> Result<Regex, BuildFault> {
+    /// Builds the pattern. It is refused only where the crate refuses it for another reason than memory.
+    fn build(&mut self, alloc: Global, pattern: &str) -> Result<Regex, BuildFault>
+        ensures read { IfOk result (λ regex. IsReadFrom pattern.now regex) }
+        ensures rose { result ≡ Err Refused → Rose self.old self.new }
+        ensures told { Tells None None (refused_in result pattern.now) }
+        ensures counted { self.old ≤ self.new }
+        ensures refused { result ≡ Err Refused → IsRefused pattern.now }
+    {
         let built = compiled(alloc, pattern);
         if let Err(BuildFault::Refused) = built {
             self.refusals = self.refusals.saturating_add(1);
@@ -34,7 +53,8 @@ impl Build for RegexBuild {
 
 /// The regex that is read from the text.
 pub fn compiled(alloc: Global, pattern: &str) -> Result<Regex, BuildFault>
-    ensures { IfOk result (λ regex. IsReadFrom pattern.now regex) }
+    ensures read { IfOk result (λ regex. IsReadFrom pattern.now regex) }
+    ensures refused { result ≡ Err Refused → IsRefused pattern.now }
 {
     match Regex::new(alloc, pattern) {
         Ok(regex) => Ok(regex),
