@@ -1,12 +1,10 @@
 -- Building patterns: what a built one is, and what is told of the refused ones.
-use Rattle.std.specs.Prelude.{◌≡◌, ◌≢◌, ℕ, Bool, List, [], ◌∷◌, ◌++◌, Option, None, Some, Result, Ok, Err, ⊤}
+use Rattle.std.specs.Prelude.{◌≡◌, ℕ, Bool, List, [], ◌∷◌, ◌++◌, Option, None, Some, Result, Ok, Err, ⊤}
 use Rattle.std.specs.List.{list_any}
 use Rattle.std.specs.Str.{bytes_eq}
 use Rattle.regex.specs.Patterns.{default_config}
-use Rattle.regex.specs.Strings.{regex_source, regex_config, IsReadFromSource, IsDefaultFailure}
+use Rattle.regex.specs.Strings.{regex_source, regex_config, IsReadFromSource}
 use Rattle.regex.specs.declared.string.regex.Regex.{Regex}
-use Rattle.regex.specs.declared.error.Error.{Error}
-use Rattle.regex.specs.declared.error.Error.TheVariants.{OutOfMemory}
 use Rattle.wm_criteria.specs.declared.build.BuildFault.{BuildFault}
 use Rattle.wm_criteria.specs.declared.build.BuildFault.TheVariants.{Refused, NoMemory}
 
@@ -19,10 +17,6 @@ pub record IsRead (regex : Regex) : Type 0 where
 pub record IsReadFrom (text : List ℕ) (regex : Regex) : Type 0 where
   pub source : regex_source regex ≡ text
   pub read : IsRead regex
-
--- the crate of regular expressions may refuse the text, for another reason than memory
-abbrev pub IsRefused : List ℕ → Type 0
-IsRefused text = (e : Error) × IsDefaultFailure text e × (e ≢ OutOfMemory)
 
 -- the texts that were refused by a building with this result: this one, or none
 abbrev pub refused_in : {X : Type 0} → Result X BuildFault → List ℕ → List (List ℕ)

