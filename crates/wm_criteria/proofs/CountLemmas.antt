@@ -1,7 +1,6 @@
 -- A text has no more patterns than bytes.
-use Rattle.std.proofs.Common.{◌≡◌, ℕ, zero, suc, ◌+◌, ◌-◌, ◌<◌, ◌≤◌, Bool, true, false, List, [], ◌∷◌, ◌++◌, length, drop, Option, Some, None, refl, sym, ◌∙◌, ap, subst, arith, length-append, eqb-true}
+use Rattle.std.proofs.Common.{◌≡◌, ℕ, zero, suc, ◌+◌, ◌<◌, ◌≤◌, Bool, true, false, List, [], ◌∷◌, ◌++◌, length, drop, Option, Some, None, refl, arith, length-append}
 use Rattle.std.specs.Prelude.{◌==◌, ◌||◌, ◌&&◌, not, option_map, if◌then◌else◌}
-use Rattle.std.specs.List.{flat_map}
 use Rattle.std.specs.Option.{option_to_list}
 use Rattle.wm_grammar.specs.declared.command.Command.{Command}
 use Rattle.wm_grammar.specs.declared.batch.Key.{Key}
@@ -41,9 +40,9 @@ and_keys_within m n seen s go h = bind_some (Tail s) (Within n) (key_at s) (and_
     if_some (Within n) (ends_key k.1 && not (has_place (place_of k.0) seen)) (keys_at m (seen ++ k.0 ∷ []) k.1) None
     (λ e. go (seen ++ k.0 ∷ []) k.1 n (and_first (ends_key k.1) (not (has_place (place_of k.0) seen)) e) (omega arith))
     (λ e. tt)) where
-  and_first : (a b : Bool) → (a && b) ≡ true → a ≡ true
-  and_first true b e = refl
-  and_first false b e = e
+      and_first : (a b : Bool) → (a && b) ≡ true → a ≡ true
+      and_first true b e = refl
+      and_first false b e = e
 
 -- a blank is skipped where a key ends and ] does not stand
 blank_skipped : (s : List ℕ) → ends_key s ≡ true → starts 93 (skip s) ≡ false → length (skip s) < length s

@@ -1,3 +1,5 @@
 pub mod PlainLemmas
+pub mod BuildingLemmas
 pub mod NumberLemmas
 pub mod CountLemmas
+pub mod PartLemmas

@@ -1,5 +1,5 @@
 -- The numbers of patterns, and what stops at one of them.
-use Rattle.std.proofs.Common.{◌≡◌, ℕ, zero, suc, ◌+◌, ◌-◌, ◌<◌, ◌≤◌, Bool, true, false, List, [], ◌∷◌, ◌++◌, length, take, drop, get_or, take_all, Option, Some, None, IsTrue, refl, sym, ◌∙◌, ap, subst, arith, append_assoc, append-nil, length-append, ne_eqb, eq-eqb, eqb-true, zero-add}
+use Rattle.std.proofs.Common.{◌≡◌, ℕ, zero, suc, ◌+◌, ◌-◌, ◌≤◌, Bool, true, false, List, [], ◌∷◌, ◌++◌, length, take, drop, get_or, take_all, Option, Some, None, IsTrue, refl, sym, ◌∙◌, ap, subst, arith, append_assoc, length-append, ne_eqb, eq-eqb, eqb-true, zero-add}
 use Rattle.std.specs.Prelude.{◌==◌, is_some, map, option_map, option_and_then, if◌then◌else◌, Result, Ok, Err, IsErrAnd}
 use Rattle.std.specs.List.{flat_map, slice_get}
 use Rattle.std.specs.Option.{option_to_list}
@@ -10,6 +10,7 @@ use Rattle.wm_criteria.specs.Patterns.{numbered, pattern_at, patterns_of, unless
 use Rattle.wm_criteria.specs.Stop.{IsStop, stop_texts}
 use Rattle.wm_criteria.specs.Verdict.{IsVerdict, refused_patterns}
 use Rattle.wm_criteria.specs.declared.verdict.Verdict.TheVariants.{PatternRefused}
+use Rattle.wm_criteria.proofs.BuildingLemmas.{tells_both}
 use Rattle.wm_criteria.proofs.CountLemmas.{patterns_within}
 use Rattle.wm_grammar.specs.Reading.{Reads, groups_of}
 use Rattle.wm_grammar.specs.declared.batch.Batch.{Batch}
@@ -24,7 +25,7 @@ among_itself first xs = record { same = λ n h. refl }
 
 pub among_more : (first : ℕ) (xs : List (List ℕ)) (second : ℕ) (ys : List (List ℕ)) (third : ℕ) (zs : List (List ℕ)) → IsAmong first xs second ys → IsAmong second ys third zs → IsAmong first xs third zs
 among_more first xs second ys third zs a b = record {
-  same = λ n h. a.same n (subst (λ (o : Option (List ℕ)). IsTrue (is_some o)) (sym (b.same n h)) h) ∙ b.same n h
+  same = λ n h. a.same n (subst (λ (o : Option (List ℕ)). IsTrue (is_some o)) (sym (b.same n h)) h) ∙ b.same n h;
 }
 
 -- the choice that a number makes, over what its test says
@@ -104,14 +105,8 @@ texts_among : (first : ℕ) (xs : List (List ℕ)) (second : ℕ) (ys : List (Li
 texts_among first xs second ys NoMemory a h = refl
 texts_among first xs second ys (Refused n) a h = ap (λ (o : Option (List ℕ)). option_to_list o) (sym (a.same n (there (numbered second ys n) h)))
 
-pub tells_more : (old mid new : Option (List (List ℕ))) (texts : List (List ℕ)) → Tells old mid [] → Tells mid new texts → Tells old new texts
-tells_more None mid new texts a b = a
-tells_more (Some xs) mid new texts a b =
-    let there : Tells (Some (xs ++ [])) new texts = subst (λ (o : Option (List (List ℕ))). Tells o new texts) a b in
-    there ∙ ap (λ (s : List (List ℕ)). Some (s ++ texts)) (append-nil xs)
-
 pub tells_stop : (old mid new : Option (List (List ℕ))) (first : ℕ) (xs : List (List ℕ)) (second : ℕ) (ys : List (List ℕ)) (e : Stop) → IsAmong first xs second ys → IsStop second ys e → Tells old mid [] → Tells mid new (stop_texts second ys e) → Tells old new (stop_texts first xs e)
-tells_stop old mid new first xs second ys e a h kept told = subst (λ (s : List (List ℕ)). Tells old new s) (texts_among first xs second ys e a h) (tells_more old mid new (stop_texts second ys e) kept told)
+tells_stop old mid new first xs second ys e a h kept told = subst (λ (s : List (List ℕ)). Tells old new s) (texts_among first xs second ys e a h) (tells_both old mid new [] (stop_texts second ys e) kept told)
 
 -- an error that was handed on is the same one
 pub handed_on : {X : Type 0} (r : Result X Stop) (e : Stop) → IsErrAnd r (λ x. x ≡ e) → r ≡ Err e

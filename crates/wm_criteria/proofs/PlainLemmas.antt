@@ -1,15 +1,13 @@
 -- Plain patterns, a character at a time.
-use Rattle.std.proofs.Common.{◌≡◌, ℕ, ◌+◌, ◌-◌, ◌<◌, ◌≤◌, Bool, true, false, not, List, [], ◌∷◌, length, take, drop, get_or, take_all, Option, Some, None, refl, sym, ◌∙◌, ap, subst, arith, eqb-true, eq-eqb, ne_eqb}
+use Rattle.std.proofs.Common.{◌≡◌, ℕ, ◌-◌, ◌<◌, ◌≤◌, Bool, true, false, List, [], ◌∷◌, length, take, drop, get_or, take_all, Option, Some, None, refl, sym, ◌∙◌, ap, subst, arith, eqb-true, eq-eqb, ne_eqb}
 use Rattle.std.proofs.Math.Dec.{eqb-suc-suc}
-use Rattle.std.specs.Prelude.{◌||◌, ◌&&◌, ◌==◌, is_some, option_map, nat_eq, if◌then◌else◌}
+use Rattle.std.specs.Prelude.{◌||◌, ◌==◌, is_some, if◌then◌else◌}
 use Rattle.std.specs.Option.{option_map_or}
-use Rattle.std.specs.List.{starts_with}
-use Rattle.wm_grammar.specs.Pieces.{is_nil}
 use Rattle.wm_criteria.specs.Plain.{Characters, character, characters, with_character, is_last, is_special, is_quotable, stands, is_part}
 
 -- ---- what a pattern is, from its first character on
 
-abbrev First : Type 0
+abbrev pub First : Type 0
 First = Option (ℕ × List ℕ)
 
 -- the two definitions at patterns of one byte and of more, over what their tests say
@@ -19,7 +17,7 @@ first_of_one x special = if◌then◌else◌ {A = First} special None (Some (x, 
 abbrev all_of_one : ℕ → Bool → Bool → Characters
 all_of_one x last special = if◌then◌else◌ {A = Characters} last (Some ([], true)) (if◌then◌else◌ {A = Characters} special None (Some (x ∷ [], false)))
 
-abbrev first_of_more : ℕ → ℕ → List ℕ → Bool → Bool → Bool → First
+abbrev pub first_of_more : ℕ → ℕ → List ℕ → Bool → Bool → Bool → First
 first_of_more x d s mark quotable special = if◌then◌else◌ {A = First} mark (if◌then◌else◌ {A = First} quotable (Some (d, s)) None) (if◌then◌else◌ {A = First} special None (Some (x, d ∷ s)))
 
 abbrev all_of_more : ℕ → ℕ → List ℕ → Bool → Bool → Bool → Characters
@@ -86,7 +84,7 @@ is_some-characters-step s c r e = ap (λ (o : Characters). is_some o) (character
 abbrev pub wanted_at : Characters → List ℕ → Bool
 wanted_at o t = option_map_or (λ x. stands x.0 x.1 t) o false
 
-stands-same : (c : ℕ) (w : List ℕ) (last : Bool) (t : List ℕ) → stands (c ∷ w) last (c ∷ t) ≡ stands w last t
+pub stands-same : (c : ℕ) (w : List ℕ) (last : Bool) (t : List ℕ) → stands (c ∷ w) last (c ∷ t) ≡ stands w last t
 stands-same c w last t = rw (eq-eqb c c refl, eqb-suc-suc (length t) (length w)) refl
 
 wanted_at-same : (c : ℕ) (o : Characters) (t : List ℕ) → wanted_at (with_character c o) (c ∷ t) ≡ wanted_at o t

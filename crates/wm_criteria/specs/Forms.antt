@@ -1,6 +1,6 @@
 -- The built forms of patterns: for each key of each group the pattern that was built, where it had to be.
-use Rattle.std.specs.Prelude.{◌≡◌, ℕ, Bool, true, false, not, ◌||◌, List, [], Option, Some, None, map, is_some, is_none}
-use Rattle.std.specs.List.{list_any, list_all}
+use Rattle.std.specs.Prelude.{◌≡◌, ℕ, Bool, true, ◌||◌, List, [], Option, map, is_some}
+use Rattle.std.specs.List.{list_all}
 use Rattle.std.specs.Option.{ForSome}
 use Rattle.wm_grammar.specs.declared.batch.Group.{Group}
 use Rattle.wm_criteria.specs.declared.verdict.Verdict.{Verdict}

@@ -5,3 +5,4 @@ pub mod Forms
 pub mod Verdict
 pub mod Prepared
 pub mod Stop
+pub mod Parts

@@ -1,5 +1,5 @@
 -- What the verdict on a text says.
-use Rattle.std.specs.Prelude.{◌≡◌, ℕ, List, [], Option, None, Some, IsTrue, is_some, ⊤}
+use Rattle.std.specs.Prelude.{◌≡◌, ℕ, List, [], None, Some, IsTrue, is_some, ⊤}
 use Rattle.std.specs.Option.{option_to_list}
 use Rattle.std.specs.Coded.{Coded-set, coded_option, ×_prop}
 use Rattle.std.proofs.Props.{props}

@@ -33,12 +33,7 @@ impl<T: Drop> From<AllocFailed<T>> for Stop {
 }
 
 /// Builds the pattern of a key, which has this number if the key has one.
-fn key_form<B: Build>(
-    alloc: Global,
-    key: &Key,
-    number: u32,
-    build: &mut B,
-) -> Result<Form, Stop>
+fn key_form<B: Build>(alloc: Global, key: &Key, number: u32, build: &mut B) -> Result<Form, Stop>
     ensures form { IfOk result (λ f. f ≡ to_build key.now) }
     ensures stop { IfErr result (IsStop number (option_to_list (pattern_of key.now))) }
     ensures told { Tells (B.refused build.old) (B.refused build.new)

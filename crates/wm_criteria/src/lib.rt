@@ -4,18 +4,22 @@
 mod build;
 mod form;
 mod forms;
+mod laws;
 mod list_build;
 mod patterns;
 mod plain;
-mod preparing;
 mod prepared;
+mod preparing;
 mod regex_build;
+#[cfg(test)]
+mod tests;
 mod verdict;
 
 pub use build::{Build, BuildFault};
+pub use laws::{any_text_is_asked_for, matches_a_part};
 pub use list_build::ListBuild;
 pub use plain::{is_plain, plain_search};
-pub use preparing::{prepare, prepare_bare};
 pub use prepared::Prepared;
+pub use preparing::{prepare, prepare_bare};
 pub use regex_build::RegexBuild;
 pub use verdict::Verdict;

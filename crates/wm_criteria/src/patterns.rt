@@ -43,7 +43,11 @@ pub fn to_build(key: &Key) -> Option<&str>
     ensures { option_map (λ x. x.now) result ≡ to_build key.now }
 {
     let pattern = pattern_of(key)?;
-    if is_plain(pattern) { None } else { Some(pattern) }
+    if is_plain(pattern) {
+        None
+    } else {
+        Some(pattern)
+    }
 }
 
 /// The keys of a group.

@@ -9,7 +9,20 @@ fn is_special(c: u8) -> bool
 {
     matches!(
         c,
-        b'\\' | b'.' | b'+' | b'*' | b'?' | b'(' | b')' | b'|' | b'[' | b']' | b'{' | b'}' | b'^' | b'$'
+        b'\\'
+            | b'.'
+            | b'+'
+            | b'*'
+            | b'?'
+            | b'('
+            | b')'
+            | b'|'
+            | b'['
+            | b']'
+            | b'{'
+            | b'}'
+            | b'^'
+            | b'$'
     )
 }
 
@@ -85,9 +98,7 @@ fn is_part(body: &[u8], text: &[u8]) -> bool
 {
     let mut rest = text;
     while !stands(body, rest) {
-        let [_, after @ ..] = rest else {
-            return false
-        };
+        let [_, after @ ..] = rest else { return false };
         rest = after;
     }
     true

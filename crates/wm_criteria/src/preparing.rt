@@ -16,11 +16,7 @@ use wm_base::{NoMemory, Str};
 use wm_grammar::Batch;
 
 /// Reads a text and builds its patterns, in their order until one is refused. Plain ones are not built.
-pub fn prepare<B: Build>(
-    alloc: Global,
-    text: &str,
-    build: &mut B,
-) -> Result<Prepared, NoMemory>
+pub fn prepare<B: Build>(alloc: Global, text: &str, build: &mut B) -> Result<Prepared, NoMemory>
     requires { length text.now < 2 ^ 32 }
     ensures text { IfOk result (λ p. p.text ≡ text.now) }
     ensures verdict { IfOk result (λ p. IsVerdict text.now p.verdict) }

@@ -1,7 +1,8 @@
 -- No front of a text that reads and ends with ; goes farther than the search finds.
 use Rattle.std.proofs.Common.{◌≡◌, ℕ, zero, suc, ◌+◌, ◌-◌, ◌<◌, ◌≤◌, Bool, true, false, List, [], ◌∷◌, ◌++◌, length, take, drop, get_or, Option, Some, None, refl, sym, ap, subst, ◌∙◌, append_assoc, arith, inl, inr}
-use Rattle.std.specs.Prelude.{IfSome, if◌then◌else◌, ◌==◌, ◌||◌, not, option_map, is_some}
+use Rattle.std.specs.Prelude.{IfSome, IfOk, Result, Ok, Err, if◌then◌else◌, ◌==◌, ◌||◌, not, option_map, is_some}
 use Rattle.std.proofs.lemmas.Bool.{eqb-true, ne_eqb, false≢true, and_parts, false_from_ne_true}
+use Rattle.std.proofs.Math.Seq.{drop-append_seam}
 use Rattle.std.proofs.lemmas.List.{length-append, length-take, take_at, take-append-drop, take_all, take_more}
 use Rattle.wm_grammar.specs.declared.command.Command.{Command}
 use Rattle.wm_grammar.specs.declared.batch.Criteria.{Criteria}
@@ -9,34 +10,34 @@ use Rattle.wm_grammar.specs.declared.batch.Group.{Group}
 use Rattle.wm_grammar.specs.Pieces.{◌>>=◌, first_of, has, skip}
 use Rattle.wm_grammar.specs.Openings.{command_at}
 use Rattle.wm_grammar.specs.Reading.{Commands, Groups, and_commands, before_commands, commands_at, criteria_part, group_of, group_at, and_groups, some_groups, groups_at, groups_of, is_whole, ends_group}
-use Rattle.wm_grammar.specs.Turns.{command_turn, front_turn, turn_at}
+use Rattle.wm_grammar.specs.Turns.{command_turn, front_turn, turn_at, command_part}
 use Rattle.wm_grammar.specs.Pieces.{is_semicolon}
 use Rattle.wm_grammar.specs.Farthest.{before_quote, before_last_quote, cut_off, inside, here, behind, farthest}
-use Rattle.wm_grammar.proofs.Cuts.{Cut, Suffix, suffix_length, Quoted, AllSome, if_some}
+use Rattle.wm_grammar.proofs.Cuts.{Cut, Suffix, suffix_length, quoted_length, AllSome, if_some}
 use Rattle.wm_grammar.proofs.CutCommands.{bind_some, map_some, each_some, some_at}
-use Rattle.wm_grammar.proofs.TurnCuts.{Turned, turned, turn_suffix, turn_kept}
+use Rattle.wm_grammar.proofs.TurnCuts.{Turned, turned, Begun, begun, turn_suffix, turn_kept}
 
 -- ---- a text that reads, turn by turn
 
-abbrev ran : (Bool → List ℕ → Bool) → Option (List ℕ) → Bool
+abbrev pub ran : (Bool → List ℕ → Bool) → Option (List ℕ) → Bool
 ran go None = false
 ran go (Some []) = true
 ran go (Some (c ∷ r)) = go (not (c == 44)) r
 
-abbrev runs : ℕ → Bool → List ℕ → Bool
+abbrev pub runs : ℕ → Bool → List ℕ → Bool
 runs zero fresh t = false
 runs (suc n) fresh t = ran (runs n) (turn_at fresh t)
 
-abbrev Runs : Bool → List ℕ → Type 0
+abbrev pub Runs : Bool → List ℕ → Type 0
 Runs fresh t = (n : ℕ) × (runs n fresh t ≡ true)
 
 -- ---- what was there
 
-bind_inv : {A B : Type 0} (o : Option A) (f : A → Option B) (y : B) → (o >>= f) ≡ Some y → (x : A) × (o ≡ Some x) × (f x ≡ Some y)
+pub bind_inv : {A B : Type 0} (o : Option A) (f : A → Option B) (y : B) → (o >>= f) ≡ Some y → (x : A) × (o ≡ Some x) × (f x ≡ Some y)
 bind_inv None f y e = absurd cc
 bind_inv (Some x) f y e = (x, refl, e)
 
-map_inv : {A B : Type 0} (o : Option A) (f : A → B) (y : B) → option_map f o ≡ Some y → (x : A) × (o ≡ Some x) × (f x ≡ y)
+pub map_inv : {A B : Type 0} (o : Option A) (f : A → B) (y : B) → option_map f o ≡ Some y → (x : A) × (o ≡ Some x) × (f x ≡ y)
 map_inv None f y e = absurd cc
 map_inv (Some x) f y e = (x, refl, cc)
 
@@ -45,7 +46,7 @@ turn_runs fresh s e n f h = (suc n, ap (ran (runs n)) f ∙ h)
 
 -- ---- commands that read run
 
-abbrev Rest : Commands → List ℕ
+abbrev pub Rest : Commands → List ℕ
 Rest m = drop 1 m.1
 
 more_run : (n : ℕ) (c : Command) (x : ℕ) (rest s : List ℕ) (m : Commands) → turn_at false s ≡ Some (x ∷ rest) → (b : Bool) → (x == 44) ≡ b → (if b then option_map (before_commands c) (commands_at n rest) else Some (c ∷ [], x ∷ rest)) ≡ Some m → Runs true (Rest m) → ((k : Commands) → commands_at n rest ≡ Some k → Runs true (Rest k) → Runs false rest) → Runs false s
@@ -90,7 +91,7 @@ group_run s t g c r e other h run =
     let turn : turn_at true t ≡ turn_at false k.1 = ap front_turn e ∙ turn_criteria c r k other v.1 in
     from_false t k.1 inner turn
 
-not_comma : (c : ℕ) → (c == 59) ≡ true → (c == 44) ≡ false
+pub not_comma : (c : ℕ) → (c == 59) ≡ true → (c == 44) ≡ false
 not_comma c e = ap (λ (x : ℕ). x == 44) (eqb-true c 59 e)
 
 some_run : (go : List ℕ → Groups) (t s : List ℕ) (gs : List Group) → skip t ≡ s → some_groups go s ≡ Some gs → ((r : List ℕ) (hs : List Group) → go r ≡ Some hs → Runs true r) → Runs true t
@@ -129,14 +130,14 @@ quote_shorter (c ∷ r) = quote_step c r (before_last_quote r) (quote_shorter r)
 abbrev Within : List ℕ → ℕ → Type 0
 Within t n = n ≤ length t
 
-cut_shorter : (t e : List ℕ) → AllSome (λ b. length b < length t) (cut_off t e)
+cut_shorter : (t c e : List ℕ) → AllSome (λ b. length b < length t) (cut_off t c e)
 unfolding cut_off
-cut_shorter t e = bind_some (λ b. length b < length (take (length t - length e) t)) (λ b. length b < length t) (before_last_quote (take (length t - length e) t)) (λ b. if has is_semicolon b then Some b else None) (quote_shorter (take (length t - length e) t)) (λ b lt.
-    if_some (λ b. length b < length t) (has is_semicolon b) (Some b) None (λ f. omega (arith, length-take (length t - length e) t)) (λ f. tt))
+cut_shorter t c e = bind_some (λ b. length b < length (take (length t - length e) t)) (λ b. length b < length t) (before_last_quote (take (length t - length e) t)) (λ b. if has is_semicolon (drop (length t - length c) b) then Some b else None) (quote_shorter (take (length t - length e) t)) (λ b lt.
+    if_some (λ b. length b < length t) (has is_semicolon (drop (length t - length c) b)) (Some b) None (λ f. omega (arith, length-take (length t - length e) t)) (λ f. tt))
 
 inside_bound : (go : Bool → List ℕ → Option ℕ) (fresh : Bool) (t e : List ℕ) → ((f : Bool) (s : List ℕ) → AllSome (Within s) (go f s)) → AllSome (Within t) (inside go fresh t e)
 unfolding inside
-inside_bound go fresh t e i = bind_some (λ b. length b < length t) (Within t) (cut_off t e) (λ b. option_map (λ k. k + (length t - length b)) (go fresh b)) (cut_shorter t e) (λ b lt. map_some (Within b) (Within t) (go fresh b) (λ k. k + (length t - length b)) (i fresh b) (λ k le. omega arith))
+inside_bound go fresh t e i = bind_some (λ b. length b < length t) (Within t) (cut_off t (command_part fresh t) e) (λ b. option_map (λ k. k + (length t - length b)) (go fresh b)) (cut_shorter t (command_part fresh t) e) (λ b lt. map_some (Within b) (Within t) (go fresh b) (λ k. k + (length t - length b)) (i fresh b) (λ k le. omega arith))
 
 here_bound : (go : Bool → List ℕ → Option ℕ) (fresh : Bool) (t e : List ℕ) → Suffix e t → ((f : Bool) (s : List ℕ) → AllSome (Within s) (go f s)) → AllSome (Within t) (here go fresh t e)
 unfolding here
@@ -186,13 +187,22 @@ cut_has (c ∷ d ∷ r) w h = ap (λ (b : Bool). (c == 59) || b) (cut_has (d ∷
 abbrev Found : Option ℕ → List ℕ → Type 0
 Found o w = (n : ℕ) × (o ≡ Some n) × (n ≤ length w)
 
-inside_is : (go : Bool → List ℕ → Option ℕ) (fresh : Bool) (t e b : List ℕ) (n : ℕ) → before_last_quote (take (length t - length e) t) ≡ Some b → has is_semicolon b ≡ true → go fresh b ≡ Some n → inside go fresh t e ≡ Some (n + (length t - length b))
+inside_is : (go : Bool → List ℕ → Option ℕ) (fresh : Bool) (t e b : List ℕ) (n : ℕ) → before_last_quote (take (length t - length e) t) ≡ Some b → has is_semicolon (drop (length t - length (command_part fresh t)) b) ≡ true → go fresh b ≡ Some n → inside go fresh t e ≡ Some (n + (length t - length b))
 unfolding inside cut_off
 inside_is go fresh t e b n before semi got = rw (before, semi, got) refl
 
-inside_found : (go : Bool → List ℕ → Option ℕ) (fresh : Bool) (t e u w a b : List ℕ) → t ≡ u ++ w → w ≡ a ++ 34 ∷ (b ++ e) → Cut u → ((v : List ℕ) → length (u ++ v) < length t → Found (go fresh (u ++ v)) v) → Found (inside go fresh t e) w
-inside_found go fresh t e u w a b whole quote h i =
-    let parts : t ≡ ((u ++ a) ++ 34 ∷ b) ++ e = whole ∙ (ap (λ (x : List ℕ). u ++ x) quote ∙ regroup u a b e) in
+semi_behind : (fresh : Bool) (u w v : List ℕ) → Begun fresh u w → has is_semicolon (drop (length (u ++ w) - length (command_part fresh (u ++ w))) (u ++ v)) ≡ true
+semi_behind fresh u w v y =
+    let p : List ℕ = y.tail.0 in
+    let count : length (u ++ w) - length (command_part fresh (u ++ w)) ≡ length p = omega (arith, length-append u w, ap length y.whole, length-append y.start w, ap length y.tail.1, length-append p y.start) in
+    let parts : u ++ v ≡ p ++ (y.start ++ v) = ap (λ (t : List ℕ). t ++ v) y.tail.1 ∙ append_assoc p y.start v in
+    let left : drop (length (u ++ w) - length (command_part fresh (u ++ w))) (u ++ v) ≡ y.start ++ v = ap (λ (n : ℕ). drop n (u ++ v)) count ∙ (ap (λ (t : List ℕ). drop (length p) t) parts ∙ drop-append_seam p (y.start ++ v)) in
+    ap (has is_semicolon) left ∙ cut_has y.start v y.cut
+
+inside_found : (go : Bool → List ℕ → Option ℕ) (fresh : Bool) (e u w a b : List ℕ) → w ≡ a ++ 34 ∷ (b ++ e) → Begun fresh u w → ((v : List ℕ) → length (u ++ v) < length (u ++ w) → Found (go fresh (u ++ v)) v) → Found (inside go fresh (u ++ w) e) w
+inside_found go fresh e u w a b quote y i =
+    let t : List ℕ = u ++ w in
+    let parts : t ≡ ((u ++ a) ++ 34 ∷ b) ++ e = ap (λ (x : List ℕ). u ++ x) quote ∙ regroup u a b e in
     let len : length ((u ++ a) ++ 34 ∷ b) ≡ length t - length e = omega (arith, ap length parts, length-append ((u ++ a) ++ 34 ∷ b) e) in
     let taken : take (length t - length e) t ≡ (u ++ a) ++ 34 ∷ b = ap (λ (x : List ℕ). take (length t - length e) x) parts ∙ take_at ((u ++ a) ++ 34 ∷ b) e (length t - length e) len in
     let z = quote_behind (u ++ a) b in
@@ -202,10 +212,9 @@ inside_found go fresh t e u w a b whole quote h i =
     let short : length (u ++ v) < length (take (length t - length e) t) = some_at (λ x. length x < length (take (length t - length e) t)) (before_last_quote (take (length t - length e) t)) (u ++ v) (quote_shorter (take (length t - length e) t)) before in
     let shorter : length (u ++ v) < length t = omega (arith, length-take (length t - length e) t) in
     let f = i v shorter in
-    let semi : has is_semicolon (u ++ v) ≡ true = cut_has u v h in
     let got : go fresh (u ++ v) ≡ Some f.0 = f.1 in
     let le : f.0 ≤ length v = f.2 in
-    (f.0 + (length t - length (u ++ v)), inside_is go fresh t e (u ++ v) f.0 before semi got, omega (arith, le, ap length whole, length-append u w, length-append u v))
+    (f.0 + (length t - length (u ++ v)), inside_is go fresh t e (u ++ v) f.0 before (semi_behind fresh u w v y) got, omega (arith, le, length-append u w, length-append u v))
   where
     regroup : (u a b e : List ℕ) → u ++ (a ++ 34 ∷ (b ++ e)) ≡ ((u ++ a) ++ 34 ∷ b) ++ e
     regroup u a b e = simp append_assoc
@@ -252,9 +261,6 @@ farthest_turn k fresh t e f = ap (λ (o : Option (List ℕ)). o >>= behind (fart
 by_eq : (w : List ℕ) (o p : Option ℕ) → o ≡ p → Found p w → Found o w
 by_eq w o p e f = (f.0, e ∙ f.1, f.2)
 
-quoted_length : (w r : List ℕ) → Quoted w r → length r ≤ length w
-quoted_length w r q = omega (arith, ap length q.2, length-append q.0 (34 ∷ (q.1 ++ r)), length-append q.1 r)
-
 ended : (k j : ℕ) (fresh : Bool) (u w e : List ℕ) → Cut u → turn_at fresh u ≡ Some e → ran (runs j) (Some e) ≡ true → length (u ++ w) < suc k → ((i : ℕ) (f : Bool) (s v : List ℕ) → Cut s → runs i f s ≡ true → length (s ++ v) < k → Found (farthest k f (s ++ v)) v) → Cut e → Suffix e u → Turned w (turn_at fresh (u ++ w)) e → Found (farthest (suc k) fresh (u ++ w)) w
 ended k j fresh u w [] h f run lt i kept x t = elim kept [ ]
 ended k j fresh u w (c ∷ r) h f run lt i kept x (inl g) =
@@ -263,7 +269,7 @@ ended k j fresh u w (c ∷ r) h f run lt i kept x (inl g) =
     (exact_found k fresh (u ++ w) w c r kept (λ cut. i j (not (c == 44)) r w cut run (omega (arith, length-append u w, length-append r w))))
 ended k j fresh u w (c ∷ r) h f run lt i kept x (inr (e, g, q)) =
     by_eq w (farthest (suc k) fresh (u ++ w)) (behind (farthest k) fresh (u ++ w) e) (farthest_turn k fresh (u ++ w) e g)
-    (late_found k fresh (u ++ w) e u w (quoted_length w e q) (inside_found (farthest k) fresh (u ++ w) e u w q.0 q.1 refl q.2 h (λ v short. i (suc j) fresh u v h (ap (ran (runs j)) f ∙ run) (omega arith))))
+    (late_found k fresh (u ++ w) e u w (quoted_length w e q) (inside_found (farthest k) fresh e u w q.0 q.1 q.2 (begun fresh u w _ h f) (λ v short. i (suc j) fresh u v h (ap (ran (runs j)) f ∙ run) (omega arith))))
 
 complete : (k j : ℕ) (fresh : Bool) (u w : List ℕ) → Cut u → runs j fresh u ≡ true → length (u ++ w) < k → Found (farthest k fresh (u ++ w)) w
 complete zero j fresh u w h run lt = absurd (omega arith)
@@ -351,14 +357,19 @@ behind_some go fresh t (c ∷ r) le = ap (λ (x : List ℕ). first_of (go (not (
 farthest_at : (n : ℕ) (fresh : Bool) (t e : List ℕ) → 0 < n → turn_at fresh t ≡ Some e → farthest n fresh t ≡ behind (farthest (n - 1)) fresh t e
 farthest_at n fresh t e pos f = farthest_more n fresh t pos ∙ ap (λ (o : Option (List ℕ)). o >>= behind (farthest (n - 1)) fresh t) f
 
-pub search_end : (n : ℕ) (fresh : Bool) (t e : List ℕ) (best found all : Option ℕ) → 0 < n → turn_at fresh t ≡ Some e → length e < 1 → found ≡ here (farthest (n - 1)) fresh t e → first_of (farthest n fresh t) best ≡ all → first_of found best ≡ all
-search_end n fresh t e best found all pos f lt g h = ap (λ (o : Option ℕ). first_of o best) (g ∙ sym (farthest_at n fresh t e pos f ∙ behind_none (farthest (n - 1)) fresh t e lt)) ∙ h
+pub search_end : (n : ℕ) (fresh : Bool) (t e : List ℕ) (best all : Option ℕ) → 0 < n → turn_at fresh t ≡ Some e → length e < 1 → first_of (farthest n fresh t) best ≡ all → first_of (here (farthest (n - 1)) fresh t e) best ≡ all
+search_end n fresh t e best all pos f lt h = ap (λ (o : Option ℕ). first_of o best) (sym (farthest_at n fresh t e pos f ∙ behind_none (farthest (n - 1)) fresh t e lt)) ∙ h
 
-pub search_more : (n : ℕ) (fresh : Bool) (t e : List ℕ) (best found all : Option ℕ) → 0 < n → turn_at fresh t ≡ Some e → 1 ≤ length e → found ≡ here (farthest (n - 1)) fresh t e → first_of (farthest n fresh t) best ≡ all → first_of (farthest (n - 1) (not (get_or e 0 0 == 44)) (take (length e - 1) (drop 1 e))) (first_of found best) ≡ all
-search_more n fresh t e best found all pos f le g h =
+pub search_more : (n : ℕ) (fresh : Bool) (t e : List ℕ) (best all : Option ℕ) → 0 < n → turn_at fresh t ≡ Some e → 1 ≤ length e → first_of (farthest n fresh t) best ≡ all → first_of (farthest (n - 1) (not (get_or e 0 0 == 44)) (take (length e - 1) (drop 1 e))) (first_of (here (farthest (n - 1)) fresh t e) best) ≡ all
+search_more n fresh t e best all pos f le h =
     let next : Option ℕ = farthest (n - 1) (not (get_or e 0 0 == 44)) (take (length e - 1) (drop 1 e)) in
-    let whole : farthest n fresh t ≡ first_of next found = farthest_at n fresh t e pos f ∙ (behind_some (farthest (n - 1)) fresh t e le ∙ ap (λ (o : Option ℕ). first_of next o) (sym g)) in
+    let found : Option ℕ = here (farthest (n - 1)) fresh t e in
+    let whole : farthest n fresh t ≡ first_of next found = farthest_at n fresh t e pos f ∙ behind_some (farthest (n - 1)) fresh t e le in
     sym (first_assoc next found best) ∙ (ap (λ (o : Option ℕ). first_of o best) (sym whole) ∙ h)
+
+pub found_within : {E : Type 0} (n : ℕ) (fresh : Bool) (t : List ℕ) (r : Result (Option ℕ) E) → IfOk r (λ o. o ≡ farthest n fresh t) → IfOk r (λ o. IfSome o (λ k. k ≤ length t))
+found_within n fresh t (Ok o) h = farthest_within n fresh t o h
+found_within n fresh t (Err e) h = tt
 
 -- ---- no place behind the one that was found
 

@@ -11,7 +11,7 @@ use Rattle.wm_grammar.specs.declared.opening.Opening.TheVariants as openings
 use Rattle.wm_grammar.specs.Pieces.{◌>>=◌, first_of, is_nil, is_end, is_gap, breaks_word, until, from, has, skip, trim_end, ends, word, after, is_word, argument, unquote}
 use Rattle.wm_grammar.specs.Forms.{verb_of, plain_form}
 use Rattle.wm_grammar.specs.Openings.{Opened, opened, closed, bare, text_at, made, word_at, past_keyword_to, renamed, before_rest, finished, first_finished, verb_command, command_at}
-use Rattle.wm_grammar.proofs.Cuts.{Cut, Suffix, suffix_refl, suffix_cons, suffix_trans, cut_suffix, cut_long, until_cut, from_cut, from_suffix, from_cut_kept, skip_cut, skip_cut_kept, skip_suffix, ends_cut, Ext, Late, Outcome, AllSome, outcome_bind, Closing, unquote_closing, unquote_cut, outcome_if, if_some}
+use Rattle.wm_grammar.proofs.Cuts.{Cut, Suffix, suffix_refl, suffix_cons, suffix_trans, cut_suffix, behind_other, cut_long, until_cut, from_cut, from_suffix, from_cut_kept, skip_cut, skip_cut_kept, skip_suffix, ends_cut, Ext, Late, Outcome, AllSome, outcome_bind, Closing, unquote_closing, unquote_cut, outcome_if, if_some}
 
 -- ---- each value that is there
 
@@ -35,11 +35,11 @@ pub some_at : {A : Type 0} (P : A → Type 0) (o : Option A) (x : A) → AllSome
 some_at P None x h e = absurd cc
 some_at P (Some y) x h e = let same : y ≡ x = cc in subst P same h
 
-ext_if : {A : Type 0} (b : Bool) (a : A) (r w : List ℕ) → (if b then Some (a, r ++ w) else None) ≡ Ext w (if b then Some (a, r) else None)
+pub ext_if : {A : Type 0} (b : Bool) (a : A) (r w : List ℕ) → (if b then Some (a, r ++ w) else None) ≡ Ext w (if b then Some (a, r) else None)
 ext_if true a r w = refl
 ext_if false a r w = refl
 
-ext_unless : {A : Type 0} (b : Bool) (a : A) (r w : List ℕ) → (if b then None else Some (a, r ++ w)) ≡ Ext w (if b then None else Some (a, r))
+pub ext_unless : {A : Type 0} (b : Bool) (a : A) (r w : List ℕ) → (if b then None else Some (a, r ++ w)) ≡ Ext w (if b then None else Some (a, r))
 ext_unless true a r w = refl
 ext_unless false a r w = refl
 
@@ -55,14 +55,14 @@ closed_suffix x = if_some (Tail x.1) (ends (skip x.1)) (Some (x.0, skip x.1)) No
 closed_cut : (w : List ℕ) (x : List ℕ × List ℕ) → Cut x.1 → Outcome w (closed x) (closed (x.0, x.1 ++ w))
 closed_cut w x h = inl (rw (skip_cut x.1 w h, ends_cut (skip x.1) w (skip_cut_kept x.1 h)) (ext_if (ends (skip x.1)) x.0 (skip x.1) w))
 
-behind_quote : (c : ℕ) (r : List ℕ) → Cut (c ∷ r) → c ≡ 34 → Cut r
-behind_quote c [] h e = absurd (omega arith)
-behind_quote c (d ∷ r) h e = h
+-- behind an opening quote
+pub behind_quote : (c : ℕ) (r : List ℕ) → Cut (c ∷ r) → (c == 34) ≡ true → Cut r
+behind_quote c r h e = behind_other c r h (λ f. omega (arith, f, eqb-true c 34 e))
 
 closing_cut : (y : List ℕ) (x : List ℕ × List ℕ) → Cut y → unquote y ≡ Some x → Cut x.1
 closing_cut y x h e =
     let k = some_at (Closing y) (unquote y) x (unquote_closing y) e in
-    behind_quote 34 x.1 (cut_suffix (34 ∷ x.1) y h (k.0, k.1) (omega arith)) refl
+    behind_other 34 x.1 (cut_suffix (34 ∷ x.1) y h (k.0, k.1) (omega arith)) (λ f. absurd (omega (arith, f)))
 
 closing_suffix : (y : List ℕ) (x : List ℕ × List ℕ) → Closing y x → Suffix x.1 y
 closing_suffix y x k = (k.0 ++ 34 ∷ [], k.1 ∙ sym (append_assoc k.0 (34 ∷ []) x.1))
@@ -76,7 +76,7 @@ quoted_cut y w h = outcome_bind w (unquote y) (unquote (y ++ w)) closed (unquote
 text_cut : (one : Bool) (s w : List ℕ) → Cut s → Outcome w (text_at one s) (text_at one (s ++ w))
 unfolding text_at
 text_cut one [] w h = elim h [ ]
-text_cut one (c ∷ r) w h = outcome_if w (c == 34) (unquote r >>= closed) _ (unquote (r ++ w) >>= closed) _ (λ e. quoted_cut r w (behind_quote c r h (eqb-true c 34 e)))
+text_cut one (c ∷ r) w h = outcome_if w (c == 34) (unquote r >>= closed) _ (unquote (r ++ w) >>= closed) _ (λ e. quoted_cut r w (behind_quote c r h e))
     (λ e. inl (rw (until_cut is_end refl (c ∷ r) w h, from_cut is_end refl (c ∷ r) w h) (ext_unless (is_nil (trim_end (until is_end (c ∷ r))) || (one && has breaks_word (trim_end (until is_end (c ∷ r))))) (trim_end (until is_end (c ∷ r))) (from is_end (c ∷ r)) w)))
 
 bare_suffix : (one : Bool) (x r s : List ℕ) → Suffix r s → AllSome (Tail s) (bare one x r)
@@ -94,7 +94,7 @@ text_suffix one (c ∷ r) = if_some (Tail (c ∷ r)) (c == 34) (unquote r >>= cl
 word_cut : (s w : List ℕ) → Cut s → Outcome w (word_at s) (word_at (s ++ w))
 unfolding word_at
 word_cut [] w h = elim h [ ]
-word_cut (c ∷ r) w h = outcome_if w (c == 34) (unquote r) _ (unquote (r ++ w)) _ (λ e. unquote_cut r w (behind_quote c r h (eqb-true c 34 e)))
+word_cut (c ∷ r) w h = outcome_if w (c == 34) (unquote r) _ (unquote (r ++ w)) _ (λ e. unquote_cut r w (behind_quote c r h e))
     (λ e. inl (rw (until_cut is_gap refl (c ∷ r) w h, from_cut is_gap refl (c ∷ r) w h) (ext_unless (is_nil (until is_gap (c ∷ r)) || has breaks_word (until is_gap (c ∷ r))) (until is_gap (c ∷ r)) (from is_gap (c ∷ r)) w)))
 
 word_suffix : (s : List ℕ) → AllSome (Tail s) (word_at s)
@@ -117,7 +117,7 @@ word_kept [] x h e = elim h [ ]
 word_kept (c ∷ r) x h e = by (c == 34) refl e
   where
     by : (b : Bool) → (c == 34) ≡ b → (if b then unquote r else (if is_nil (until is_gap (c ∷ r)) || has breaks_word (until is_gap (c ∷ r)) then None else Some (until is_gap (c ∷ r), from is_gap (c ∷ r)))) ≡ Some x → Cut x.1
-    by true f e = closing_cut r x (behind_quote c r h (eqb-true c 34 f)) e
+    by true f e = closing_cut r x (behind_quote c r h f) e
     by false f e = word_kept_plain (c ∷ r) x h (is_nil (until is_gap (c ∷ r)) || has breaks_word (until is_gap (c ∷ r))) e
 
 abbrev Longer : List ℕ → Option (List ℕ) → Option (List ℕ)
@@ -185,7 +185,7 @@ renamed_suffix s = bind_some (Tail s) (Tail s) (word_at s) to_named (word_suffix
 
 -- ---- finishing a command
 
-map_ext : (m : Option Command) (r w : List ℕ) → option_map (before_rest (r ++ w)) m ≡ Ext w (option_map (before_rest r) m)
+pub map_ext : {A : Type 0} (m : Option A) (r w : List ℕ) → option_map (before_rest (r ++ w)) m ≡ Ext w (option_map (before_rest r) m)
 map_ext None r w = refl
 map_ext (Some c) r w = refl
 
@@ -333,7 +333,7 @@ quoted_kept y h = bind_some (λ x. unquote y ≡ Some x) Kept (unquote y) closed
 text_kept : (one : Bool) (s : List ℕ) → Cut s → AllSome Kept (text_at one s)
 unfolding text_at
 text_kept one [] h = elim h [ ]
-text_kept one (c ∷ r) h = if_some Kept (c == 34) (unquote r >>= closed) (bare one (trim_end (until is_end (c ∷ r))) (from is_end (c ∷ r))) (λ e. quoted_kept r (behind_quote c r h (eqb-true c 34 e)))
+text_kept one (c ∷ r) h = if_some Kept (c == 34) (unquote r >>= closed) (bare one (trim_end (until is_end (c ∷ r))) (from is_end (c ∷ r))) (λ e. quoted_kept r (behind_quote c r h e))
     (λ e. if_some Kept (is_nil (trim_end (until is_end (c ∷ r))) || (one && has breaks_word (trim_end (until is_end (c ∷ r))))) None (Some (trim_end (until is_end (c ∷ r)), from is_end (c ∷ r))) (λ f. tt) (λ f. from_cut_kept is_end refl (c ∷ r) h))
 
 map_kept : (m : Option Command) (r : List ℕ) → Cut r → AllSome Kept (option_map (before_rest r) m)

@@ -8,7 +8,7 @@ use Rattle.wm_grammar.specs.Pieces.{◌>>=◌, is_nil, is_blank, ends_name, ends
 use Rattle.wm_grammar.specs.Openings.{before_rest}
 use Rattle.wm_grammar.specs.Criteria.{key_of, value_at, valued_at, key_at, place_of, has_place, ends_key, closed_keys, and_keys, keys_at, criteria_at, flag_words, name_words}
 use Rattle.wm_grammar.specs.Reading.{criteria_of, criteria_part}
-use Rattle.wm_grammar.proofs.Cuts.{Cut, Suffix, suffix_refl, suffix_cons, suffix_trans, cut_suffix, cut_long, from_suffix, skip_cut, skip_cut_kept, skip_suffix, AllSome, if_some}
+use Rattle.wm_grammar.proofs.Cuts.{Cut, Suffix, suffix_refl, suffix_cons, suffix_trans, cut_suffix, behind_other, cut_long, from_suffix, skip_cut, skip_cut_kept, skip_suffix, AllSome, if_some}
 use Rattle.wm_grammar.proofs.CutCommands.{bind_some, map_some, each_some, any_some, Tail, unquote_suffix}
 
 -- ---- what is read of the front is read of the whole text
@@ -110,7 +110,7 @@ name_then None v w = tt
 name_then (Some name) v w = valued_grows name v w
 
 -- what key_at does with a name and what follows it
-abbrev key_with : List ℕ → List ℕ → Option (Key × List ℕ)
+abbrev pub key_with : List ℕ → List ℕ → Option (Key × List ℕ)
 key_with name rest = if starts 61 rest then choice name_words name >>= (λ n. valued_at n (drop 1 rest)) else option_map (before_rest rest) (choice flag_words name)
 
 with_grows : (name rest w : List ℕ) → 1 ≤ length rest → GrowsLong w (key_with name rest) (key_with name (rest ++ w))
@@ -137,7 +137,7 @@ value_suffix (c ∷ r) = if_some (Tail (c ∷ r)) (c == 34) (unquote r) (if is_n
     (λ e. each_some (Tail r) (Tail (c ∷ r)) (unquote r) (unquote_suffix r) (λ x k. suffix_cons c x.1 r k))
     (λ e. if_some (Tail (c ∷ r)) (is_nil (until ends_value (c ∷ r))) None (Some (until ends_value (c ∷ r), from ends_value (c ∷ r))) (λ f. tt) (λ f. from_suffix ends_value (c ∷ r)))
 
-key_map_suffix : (o : Option Key) (r s : List ℕ) → Suffix r s → AllSome (Tail s) (option_map (before_rest r) o)
+pub key_map_suffix : (o : Option Key) (r s : List ℕ) → Suffix r s → AllSome (Tail s) (option_map (before_rest r) o)
 key_map_suffix None r s h = tt
 key_map_suffix (Some k) r s h = h
 
@@ -149,11 +149,14 @@ behind_suffix : (r s : List ℕ) → Suffix r s → Suffix (drop 1 r) s
 behind_suffix [] s h = h
 behind_suffix (c ∷ r) s h = suffix_trans r (c ∷ r) s (suffix_cons c r r (suffix_refl r)) h
 
+pub key_behind : (name rest : List ℕ) → AllSome (Tail rest) (key_with name rest)
+key_behind name rest = if_some (Tail rest) (starts 61 rest) _ _
+    (λ e. bind_some (λ (n : KeyName). Unit {0}) (Tail rest) (choice name_words name) (λ n. valued_at n (drop 1 rest)) (any_some (choice name_words name)) (λ n u. each_some (Tail (drop 1 rest)) (Tail rest) (valued_at n (drop 1 rest)) (valued_suffix n (drop 1 rest)) (λ z t. suffix_trans z.1 (drop 1 rest) rest t (behind_suffix rest rest (suffix_refl rest)))))
+    (λ e. key_map_suffix (choice flag_words name) rest rest (suffix_refl rest))
+
 pub key_suffix : (s : List ℕ) → AllSome (Tail s) (key_at s)
 unfolding key_at
-key_suffix s = if_some (Tail s) (starts 61 (from ends_name s)) _ _
-    (λ e. bind_some (λ (n : KeyName). Unit {0}) (Tail s) (choice name_words (until ends_name s)) (λ name. valued_at name (drop 1 (from ends_name s))) (any_some (choice name_words (until ends_name s))) (λ name u. each_some (Tail (drop 1 (from ends_name s))) (Tail s) (valued_at name (drop 1 (from ends_name s))) (valued_suffix name (drop 1 (from ends_name s))) (λ z t. suffix_trans z.1 (drop 1 (from ends_name s)) s t (behind_suffix (from ends_name s) s (from_suffix ends_name s)))))
-    (λ e. key_map_suffix (choice flag_words (until ends_name s)) (from ends_name s) s (from_suffix ends_name s))
+key_suffix s = each_some (Tail (from ends_name s)) (Tail s) (key_at s) (key_behind (until ends_name s) (from ends_name s)) (λ z t. suffix_trans z.1 (from ends_name s) s t (from_suffix ends_name s))
 
 -- ---- keys one after another
 
@@ -188,7 +191,7 @@ keys_grow (suc n) seen s w h =
     (closed_grows seen (skip s) w (cut_long (skip s) cut))
     (and_grows (keys_at n) seen (skip s) w cut (λ seen s k. keys_grow n seen s w k) (key_at (skip s)) (key_at (skip s ++ w)) (key_suffix (skip s)) (key_grows (skip s) w)))
 
-keys_suffix : (n : ℕ) (seen : List Key) (s : List ℕ) → AllSome (Tail s) (keys_at n seen s)
+pub keys_suffix : (n : ℕ) (seen : List Key) (s : List ℕ) → AllSome (Tail s) (keys_at n seen s)
 unfolding keys_at
 keys_suffix zero seen s = each_some (Tail (skip s)) (Tail s) (closed_keys seen (skip s)) (closed_keys_suffix seen (skip s)) (λ z t. suffix_trans z.1 (skip s) s t (skip_suffix s))
 keys_suffix (suc n) seen s = if_some (Tail s) (starts 93 (skip s)) (closed_keys seen (skip s)) (key_at (skip s) >>= and_keys (keys_at n) seen)
@@ -204,15 +207,15 @@ keys_part : (w : List ℕ) (front all : Option (List Key × List ℕ)) → Grows
 keys_part w None all g = tt
 keys_part w (Some x) all g = ap (option_map (λ x. (criteria_of x.0, x.1))) g
 
-behind_bracket : (c : ℕ) (r : List ℕ) → Cut (c ∷ r) → c ≡ 91 → Cut r
-behind_bracket c [] h e = absurd (omega arith)
-behind_bracket c (d ∷ r) h e = h
+-- behind the opening bracket
+pub behind_bracket : (c : ℕ) (r : List ℕ) → Cut (c ∷ r) → (c == 91) ≡ true → Cut r
+behind_bracket c r h e = behind_other c r h (λ f. omega (arith, f, eqb-true c 91 e))
 
 pub criteria_grow : (s w : List ℕ) → Cut s → Grows w (criteria_part s) (criteria_part (s ++ w))
 unfolding criteria_part criteria_at
 criteria_grow [] w h = elim h [ ]
 criteria_grow (c ∷ r) w h = grows_if w (c == 91) (option_map (λ x. (criteria_of x.0, x.1)) (keys_at 16 [] r)) (Some (None, c ∷ r)) (option_map (λ x. (criteria_of x.0, x.1)) (keys_at 16 [] (r ++ w))) (Some (None, c ∷ r ++ w))
-    (λ e. keys_part w (keys_at 16 [] r) (keys_at 16 [] (r ++ w)) (keys_grow 16 [] r w (behind_bracket c r h (eqb-true c 91 e)))) (λ e. refl)
+    (λ e. keys_part w (keys_at 16 [] r) (keys_at 16 [] (r ++ w)) (keys_grow 16 [] r w (behind_bracket c r h e))) (λ e. refl)
 
 pub criteria_suffix : (s : List ℕ) → AllSome (Tail s) (criteria_part s)
 unfolding criteria_part criteria_at

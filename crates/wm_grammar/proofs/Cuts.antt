@@ -40,6 +40,11 @@ cut_behind (c ∷ a) r h le = cut_behind a r (cut_tail c (a ++ r) h (omega (arit
 pub cut_suffix : (r u : List ℕ) → Cut u → Suffix r u → 1 ≤ length r → Cut r
 cut_suffix r u h s le = cut_behind s.0 r (subst (λ (t : List ℕ). Cut t) s.1 h) le
 
+-- behind a byte that is no ;
+pub behind_other : (c : ℕ) (r : List ℕ) → Cut (c ∷ r) → (c ≡ 59 → ⊥) → Cut r
+behind_other c [] h other = absurd (other h)
+behind_other c (d ∷ r) h other = h
+
 pub cut_long : (u : List ℕ) → Cut u → 1 ≤ length u
 cut_long [] h = elim h [ ]
 cut_long (c ∷ r) h = omega arith
@@ -139,6 +144,9 @@ Outcome w front all = (all ≡ Ext w front) ⊎ ((front ≡ None) × Late w all)
 
 pub quoted_more : (w r s : List ℕ) → Quoted w r → Suffix s r → Quoted w s
 quoted_more w r s q t = (q.0, q.1 ++ t.0, q.2 ∙ ap (λ (u : List ℕ). q.0 ++ 34 ∷ u) (ap (λ (u : List ℕ). q.1 ++ u) t.1 ∙ sym (append_assoc q.1 t.0 s)))
+
+pub quoted_length : (w r : List ℕ) → Quoted w r → length r ≤ length w
+quoted_length w r q = omega (arith, ap length q.2, length-append q.0 (34 ∷ (q.1 ++ r)), length-append q.1 r)
 
 -- ---- each value that is there
 

@@ -7,18 +7,20 @@ use Rattle.wm_grammar.specs.Pieces.{◌>>=◌, until, from, skip}
 use Rattle.wm_grammar.specs.Forms.{verb_of}
 use Rattle.wm_grammar.specs.Pieces.{is_word}
 use Rattle.wm_grammar.specs.Openings.{command_at}
-use Rattle.wm_grammar.specs.Reading.{criteria_part}
+use Rattle.wm_grammar.specs.Reading.{criteria_of, criteria_part}
+use Rattle.wm_grammar.specs.Criteria.{criteria_at}
+use Rattle.std.proofs.lemmas.Bool.{eqb-true, false≢true}
 use Rattle.wm_grammar.proofs.Cuts.{Cut, Suffix, suffix_refl, suffix_trans, cut_suffix, skip_cut, skip_cut_kept, skip_suffix, Quoted, AllSome, if_some}
-use Rattle.wm_grammar.proofs.CutCommands.{bind_some, map_some, each_some, Tail, Weak, Kept, command_weak, command_suffix, command_kept}
+use Rattle.wm_grammar.proofs.CutCommands.{bind_some, map_some, each_some, some_at, Tail, Weak, Kept, command_weak, command_suffix, command_kept}
 use Rattle.wm_grammar.proofs.CutCriteria.{Grows, criteria_grow, criteria_suffix}
-use Rattle.wm_grammar.specs.Turns.{command_turn, front_turn, turn_at}
+use Rattle.wm_grammar.specs.Turns.{command_turn, front_turn, turn_at, past_criteria, command_part}
 
-abbrev Told : Command × List ℕ → List ℕ
+abbrev pub Told : Command × List ℕ → List ℕ
 Told x = x.1
 
 -- ---- where a turn stops
 
-command_turn_suffix : (s : List ℕ) → AllSome (λ e. Suffix e s) (command_turn s)
+pub command_turn_suffix : (s : List ℕ) → AllSome (λ e. Suffix e s) (command_turn s)
 command_turn_suffix s = map_some (Tail s) (λ e. Suffix e s) (command_at s) (λ x. x.1) (command_suffix s) (λ x t. t)
 
 front_turn_suffix : (s : List ℕ) → AllSome (λ e. Suffix e s) (front_turn s)
@@ -49,12 +51,12 @@ no_command : command_at [] ≡ None
 unfolding command_at until from verb_of is_word
 no_command = refl
 
-nothing_behind : (e : List ℕ) → command_turn (skip []) ≡ Some e → ⊥
+pub none_some : (e : List ℕ) → None ≡ Some e → ⊥
+none_some e h = cc
+
+pub nothing_behind : (e : List ℕ) → command_turn (skip []) ≡ Some e → ⊥
 unfolding skip
 nothing_behind e h = let none : command_turn [] ≡ None = ap (option_map Told) no_command in absurd (none_some e (sym none ∙ h))
-  where
-    none_some : (e : List ℕ) → None ≡ Some e → ⊥
-    none_some e h = cc
 
 behind_criteria : (s w e r : List ℕ) → Cut s → Suffix r s → command_turn (skip r) ≡ Some e → Turned w (command_turn (skip (r ++ w))) e
 behind_criteria s w e [] h t f = absurd (nothing_behind e f)
@@ -99,3 +101,73 @@ front_kept (c ∷ r) h = if_some (λ e. Cut e) (c == 59) (Some (c ∷ r)) _ (λ 
 pub turn_kept : (fresh : Bool) (s : List ℕ) → Cut s → AllSome (λ e. Cut e) (turn_at fresh s)
 turn_kept true s h = front_kept (skip s) (skip_cut_kept s h)
 turn_kept false s h = command_turn_kept (skip s) (skip_cut_kept s h)
+
+-- ---- where the command of such a turn begins
+
+-- the text from its command on, which has the ;
+pub record Begun (fresh : Bool) (u w : List ℕ) : Type 0 where
+  pub start : List ℕ
+  pub tail : Suffix start u
+  pub cut : Cut start
+  pub whole : command_part fresh (u ++ w) ≡ start ++ w
+
+no_bracket : (c : ℕ) (r : List ℕ) → (c == 59) ≡ true → criteria_part (c ∷ r) ≡ None → ⊥
+unfolding criteria_part
+no_bracket c r e h = let semi : c ≡ 59 = eqb-true c 59 e in absurd (let none : criteria_part (59 ∷ r) ≡ None = subst (λ (d : ℕ). criteria_part (d ∷ r) ≡ None) semi h in cc)
+
+begun_long : (s e k : List ℕ) → Cut s → Suffix k s → command_turn (skip k) ≡ Some e → Cut k
+begun_long s e [] h t f = absurd (nothing_behind e f)
+begun_long s e (c ∷ r) h t f = cut_suffix (c ∷ r) s h t (omega arith)
+
+semi_start : (c : ℕ) (r : List ℕ) (k : Option Criteria × List ℕ) → (c == 59) ≡ true → criteria_part (c ∷ r) ≡ Some k → k.1 ≡ c ∷ r
+unfolding criteria_part
+semi_start c r k e h = by (c == 91) other h
+  where
+    other : (c == 91) ≡ false
+    other = ap (λ (x : ℕ). x == 91) (eqb-true c 59 e)
+
+    by : (b : Bool) → b ≡ false → (if b then option_map (λ x. (criteria_of x.0, x.1)) (criteria_at r) else Some (None, c ∷ r)) ≡ Some k → k.1 ≡ c ∷ r
+    by true f h = absurd (false≢true (sym f))
+    by false f h = cc
+
+begun_front : (w : List ℕ) (c : ℕ) (r e : List ℕ) → Cut (c ∷ r) → front_turn (c ∷ r) ≡ Some e → (k : Option Criteria × List ℕ) → criteria_part (c ∷ r) ≡ Some k → Cut k.1
+begun_front w c r e h f k g = by (c == 59) refl f
+  where
+    tail : Suffix k.1 (c ∷ r)
+    tail = some_at (Tail (c ∷ r)) (criteria_part (c ∷ r)) k (criteria_suffix (c ∷ r)) g
+
+    by : (b : Bool) → (c == 59) ≡ b → (if b then Some (c ∷ r) else criteria_part (c ∷ r) >>= λ k. command_turn (skip k.1)) ≡ Some e → Cut k.1
+    by true q f = rw (semi_start c r k q g) h
+    by false q f = begun_long (c ∷ r) e k.1 h tail (sym (ap (λ (o : Option (Option Criteria × List ℕ)). o >>= λ k. command_turn (skip k.1)) g) ∙ f)
+
+begun_none : (c : ℕ) (r e : List ℕ) → front_turn (c ∷ r) ≡ Some e → criteria_part (c ∷ r) ≡ None → ⊥
+begun_none c r e f g = by (c == 59) refl f
+  where
+    by : (b : Bool) → (c == 59) ≡ b → (if b then Some (c ∷ r) else criteria_part (c ∷ r) >>= λ k. command_turn (skip k.1)) ≡ Some e → ⊥
+    by true q f = no_bracket c r q g
+    by false q f = absurd (none_some e (sym (ap (λ (o : Option (Option Criteria × List ℕ)). o >>= λ k. command_turn (skip k.1)) g) ∙ f))
+
+    none_some : (e : List ℕ) → None ≡ Some e → ⊥
+    none_some e h = cc
+
+begun_skipped : (u w : List ℕ) (s e : List ℕ) → skip u ≡ s → Cut s → Cut u → front_turn s ≡ Some e → Begun true u w
+unfolding command_part
+begun_skipped u w [] e same h cut f = elim h [ ]
+begun_skipped u w (c ∷ r) e same h cut f = by (criteria_part (c ∷ r)) refl (criteria_grow (c ∷ r) w h)
+  where
+    whole : skip (u ++ w) ≡ c ∷ r ++ w
+    whole = skip_cut u w cut ∙ ap (λ (t : List ℕ). t ++ w) same
+
+    by : (o : Option (Option Criteria × List ℕ)) → criteria_part (c ∷ r) ≡ o → Grows w o (criteria_part (c ∷ r ++ w)) → Begun true u w
+    by None g grows = absurd (begun_none c r e f g)
+    by (Some k) g grows = record {
+      start = k.1;
+      tail = suffix_trans k.1 (skip u) u (subst (λ (t : List ℕ). Suffix k.1 t) (sym same) (some_at (Tail (c ∷ r)) (criteria_part (c ∷ r)) k (criteria_suffix (c ∷ r)) g)) (skip_suffix u);
+      cut = begun_front w c r e h f k g;
+      whole = ap (λ (t : List ℕ). past_criteria (u ++ w) (criteria_part t)) whole ∙ ap (past_criteria (u ++ w)) grows;
+    }
+
+pub begun : (fresh : Bool) (u w e : List ℕ) → Cut u → turn_at fresh u ≡ Some e → Begun fresh u w
+unfolding command_part
+begun true u w e h f = begun_skipped u w (skip u) e refl (skip_cut_kept u h) h f
+begun false u w e h f = record { start = u; tail = suffix_refl u; cut = h; whole = refl }

@@ -1,7 +1,7 @@
 -- A search for the farthest place up to which the front of a text may read and end with ;
-use Rattle.std.specs.Prelude.{ℕ, zero, suc, ◌+◌, ◌-◌, Bool, not, ◌==◌, if◌then◌else◌, List, [], ◌∷◌, length, take, Option, Some, None, option_map}
+use Rattle.std.specs.Prelude.{ℕ, zero, suc, ◌+◌, ◌-◌, Bool, not, ◌==◌, if◌then◌else◌, List, [], ◌∷◌, length, take, drop, Option, Some, None, option_map}
 use Rattle.wm_grammar.specs.Pieces.{◌>>=◌, is_semicolon, first_of, has}
-use Rattle.wm_grammar.specs.Turns.{turn_at}
+use Rattle.wm_grammar.specs.Turns.{turn_at, command_part}
 
 -- a byte before what stands before the last " behind it, or nothing where it is that "
 abbrev pub before_quote : ℕ → Option (List ℕ) → Option (List ℕ)
@@ -17,13 +17,14 @@ before_last_quote (c ∷ r) = before_quote c (before_last_quote r)
 abbrev pub Search : Type 0
 Search = Bool → List ℕ → Option ℕ
 
--- the text before the last quote that the turn closed, which stopped at e; a place may lie there only behind a ;
-unfoldable pub cut_off : List ℕ → List ℕ → Option (List ℕ)
-cut_off t e = before_last_quote (take (length t - length e) t) >>= λ b. if has is_semicolon b then Some b else None
+-- the text before the last quote that the turn closed, which stopped at e; a place may lie there only behind a ; of
+-- the command, whose text from there on is c
+unfoldable pub cut_off : List ℕ → List ℕ → List ℕ → Option (List ℕ)
+cut_off t c e = before_last_quote (take (length t - length e) t) >>= λ b. if has is_semicolon (drop (length t - length c) b) then Some b else None
 
 -- a place inside the turn that stopped at e: there the quote that it closed is cut off
 unfoldable pub inside : Search → Bool → List ℕ → List ℕ → Option ℕ
-inside go fresh t e = cut_off t e >>= λ b. option_map (λ k. k + (length t - length b)) (go fresh b)
+inside go fresh t e = cut_off t (command_part fresh t) e >>= λ b. option_map (λ k. k + (length t - length b)) (go fresh b)
 
 -- a place at the end of the turn, behind its ;, or else inside it
 unfoldable pub here : Search → Bool → List ℕ → List ℕ → Option ℕ

@@ -11,3 +11,4 @@ pub mod Spelling
 pub mod Readable
 pub mod Turns
 pub mod Farthest
+pub mod Last

@@ -168,14 +168,26 @@ resize_text grow side px ppt = ((grow_text grow ++ side_text side) ++ (codes " "
 unfoldable pub gaps_text : Bool → Bool → GapOp → ℕ → List ℕ
 gaps_text outer all op px = (gap_text outer ++ scope_text all) ++ (op_text op ++ decimal px)
 
+-- the keywords of a command that has no argument; nothing for any other
+abbrev pub bare_text : Command → List ℕ
+bare_text commands.Focus = codes "focus"
+bare_text commands.FocusParent = codes "focus parent"
+bare_text commands.FocusChild = codes "focus child"
+bare_text commands.MoveToScratchpad = codes "move scratchpad"
+bare_text commands.MoveCenter = codes "move position center"
+bare_text commands.CycleBorder = codes "border toggle"
+bare_text commands.ScratchpadShow = codes "scratchpad show"
+bare_text commands.Kill = codes "kill"
+bare_text commands.Nop = codes "nop"
+bare_text commands.Idle = codes "exec"
+bare_text commands.Exit = codes "exit"
+bare_text c = []
+
 unfoldable pub spelled : Command → List ℕ
 spelled (commands.Split a) = split_text a
 spelled (commands.SetLayout a) = layout_text a
 spelled (commands.CycleLayout a) = cycle_text a
-spelled commands.Focus = codes "focus"
 spelled (commands.FocusDir d) = codes "focus " ++ dir_text d
-spelled commands.FocusParent = codes "focus parent"
-spelled commands.FocusChild = codes "focus child"
 spelled (commands.FocusKind k) = kind_text k
 spelled (commands.FocusOutput o) = codes "focus output " ++ output_text o
 spelled (commands.MoveDir d n) = move_text d n
@@ -183,30 +195,23 @@ spelled (commands.MoveToWorkspace t) = codes "move container to workspace " ++ t
 spelled (commands.MoveToOutput o) = codes "move container to output " ++ output_text o
 spelled (commands.MoveWorkspace o) = codes "move workspace to output " ++ output_text o
 spelled (commands.MoveToMark m) = codes "move container to mark " ++ quoted m
-spelled commands.MoveToScratchpad = codes "move scratchpad"
 spelled (commands.MovePosition x y) = position_text x y
-spelled commands.MoveCenter = codes "move position center"
 spelled (commands.Swap a) = codes "swap container with " ++ swap_text a
 spelled (commands.Resize grow side px ppt) = resize_text grow side px ppt
 spelled (commands.ResizeSet w h) = sides_text w h
 spelled (commands.Floating a) = codes "floating " ++ switch_text a
 spelled (commands.Fullscreen a) = codes "fullscreen " ++ switch_text a
 spelled (commands.SetBorder b) = border_text b
-spelled commands.CycleBorder = codes "border toggle"
 spelled (commands.Gaps outer all op px) = gaps_text outer all op px
 spelled (commands.Sticky a) = codes "sticky " ++ switch_text a
 spelled (commands.Mark add toggle name) = mark_text add toggle ++ quoted name
 spelled (commands.Unmark m) = unmark_text m
 spelled (commands.Workspace t) = codes "workspace " ++ target_text t
 spelled (commands.Rename was name) = rename_text was name
-spelled commands.ScratchpadShow = codes "scratchpad show"
 spelled (commands.Mode m) = codes "mode " ++ quoted m
 spelled (commands.AppendLayout l) = codes "append_layout " ++ quoted l
 spelled (commands.TitleFormat t) = codes "title_format " ++ quoted t
-spelled commands.Kill = codes "kill"
-spelled commands.Nop = codes "nop"
-spelled commands.Idle = codes "exec"
-spelled commands.Exit = codes "exit"
+spelled c = bare_text c
 
 -- ---- keys
 

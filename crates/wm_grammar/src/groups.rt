@@ -15,7 +15,7 @@ use wm_base::{List, NoMemory};
 fn commands_at(alloc: Global, text: &[u8]) -> Result<Option<(Vec<Command>, &[u8])>, NoMemory>
     ensures { IfOk result (λ o. option_map (λ x. (x.0.items, x.1.now)) o ≡ commands_at (length text.now) text.now) }
 {
-    let mut commands = Vec::new(alloc);
+    let mut commands = Vec::with_capacity(alloc, 1)?;
     let mut rest = text;
     let mut left = text.len();
     while left > 0 {

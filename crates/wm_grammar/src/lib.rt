@@ -32,6 +32,16 @@ pub use refusal::ReadRefusal;
 pub use texts::{one_batch, one_reach, printed_again, read, readable};
 
 #[cfg(test)]
+mod corner_tests;
+#[cfg(test)]
+mod form_tests;
+#[cfg(test)]
+mod key_tests;
+#[cfg(test)]
+mod piece_tests;
+#[cfg(test)]
 mod size_tests;
 #[cfg(test)]
-mod tests;
+mod target_form_tests;
+#[cfg(test)]
+mod told;

@@ -6,8 +6,9 @@ ghost use Rattle.wm_grammar.specs.Spelling.{spelled, quoted, output_text, target
 use crate::arguments::{GapOp, OutArg, Side, SwapArg, Target};
 use crate::command::Command;
 use crate::writing::{
-    cycle_text, dir_text, gap_text, grow_text, kind_text, layout_text, mark_text, op_text, put,
-    put_integer, put_number, put_quoted, scope_text, side_text, split_text, switch_text,
+    bare_text, cycle_text, dir_text, gap_text, grow_text, kind_text, layout_text, mark_text,
+    op_text, put, put_integer, put_number, put_quoted, scope_text, side_text, split_text,
+    switch_text,
 };
 use wm_base::{Border, Dir, NoMemory, Text};
 
@@ -20,10 +21,8 @@ pub fn put_command(out: &mut String, command: &Command) -> Result<(), NoMemory>
         Command::Split(arg) => put(out, split_text(*arg)),
         Command::SetLayout(arg) => put(out, layout_text(*arg)),
         Command::CycleLayout(arg) => put(out, cycle_text(*arg)),
-        Command::Focus => put(out, "focus"),
         Command::FocusDir(dir) => put_two(out, "focus ", dir_text(*dir)),
-        Command::FocusParent => put(out, "focus parent"),
-        Command::FocusChild => put(out, "focus child"),
+        Command::Focus | Command::FocusParent | Command::FocusChild => put(out, bare_text(command)),
         Command::FocusKind(kind) => put(out, kind_text(*kind)),
         Command::FocusOutput(output) => put_output(out, "focus output ", output),
         Command::MoveDir(dir, n) => put_move(out, *dir, *n),
@@ -31,9 +30,8 @@ pub fn put_command(out: &mut String, command: &Command) -> Result<(), NoMemory>
         Command::MoveToOutput(output) => put_output(out, "move container to output ", output),
         Command::MoveWorkspace(output) => put_output(out, "move workspace to output ", output),
         Command::MoveToMark(mark) => put_named(out, "move container to mark ", mark),
-        Command::MoveToScratchpad => put(out, "move scratchpad"),
         Command::MovePosition(x, y) => put_position(out, *x, *y),
-        Command::MoveCenter => put(out, "move position center"),
+        Command::MoveCenter | Command::MoveToScratchpad => put(out, bare_text(command)),
         Command::Swap(arg) => put_swap(out, "swap container with ", arg),
         Command::Resize {
             grow,
@@ -45,22 +43,19 @@ pub fn put_command(out: &mut String, command: &Command) -> Result<(), NoMemory>
         Command::Floating(arg) => put_two(out, "floating ", switch_text(*arg)),
         Command::Fullscreen(arg) => put_two(out, "fullscreen ", switch_text(*arg)),
         Command::SetBorder(border) => put_border(out, *border),
-        Command::CycleBorder => put(out, "border toggle"),
         Command::Gaps { outer, all, op, px } => put_gaps(out, *outer, *all, *op, *px),
         Command::Sticky(arg) => put_two(out, "sticky ", switch_text(*arg)),
         Command::Mark { add, toggle, name } => put_named(out, mark_text(*add, *toggle), name),
-        Command::Unmark(None) => put(out, "unmark"),
-        Command::Unmark(Some(mark)) => put_named(out, "unmark ", mark),
+        Command::Unmark(mark) => put_unmark(out, mark),
         Command::Workspace(target) => put_target(out, "workspace ", target),
         Command::Rename(was, name) => put_rename(out, was, name),
-        Command::ScratchpadShow => put(out, "scratchpad show"),
+        Command::CycleBorder | Command::ScratchpadShow => put(out, bare_text(command)),
         Command::Mode(mode) => put_named(out, "mode ", mode),
         Command::AppendLayout(layout) => put_named(out, "append_layout ", layout),
         Command::TitleFormat(format) => put_named(out, "title_format ", format),
-        Command::Kill => put(out, "kill"),
-        Command::Nop => put(out, "nop"),
-        Command::Idle => put(out, "exec"),
-        Command::Exit => put(out, "exit"),
+        Command::Kill | Command::Nop | Command::Idle | Command::Exit => {
+            put(out, bare_text(command))
+        }
     }
 }
 
@@ -199,6 +194,15 @@ fn put_border(out: &mut String, border: Border) -> Result<(), NoMemory>
         Border::Normal(n) => put_counted(out, "border normal ", n),
         Border::Pixel(n) => put_counted(out, "border pixel ", n),
         Border::Bare => put(out, "border none"),
+    }
+}
+
+fn put_unmark(out: &mut String, mark: &Option<Text>) -> Result<(), NoMemory>
+    ensures { OnOk result (string_bytes out.new ≡ string_bytes out.old ++ unmark_text mark.now) }
+{
+    match mark {
+        None => put(out, "unmark"),
+        Some(mark) => put_named(out, "unmark ", mark),
     }
 }
 

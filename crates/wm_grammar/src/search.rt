@@ -1,14 +1,25 @@
 //! Searching how far a text may read, turn by turn: to the end of each command, or over a blank group.
-ghost use Rattle.std.specs.Prelude.{◌≡◌, ◌≤◌, length, IfOk, IfSome, option_copied};
+ghost use Rattle.std.specs.Prelude.{◌≡◌, ◌<◌, ◌≤◌, ℕ, length, IfOk, OnOk, IfSome, option_copied};
+ghost use Rattle.std.specs.List.{All};
 ghost use Rattle.wm_grammar.specs.Farthest.{before_last_quote, cut_off, here, farthest};
+ghost use Rattle.wm_grammar.specs.Last.{at_turn, last_of};
 ghost use Rattle.wm_grammar.specs.Pieces.{first_of};
-ghost use Rattle.wm_grammar.specs.Turns.{command_turn, front_turn, turn_at};
+ghost use Rattle.wm_grammar.specs.Turns.{command_turn, front_turn, turn_at, command_part};
 
 use crate::groups::criteria_part;
 use crate::reading::command_at;
-use crate::words::{Stop, skip, starts, stops_in};
+use crate::words::{Stop, past, skip, starts, stops_in};
 use std::alloc::Global;
 use wm_base::NoMemory;
+
+/// A turn: how many may follow it, whether it stands at the front of a group, its text, and where it stopped.
+#[derive(Drop)]
+struct Turn<'a> {
+    left: usize,
+    fresh: bool,
+    text: &'a [u8],
+    end: &'a [u8],
+}
 
 /// What follows the command at the front.
 fn command_turn(alloc: Global, text: &[u8]) -> Result<Option<&[u8]>, NoMemory>
@@ -59,15 +70,31 @@ fn before_last_quote(text: &[u8]) -> Option<&[u8]>
     None
 }
 
-/// What stands before the last quote that a turn closed, where it has a `;`. The turn stopped at `end`.
+/// The text of a turn from its command on.
+#[tactic(auto, unfolding(crate::specs::Turns::command_part))]
+fn command_part(alloc: Global, fresh: bool, text: &[u8]) -> Result<&[u8], NoMemory>
+    ensures { IfOk result (λ c. c.now ≡ command_part fresh text.now) }
+{
+    if !fresh {
+        return Ok(text);
+    }
+    match criteria_part(alloc, skip(text))? {
+        Some((_, rest)) => Ok(rest),
+        None => Ok(text),
+    }
+}
+
+/// What stands before the last quote that a turn closed, where its command has a `;` there. The turn stopped at
+/// `end`.
 #[tactic(auto, unfolding(crate::specs::Farthest::cut_off))]
-fn cut_off<'a>(text: &'a [u8], end: &[u8]) -> Option<&'a [u8]>
-    ensures front { option_copied result ≡ cut_off text.now end.now }
+fn cut_off<'a>(text: &'a [u8], command: &[u8], end: &[u8]) -> Option<&'a [u8]>
+    ensures front { option_copied result ≡ cut_off text.now command.now end.now }
     ensures shorter { IfSome result (λ b. length b.now ≤ length text.now) }
 {
     let turn = &text[..text.len().saturating_sub(end.len())];
     let front = before_last_quote(turn)?;
-    if stops_in(front, Stop::Group) {
+    let behind = past(front, text.len().saturating_sub(command.len()));
+    if stops_in(behind, Stop::Group) {
         Some(front)
     } else {
         None
@@ -89,7 +116,8 @@ fn here(
     if let [b';', more @ ..] = end {
         return Ok(Some(more.len()));
     }
-    let Some(front) = cut_off(text, end) else {
+    let command = command_part(alloc, fresh, text)?;
+    let Some(front) = cut_off(text, command, end) else {
         return Ok(None)
     };
     match farthest(alloc, left, fresh, front)? {
@@ -98,7 +126,8 @@ fn here(
     }
 }
 
-/// The farthest place up to which the text may read and end with `;`, over at most so many turns.
+/// The farthest place up to which the text may read and end with `;`, over at most so many turns. What stands
+/// before a `;` need not be searched again.
 #[cycle(search)]
 pub fn farthest(
     alloc: Global,
@@ -109,29 +138,54 @@ pub fn farthest(
     ensures found { IfOk result (λ o. o ≡ farthest most fresh text.now) }
     ensures within { IfOk result (λ o. IfSome o (λ n. n ≤ length text.now)) }
 {
-    let mut best = None;
+    let mut turns = Vec::new(alloc);
     let mut rest = text;
     let mut at_front = fresh;
     let mut left = most;
     while left > 0 {
         let Some(end) = turn_at(alloc, at_front, rest)? else {
-            return Ok(best)
+            return last_found(alloc, most, turns);
         };
         left -= 1;
-        best = later(here(alloc, left, at_front, rest, end)?, best);
-        let [c, more @ ..] = end else { return Ok(best) };
+        let turn = Turn {
+            left,
+            fresh: at_front,
+            text: rest,
+            end,
+        };
+        keep(&mut turns, turn)?;
+        let [c, more @ ..] = end else {
+            return last_found(alloc, most, turns);
+        };
         at_front = *c != b',';
         rest = more;
     }
-    Ok(best)
+    last_found(alloc, most, turns)
 }
 
-/// The later place where there is one, else the earlier one.
-fn later(found: Option<usize>, best: Option<usize>) -> Option<usize>
-    ensures { result ≡ first_of found best }
+/// Puts a turn behind others, which it leaves out where it ends with `;`.
+fn keep<'a>(turns: &mut Vec<Turn<'a>>, turn: Turn<'a>) -> Result<(), NoMemory>
+    ensures found { OnOk result (last_of turns.new.items ≡ first_of (at_turn turn.entry) (last_of turns.old.items)) }
+    ensures below { OnOk result ((m : ℕ) → All (λ t. t.left < m) turns.old.items → turn.entry.left < m → All (λ t. t.left < m) turns.new.items) }
 {
-    match found {
-        Some(n) => Some(n),
-        None => best,
+    if starts(turn.end, b';') {
+        turns.clear();
     }
+    turns.push(turn)?;
+    Ok(())
+}
+
+/// The place of the last turn that has one.
+#[cycle(search)]
+fn last_found(alloc: Global, most: usize, turns: Vec<Turn>) -> Result<Option<usize>, NoMemory>
+    requires below { All (λ t. t.left < most) turns.items }
+    ensures { IfOk result (λ o. o ≡ last_of turns.entry.items) }
+{
+    let mut turns = turns;
+    while let Some(turn) = turns.pop() {
+        if let Some(n) = here(alloc, turn.left, turn.fresh, turn.text, turn.end)? {
+            return Ok(Some(n));
+        }
+    }
+    Ok(None)
 }

@@ -1,9 +1,9 @@
 //! Reading a text as a batch.
-ghost use Rattle.std.specs.Prelude.{◌≡◌, ◌<◌, ◌≤◌, ℕ, List, false, length, take, IfOk};
+ghost use Rattle.std.specs.Prelude.{◌≡◌, ℕ, List, IfOk};
 ghost use Rattle.wm_grammar.specs.Answer.{IsAnswer};
 ghost use Rattle.wm_grammar.specs.Readable.{IsReadable};
 ghost use Rattle.wm_grammar.specs.Spelling.{spelling};
-ghost use Rattle.wm_grammar.specs.Reading.{Reads, IsReach, is_whole};
+ghost use Rattle.wm_grammar.specs.Reading.{Reads, IsReach};
 ghost use Rattle.wm_grammar.specs.declared.batch.Batch.{Batch};
 
 use crate::batch::Batch;
@@ -30,42 +30,14 @@ pub fn read(alloc: Global, text: &str) -> Result<Batch, ReadRefusal>
     Err(ReadRefusal::Bad { at })
 }
 
-/// The greatest number of bytes at the front that are empty, or read and end with `;`. The search finds a number
-/// that is not too small; it is the right one, so that the loop ends at once.
+/// The greatest number of bytes at the front that are empty, or read and end with `;`.
 fn reach(alloc: Global, text: &[u8]) -> Result<usize, NoMemory>
     ensures { IfOk result (λ n. IsReach text.now n) }
-{
-    let mut n = bound(alloc, text)?;
-    while n > 0 {
-        if is_whole(alloc, &text[..n])? {
-            return Ok(n);
-        }
-        n -= 1;
-    }
-    Ok(0)
-}
-
-/// A number of bytes such that no more at the front read and end with `;`.
-fn bound(alloc: Global, text: &[u8]) -> Result<usize, NoMemory>
-    ensures within { IfOk result (λ n. n ≤ length text.now) }
-    ensures none { IfOk result (λ n. (m : ℕ) → n < m → m ≤ length text.now → is_whole (take m text.now) ≡ false) }
 {
     match farthest(alloc, text.len() + 1, true, text)? {
         Some(behind) => Ok(text.len() - behind),
         None => Ok(0),
     }
-}
-
-/// Whether the text is empty, or reads and ends with `;`.
-fn is_whole(alloc: Global, text: &[u8]) -> Result<bool, NoMemory>
-    ensures { IfOk result (λ b. b ≡ is_whole text.now) }
-{
-    if let [.., last] = text
-        && *last != b';'
-    {
-        return Ok(false);
-    }
-    Ok(groups_of(alloc, text)?.is_some())
 }
 
 /// A text is a spelling of at most one batch.

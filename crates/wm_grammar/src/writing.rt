@@ -1,9 +1,10 @@
 //! Writing words, numbers and quoted texts at the end of a text.
 ghost use Rattle.std.specs.Prelude.{◌≡◌, ℕ, ◌<◌, ◌≤◌, ◌++◌, ◌∷◌, [], true, false, length, get_or, take, string_bytes, OnOk, decimal};
 ghost use Rattle.std.specs.Fmt.{signed_decimal};
-ghost use Rattle.wm_grammar.specs.Spelling.{is_special, escaped, quoted, dir_text, split_text, layout_text, cycle_text, kind_text, switch_text, side_text, op_text, mark_text, grow_text, gap_text, scope_text};
+ghost use Rattle.wm_grammar.specs.Spelling.{is_special, escaped, quoted, bare_text, dir_text, split_text, layout_text, cycle_text, kind_text, switch_text, side_text, op_text, mark_text, grow_text, gap_text, scope_text};
 
 use crate::arguments::{Cycle, GapOp, Kind, LayoutArg, OnOff, Side, SplitArg};
+use crate::command::Command;
 use std::fmt::Write;
 use wm_base::{Dir, NoMemory};
 
@@ -74,6 +75,26 @@ fn plain_length(text: &str) -> usize
         }
     }
     text.len()
+}
+
+/// The keywords of a command that has no argument; nothing for any other.
+pub fn bare_text(command: &Command) -> &'static str
+    ensures { result.now ≡ bare_text command.now }
+{
+    match command {
+        Command::Focus => "focus",
+        Command::FocusParent => "focus parent",
+        Command::FocusChild => "focus child",
+        Command::MoveToScratchpad => "move scratchpad",
+        Command::MoveCenter => "move position center",
+        Command::CycleBorder => "border toggle",
+        Command::ScratchpadShow => "scratchpad show",
+        Command::Kill => "kill",
+        Command::Nop => "nop",
+        Command::Idle => "exec",
+        Command::Exit => "exit",
+        _ => "",
+    }
 }
 
 pub fn dir_text(dir: Dir) -> &'static str

@@ -1,10 +1,11 @@
-use Rattle.std.proofs.Common.{◌≡◌, ◌∷◌, ◌+◌, ◌-◌, List, arith, length, take, drop}
+use Rattle.std.proofs.Common.{◌≡◌, [], ◌∷◌, ◌+◌, ◌-◌, List, arith, length, take, drop}
 use Rattle.std.specs.Prelude.{map}
 use Rattle.wm_grammar.specs.declared.batch.Group.{Group}
 use Rattle.wm_criteria.specs.Patterns.{key_patterns, keys_of, patterns_of, to_build}
 use Rattle.wm_criteria.specs.Building.{Tells}
 use Rattle.wm_criteria.specs.Stop.{IsStop, stop_texts}
-use Rattle.wm_criteria.proofs.NumberLemmas.{first_split, mapped_step, number_step, among_step, among_item, handed_on, stop_among, tells_more, tells_stop}
+use Rattle.wm_criteria.proofs.BuildingLemmas.{tells_both}
+use Rattle.wm_criteria.proofs.NumberLemmas.{first_split, mapped_step, number_step, among_step, among_item, handed_on, stop_among, tells_stop}
 use Rattle.wm_criteria.proofs.forms.group_forms.Goals as goal
 
 pub returns-in_err-forms-clause-stop : goal.returns-in_err-forms-clause-stop
@@ -39,6 +40,6 @@ loop-rest-preserved g c =
       forms = mapped_step (λ x. map to_build (keys_of x)) rest after group c.loop-rest.all.items _ _ c.in_ok-forms.forms split c.loop-rest.invariant.forms c.in_ok-push.ensures.items (rw (← c.keys_of.ensures) c.in_ok-forms.ensures.forms);
       number = number_step (λ x. key_patterns (keys_of x)) rest after group c.loop-rest.number _ _ split c.loop-rest.invariant.number next;
       among = among_step (λ x. key_patterns (keys_of x)) rest after group _ _ c.loop-rest.number _ split c.loop-rest.invariant.among next;
-      told = tells_more _ _ _ _ c.loop-rest.invariant.told c.in_ok-forms.ensures.told;
+      told = tells_both _ _ _ [] [] c.loop-rest.invariant.told c.in_ok-forms.ensures.told;
       counted = omega (arith, c.loop-rest.invariant.counted, c.key_forms.ensures.counted);
     }

@@ -1,4 +1,4 @@
-use Rattle.std.proofs.Common.{◌≡◌, ◌∙◌, sym, true}
+use Rattle.std.proofs.Common.{◌∙◌, sym}
 use Rattle.wm_criteria.specs.Plain.{characters}
 use Rattle.wm_criteria.proofs.PlainLemmas.{part-here}
 use Rattle.wm_criteria.proofs.plain.is_part.Goals as goal

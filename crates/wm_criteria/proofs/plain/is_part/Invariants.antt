@@ -1,5 +1,5 @@
 use Rattle.std.proofs.Common.{◌≡◌, length}
-use Rattle.std.specs.Prelude.{is_some, false}
+use Rattle.std.specs.Prelude.{false}
 use Rattle.std.specs.Option.{option_map_or}
 use Rattle.wm_criteria.specs.Plain.{characters, is_part}
 use Rattle.wm_criteria.proofs.plain.is_part.Given as goal

@@ -1,5 +1,4 @@
-use Rattle.std.proofs.Common.{◌≡◌, ◌<◌, ◌≤◌, arith, length, subst, sym, ap, ◌∙◌}
-use Rattle.wm_grammar.specs.Reading.{Reads}
+use Rattle.std.proofs.Common.{◌≤◌, arith, length, subst, ap, ◌∙◌}
 use Rattle.wm_criteria.specs.Building.{Tells}
 use Rattle.wm_criteria.specs.Patterns.{patterns_of}
 use Rattle.wm_criteria.specs.Stop.{IsStop, stop_texts}

@@ -1,0 +1,16 @@
+pub mod Change
+pub mod Counts
+pub mod Forest
+pub mod ForestCode
+pub mod ForestFalls
+pub mod Kinds
+pub mod Look
+pub mod Move
+pub mod Place
+pub mod Recency
+pub mod Row
+pub mod Sets
+pub mod Sound
+pub mod Spot
+pub mod TreeValue
+pub mod Words

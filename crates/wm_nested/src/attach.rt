@@ -1,0 +1,143 @@
+//! Putting a container into the tree.
+ghost use Rattle.std.specs.Prelude.{◌≡◌, ◌≢◌, ◌≤◌, false, true, Err, None, IfOk, IfErr, OnOk, OnErr, IfSome, MatchOption};
+ghost use Rattle.wm_nested.specs.Counts.{newcomer_share, row_length};
+ghost use Rattle.wm_nested.specs.Look.{has, same};
+ghost use Rattle.wm_nested.specs.Place.{IsPlace, named, passed_limit, put, room_at, row_room, share_at, siblings};
+ghost use Rattle.wm_nested.specs.Sound.{IsSound};
+ghost use Rattle.wm_nested.specs.TreeValue.{id};
+ghost use Rattle.wm_base.specs.declared.ids.ConId.{ConId};
+ghost use Rattle.wm_nested.specs.Words.{attached, IsAttachCause};
+ghost use Rattle.wm_nested.specs.declared.place.TreeRefusal.TheVariants.{Full, Missing};
+ghost use Rattle.wm_nested.specs.declared.place.TreeRefusal.TheVariants as refusals;
+
+use crate::place::{NewCon, Place, Put, TreeRefusal};
+use crate::row::Row;
+use crate::spot::{MAX_DEPTH, TOP, room_below};
+use crate::tree::Tree;
+use wm_base::{ConId, Limit};
+
+/// How many containers a tree has at most.
+pub(crate) const MAX_CONTAINERS: usize = 4_096;
+
+/// How many tiled children a container has at most.
+pub(crate) const MAX_CHILDREN: usize = 256;
+
+/// The greatest id that is given.
+pub(crate) const MAX_ID: u32 = 4_000_000_000;
+
+impl Tree {
+    /// Puts a container at a place, under the next id and the least recent of all, and gives its id.
+    #[tactic(auto, using(crate::proofs::ForestLemmas::at_same))]
+    pub fn attach(&mut self, at: Place, new: NewCon) -> Result<ConId, TreeRefusal>
+        ensures ok { OnOk result (self.new ≡ attached at new self.old) }
+        ensures id { IfOk result (λ new_id. new_id ≡ id self.old.next_id) }
+        ensures room { OnOk result (passed_limit at self.old.nodes self.old.next_id ≡ None) }
+        ensures err { OnErr result (self.new ≡ self.old) }
+        ensures sound { IsPlace at self.old.nodes → IsSound self.old → IsSound self.new }
+        ensures one_new { OnOk result ((v : ConId) → has v self.new.nodes ≡ true →
+            same (id self.old.next_id) v ≡ false → has v self.old.nodes ≡ true) }
+
+        // A missing node is reported before a limit, and a limit before want of memory.
+        ensures missing { has (named at) self.old.nodes ≡ false → result ≡ Err (Missing (named at)) }
+        ensures full { has (named at) self.old.nodes ≡ true →
+            IfSome (passed_limit at self.old.nodes self.old.next_id) (λ limit. result ≡ Err (Full limit)) }
+        ensures cause { IfErr result (IsAttachCause self.old at) }
+    {
+        let share = self.share_at(at)?;
+        self.recency.reserve(1)?;
+        let id = ConId(self.next_id);
+        let part = new.part(self.alloc, id, share, self.border, at.rect())?;
+        let row = Row::of(self.alloc, part)?;
+        self.nodes.put(at, row);
+        self.recency.push_reserved(id);
+        self.next_id += 1;
+        Ok(id)
+    }
+
+    /// The share of a newcomer at this place, where it is there and no limit is passed.
+    fn share_at(&self, at: Place) -> Result<u32, TreeRefusal>
+        ensures share { IfOk result (λ share. share ≡ share_at at self.now.nodes) }
+        ensures ok { OnOk result ((has (named at) self.now.nodes ≡ true) × (passed_limit at self.now.nodes self.now.next_id ≡ None)) }
+        ensures ids { OnOk result (self.now.next_id ≤ 4000000000) }
+        ensures cause { IfErr result (λ e. (e ≢ TreeRefusal.NoMemory) × IsAttachCause self.now at e) }
+    {
+        let Some(siblings) = self.nodes.siblings(at) else {
+            return Err(TreeRefusal::Missing(at.named()));
+        };
+        if self.nodes.cons_up_to(MAX_CONTAINERS) == MAX_CONTAINERS {
+            return Err(full(Limit::Containers));
+        }
+        if at.tiles() && siblings.len_up_to(MAX_CHILDREN) == MAX_CHILDREN {
+            return Err(full(Limit::Children));
+        }
+        if self.nodes.room_at(at) == 0 {
+            return Err(full(Limit::Depth));
+        }
+        if self.next_id > MAX_ID {
+            return Err(full(Limit::Ids));
+        }
+        Ok(if at.tiles() {
+            siblings.newcomer_share()
+        } else {
+            0
+        })
+    }
+}
+
+/// The refusal of a change that would pass this limit.
+pub(crate) fn full(limit: Limit) -> TreeRefusal
+    ensures { result ≡ Full limit }
+{
+    TreeRefusal::Full { limit }
+}
+
+impl Row {
+    /// Puts the nodes of a row at a place, where its node is here.
+    pub(crate) fn put(&mut self, at: Place, row: Row)
+        ensures { self.new ≡ put at row self.old }
+    {
+        self.change(at.named(), Put { at, row });
+    }
+
+    /// The row in which a newcomer at this place stands. `None` exactly where its node is not here.
+    pub(crate) fn siblings(&self, at: Place) -> Option<&Row>
+        ensures { MatchOption result (has (named at) self.now ≡ false)
+            (λ row. (has (named at) self.now ≡ true) × (row.now ≡ siblings at self.now)) }
+    {
+        match at {
+            Place::After(con) | Place::Before(con) => self.row_with(self, con),
+            Place::First(con) | Place::Last(con) => match self.find(con) {
+                Some(cell) => Some(&cell.kids),
+                None => None,
+            },
+            Place::Float(..) | Place::Scratchpad(_) => match self.find(at.named()) {
+                Some(cell) => Some(&cell.floats),
+                None => None,
+            },
+        }
+    }
+
+    /// How many levels the row of a newcomer at this place may have.
+    pub(crate) fn room_at(&self, at: Place) -> u32
+        ensures { result ≡ room_at at self.now }
+    {
+        match at {
+            Place::After(con) | Place::Before(con) => self.row_room(con),
+            Place::First(con) | Place::Last(con) => match self.find(con) {
+                Some(cell) => room_below(self.row_room(con), &cell.part.kind),
+                None => 0,
+            },
+            Place::Float(..) | Place::Scratchpad(_) => MAX_DEPTH,
+        }
+    }
+
+    /// How many levels the row of the node may have.
+    pub(crate) fn row_room(&self, con: ConId) -> u32
+        ensures { result ≡ row_room con self.now }
+    {
+        match self.spot(TOP, con) {
+            Some(spot) => spot.room,
+            None => 0,
+        }
+    }
+}

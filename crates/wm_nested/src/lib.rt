@@ -1,0 +1,30 @@
+//! The container tree: one nested value, and the calls that look into it and change it.
+#![tactic(auto)]
+
+mod attach;
+mod change;
+mod copy;
+mod count;
+mod cursor;
+mod edit;
+mod kind;
+mod look;
+mod marks;
+mod moving;
+mod newcomer;
+mod part;
+mod place;
+mod recency;
+mod row;
+mod sets;
+mod spot;
+mod start;
+mod tree;
+mod words;
+
+pub use cursor::Cursor;
+pub use part::{
+    ConKind, ConPart, ConState, NodeKind, OutputPart, Part, SpacePart, Swallow, SwallowKey,
+};
+pub use place::{NewCon, Place, TreeRefusal};
+pub use tree::Tree;
