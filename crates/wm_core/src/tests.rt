@@ -1,13 +1,11 @@
 //! Scripts of steps on an output of 1000x800: what each step is answered, and the texts of the frames.
-ghost use Rattle.std.specs.Prelude.{◌≡◌, ◌+◌, ◌≤◌, length, IfOk, OnOk};
+ghost use Rattle.std.specs.Prelude.{◌≡◌, ◌+◌, ◌≤◌, IfOk, OnOk};
 ghost use Rattle.wm_core.specs.Sizes.{IsFitSize, IsFitStep};
 
 use crate::{Answer, Desk, Step, frame_text};
 use std::alloc::Global;
 use std::test::Fail;
-use wm_base::{Buffer, ConId, ErrorText, Ink, List, NoMemory, Props, Size, Text};
-use wm_criteria::{ListBuild, prepare};
-use wm_json::Reply;
+use wm_base::{Buffer, ConId, Ink, NoMemory, Props, Size, Text};
 use wm_layouts::Plan;
 
 const AMBER: Buffer = Buffer {
@@ -33,12 +31,12 @@ fn started(alloc: Global) -> Result<Desk, NoMemory>
 }
 
 /// Takes a step.
-fn take(desk: &mut Desk, who: u32, step: &Step) -> Result<Answer, NoMemory>
+fn take(desk: &mut Desk, who: u32, step: Step) -> Result<Answer, NoMemory>
     requires few { desk.old.steps ≤ 1000 }
-    requires fit { IsFitStep step.now }
+    requires fit { IsFitStep step }
     ensures { OnOk result (desk.new.steps ≡ desk.old.steps + 1) }
 {
-    desk.step(who, step)
+    desk.step(who, &step)
 }
 
 /// A short text.
@@ -65,21 +63,7 @@ fn map(alloc: Global, desk: &mut Desk, who: u32, buffer: Buffer) -> Result<Answe
         buffer,
         then: None,
     };
-    take(desk, who, &step)
-}
-
-/// Runs a short text, of which the pattern `(` is refused. The replies are given.
-fn run(alloc: Global, desk: &mut Desk, text: &str) -> Result<List<Reply>, Fail>
-    requires few { desk.old.steps ≤ 1000 }
-    requires short { length text.now ≤ 1000 }
-    ensures { OnOk result (desk.new.steps ≡ desk.old.steps + 1) }
-{
-    let mut build = ListBuild::new(vec![in alloc; String::from_str(alloc, "(")?]?);
-    let text = prepare(alloc, text, &mut build)?;
-    match take(desk, 0, &Step::Run(text))? {
-        Answer::Replies(replies) => Ok(replies),
-        _ => Err(Fail::from("no replies")),
-    }
+    take(desk, who, step)
 }
 
 /// The text of the desk's frame.
@@ -100,14 +84,9 @@ fn two_windows(rt: HostRuntime) -> Result<(), Fail> {
     let want =
         "frame 2 2\nback 3 0,0 1000x800\nwindow 4 0,0 500x800 e0b030 400x300\nwindow 5 500,0 500x800 3070e0 640x480\nend\n";
     assert_eq!(rt; text(alloc, &desk)?.as_str(), want);
-    let laid_out = run(alloc, &mut desk, "layout splitv")?;
-    assert!(rt; matches!(laid_out.items(), [Reply::Ok]));
-    let want =
-        "frame 3 3\nback 3 0,0 1000x800\nwindow 4 0,0 1000x400 e0b030 400x300\nwindow 5 0,400 1000x400 3070e0 640x480\nend\n";
-    assert_eq!(rt; text(alloc, &desk)?.as_str(), want);
-    let closed = take(&mut desk, 1, &Step::Close { con: ConId(4) })?;
+    let closed = take(&mut desk, 1, Step::Close { con: ConId(4) })?;
     assert!(rt; matches!(closed, Answer::Done));
-    let want = "frame 4 4\nback 3 0,0 1000x800\nwindow 5 0,0 1000x800 3070e0 640x480\nend\n";
+    let want = "frame 3 3\nback 3 0,0 1000x800\nwindow 5 0,0 1000x800 3070e0 640x480\nend\n";
     assert_eq!(rt; text(alloc, &desk)?.as_str(), want);
     Ok(())
 }
@@ -120,31 +99,11 @@ fn refused_steps(rt: HostRuntime) -> Result<(), Fail> {
     assert!(rt; matches!(empty, Answer::Empty));
     let opened = map(alloc, &mut desk, 1, AMBER)?;
     assert!(rt; matches!(opened, Answer::Mapped(ConId(4))));
-    let of_another = take(&mut desk, 2, &Step::Close { con: ConId(4) })?;
+    let of_another = take(&mut desk, 2, Step::Close { con: ConId(4) })?;
     assert!(rt; matches!(of_another, Answer::NoView));
-    let no_window = take(&mut desk, 1, &Step::Close { con: ConId(3) })?;
+    let no_window = take(&mut desk, 1, Step::Close { con: ConId(3) })?;
     assert!(rt; matches!(no_window, Answer::NoView));
     let want = "frame 1 2\nback 3 0,0 1000x800\nwindow 4 0,0 1000x800 e0b030 400x300\nend\n";
     assert_eq!(rt; text(alloc, &desk)?.as_str(), want);
-    Ok(())
-}
-
-#[test]
-fn texts_and_their_replies(rt: HostRuntime) -> Result<(), Fail> {
-    let alloc = rt.alloc();
-    let mut desk = started(alloc)?;
-    let done = run(alloc, &mut desk, "nop x; exec y, exit;;[all] nop")?;
-    assert!(rt; matches!(done.items(), [Reply::Ok, Reply::Ok, Reply::Ok, Reply::Ok]));
-    let none = run(alloc, &mut desk, " ; ")?;
-    assert!(rt; none.items().is_empty());
-    let not_built = [Reply::Error(ErrorText::NotBuilt), Reply::Ok];
-    let mixed = run(alloc, &mut desk, "layout tabbed, nop")?;
-    assert!(rt; mixed.items() == not_built.as_slice());
-    let matched = run(alloc, &mut desk, "[class=\"a\"] layout splitv; nop")?;
-    assert!(rt; matched.items() == not_built.as_slice());
-    let bad = run(alloc, &mut desk, "nop; mark a; bogus")?;
-    assert!(rt; matches!(bad.items(), [Reply::Parse(12)]));
-    let refused = run(alloc, &mut desk, "[class=\"a\" title=\"(\"] nop")?;
-    assert!(rt; matches!(refused.items(), [Reply::Pattern(1)]));
     Ok(())
 }

@@ -82,7 +82,8 @@ greatest_step true m n rest here above within before = by_case (b_or n m within)
     b_or : (n m : ℕ) → n ≤ suc m → (n ≡ suc m) ⊎ (n < suc m)
     b_or zero m h = inr (omega arith)
     b_or (suc n) zero h = inl (omega (arith, h))
-    b_or (suc n) (suc m) h = elim (b_or n m (omega (arith, h))) [ | inl e ↦ inl (ap (λ k. suc k) e) | inr l ↦ inr (omega (arith, l)) ]
+    b_or (suc n) (suc m) h = elim (b_or n m (omega (arith, h))) [ inl e ↦ inl (ap (λ k. suc k) e) | inr l ↦ inr (omega (arith, l)) ]
+
     by_case : (n ≡ suc m) ⊎ (n < suc m) → suc m ≡ n
     by_case (inl e) = sym e
     by_case (inr l) = let bad : true ≡ false = above l in cc

@@ -161,6 +161,7 @@ module _ (old now : Option (List ℕ)) (desk : DeskValue) (before later_refused 
       where
         Makes : List Refused → Type 0
         Makes rs = p.runs.said ++ (piece ++ tells (rs ++ more) p.runs.history) ≡ whole (rs ++ more)
+
         by_grown : Grows desk.steps steps before later_refused → p.runs.said ++ (piece ++ tells (later_refused ++ more) p.runs.history) ≡ whole (later_refused ++ more)
         by_grown (inl e) =
             subst Makes (sym e)
@@ -168,19 +169,21 @@ module _ (old now : Option (List ℕ)) (desk : DeskValue) (before later_refused 
         by_grown (inr g) =
             subst Makes (sym g.2)
             (subst (λ rs. p.runs.said ++ (piece ++ tells rs p.runs.history) ≡ whole rs) (sym (append_assoc before (g.0 ∷ []) more))
-            (p.runs.makes (g.0 ∷ more)
-            (omega (arith, g.1, p.runs.stands.counted),
-            rising_weaker (length (step later_refused p.runs.history)) (g.0.place + 1) more (omega (arith, g.1, p.runs.stands.counted, g.3, longer later_refused p.runs.history)) rising)))
+            (p.runs.makes (g.0 ∷ more) (
+              omega (arith, g.1, p.runs.stands.counted),
+              rising_weaker (length (step later_refused p.runs.history)) (g.0.place + 1) more (omega (arith, g.1, p.runs.stands.counted, g.3, longer later_refused p.runs.history)) rising,
+            )))
 
     backed_after : IsBackedTo (desk.steps + length steps) texts later_refused count c2 told_first t2
     backed_after = backs texts ahead count told_first p.left p.backed
 
     -- a step that want of memory stopped
     pub stops_step : Stops old now whole later_refused texts count c2 told_first t2
-    stops_step =
-        (part_of old now p.runs.said (piece ++ tells later_refused p.runs.history) (whole later_refused) p.runs.taken
-        (subst (λ rs. p.runs.said ++ (piece ++ tells rs p.runs.history) ≡ whole rs) (append-nil later_refused) (makes_after [] tt)),
-        backed_after.backed)
+    stops_step = (
+      part_of old now p.runs.said (piece ++ tells later_refused p.runs.history) (whole later_refused) p.runs.taken
+          (subst (λ rs. p.runs.said ++ (piece ++ tells rs p.runs.history) ≡ whole rs) (append-nil later_refused) (makes_after [] tt)),
+      backed_after.backed,
+    )
 
     -- a step that was taken
     pub plays_step : (next : DeskValue) (text : List ℕ) → ((rs : List Refused) (h : History) → tells rs h ≡ says rs h ++ later rs (step rs h))

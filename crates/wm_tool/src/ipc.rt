@@ -71,12 +71,12 @@ fn answer_queue<B: Build, W: Sink>(
     requires empty { piece.old.items ≡ [] }
     ensures ok { (old : Option (List ℕ)) → (whole : List Refused → List ℕ) → (texts : List (Option (List ℕ))) → (count : ℕ) → (told : Option (List (List ℕ))) →
         Plays old (W.taken sink.old) desk.old refused.old.items [] (replies_from decoder.old.queue) whole texts (message_texts decoder.old.queue)
-            count (B.refusals build.old) told (B.refused build.old) →
+        count (B.refusals build.old) told (B.refused build.old) →
         OnOk result (Plays old (W.taken sink.new) desk.new refused.new.items [] (replies_from []) whole texts []
-            count (B.refusals build.new) told (B.refused build.new)) }
+        count (B.refusals build.new) told (B.refused build.new)) }
     ensures part { (old : Option (List ℕ)) → (whole : List Refused → List ℕ) → (texts : List (Option (List ℕ))) → (count : ℕ) → (told : Option (List (List ℕ))) →
         Plays old (W.taken sink.old) desk.old refused.old.items [] (replies_from decoder.old.queue) whole texts (message_texts decoder.old.queue)
-            count (B.refusals build.old) told (B.refused build.old) →
+        count (B.refusals build.old) told (B.refused build.old) →
         OnErr result (Stops old (W.taken sink.new) whole refused.new.items texts count (B.refusals build.new) told (B.refused build.new)) }
     ensures err { IfErr result (HasStopped (W.faults sink.old) (W.faults sink.new)) }
     ensures counted { W.faults sink.old ≤ W.faults sink.new }
@@ -153,8 +153,8 @@ fn answer_text<B: Build>(
     requires few { desk.old.steps < 2 ^ 48 }
     ensures ok { refusal_at desk.old.steps refused.old.items ≡ None →
         OnOk result (Leads desk.old desk.new (λ history. run_entry refused.new.items history text.now ∷ history)
-            (λ history. framed 0 (Some (replies_text (replies_of (answer (opening_of desk.old.plan) history (run_entry refused.new.items history text.now))))))
-            piece.old.items piece.new.items) }
+        (λ history. framed 0 (Some (replies_text (replies_of (answer (opening_of desk.old.plan) history (run_entry refused.new.items history text.now))))))
+        piece.old.items piece.new.items) }
     ensures steps { OnOk result (desk.new.steps ≡ desk.old.steps + 1) }
     ensures plan { OnOk result (desk.new.plan ≡ desk.old.plan) }
     ensures grows { Grows desk.old.steps (Some text.now ∷ []) refused.old.items refused.new.items }

@@ -99,12 +99,12 @@ fn run_lines<B: Build, W: Sink>(
     requires plan { desk.old.plan.outputs ≡ default_outputs }
     ensures ok { (old : Option (List ℕ)) → (whole : List Refused → List ℕ) → (texts : List (Option (List ℕ))) → (count : ℕ) → (told : Option (List (List ℕ))) →
         Plays old (W.taken sink.old) desk.old refused.old.items piece.old.items (out_from lines.now) whole texts (line_texts lines.now)
-            count (B.refusals build.old) told (B.refused build.old) →
+        count (B.refusals build.old) told (B.refused build.old) →
         OnOk result (Plays old (W.taken sink.new) desk.new refused.new.items piece.new.items (out_from []) whole texts []
-            count (B.refusals build.new) told (B.refused build.new)) }
+        count (B.refusals build.new) told (B.refused build.new)) }
     ensures part { (old : Option (List ℕ)) → (whole : List Refused → List ℕ) → (texts : List (Option (List ℕ))) → (count : ℕ) → (told : Option (List (List ℕ))) →
         Plays old (W.taken sink.old) desk.old refused.old.items piece.old.items (out_from lines.now) whole texts (line_texts lines.now)
-            count (B.refusals build.old) told (B.refused build.old) →
+        count (B.refusals build.old) told (B.refused build.old) →
         OnErr result (Stops old (W.taken sink.new) whole refused.new.items texts count (B.refusals build.new) told (B.refused build.new)) }
     ensures err { IfErr result (HasStopped (W.faults sink.old) (W.faults sink.new)) }
     ensures counted { W.faults sink.old ≤ W.faults sink.new }

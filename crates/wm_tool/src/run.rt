@@ -45,7 +45,7 @@ pub fn tool<R: Source, W: Sink, B: Build>(
     ensures read { IfSome (command words.now) (λ c. HasRead c result (R.rest source.old) (R.rest source.new)) }
     ensures written { IfSome (command words.now) (λ c.
         HasWritten c (record { old = B.refusals build.old; new = B.refusals build.new; told_old = B.refused build.old; told_new = B.refused build.new })
-            result (R.rest source.old) (W.taken sink.old) (W.taken sink.new)) }
+        result (R.rest source.old) (W.taken sink.old) (W.taken sink.new)) }
     ensures faults { HasRisen result (R.faults source.old) (R.faults source.new) (W.faults sink.old) (W.faults sink.new) }
     ensures whole { IfSome (command words.now) (λ c.
         (Rose (R.faults source.old) (R.faults source.new) → ⊥) →

@@ -1,7 +1,9 @@
 //! Runs of the tool over objects in memory, at calls that fail and calls that do not.
-use crate::{Status, tool};
+use crate::{Refused, Status, tool};
 use std::alloc::Global;
 use std::test::Fail;
+use wm_base::List;
+use wm_criteria::ListBuild;
 use wm_ports::{MemSink, MemSource};
 
 /// How a run over this script ended, and what it wrote. Call 0 is none: the first call is 1.
@@ -14,7 +16,7 @@ fn replayed(
     ran(alloc, "replay", script, failing_read, failing_write)
 }
 
-/// How a run of this command over this input ended, and what it wrote.
+/// How a run of this command over this input ended, and what it wrote. The pattern `(` is refused.
 pub fn ran(
     alloc: Global,
     word: &str,
@@ -25,39 +27,88 @@ pub fn ran(
     let words = vec![in alloc; String::from_str(alloc, word)?]?;
     let mut source = MemSource::new(input, vec![in alloc; failing_read]?);
     let mut sink = MemSink::new(alloc, 10_000_000, vec![in alloc; failing_write]?)?;
-    let status = tool(alloc, &words, &mut source, &mut sink);
+    let mut build = ListBuild::new(vec![in alloc; String::from_str(alloc, "(")?]?);
+    let status = tool(alloc, &words, &mut source, &mut sink, &mut build);
     let mut written = Vec::new(alloc);
     written.extend_from_slice(sink.taken())?;
     Ok((status, written))
 }
 
+/// Whether the run was done, and refused these patterns.
+pub fn is_done(status: &Status, refused: &[Refused]) -> bool {
+    match status {
+        Status::Done { refused: listed } => listed.items() == refused,
+        _ => false,
+    }
+}
+
 #[test]
 fn scripts_and_what_they_tell(rt: HostRuntime) -> Result<(), Fail> {
     let cases = [
-        ("", Status::Done, ""),
-        (
-            "paint",
-            Status::Done,
-            "frame 0 0\nback 3 0,0 1000x800\nend\n",
-        ),
-        ("map 000000 0x1\n", Status::Done, "empty\n"),
+        ("", 0, ""),
+        ("paint", 0, "frame 0 0\nback 3 0,0 1000x800\nend\n"),
+        ("map 000000 0x1\n", 0, "empty\n"),
         (
             "close 7\nrun layout splitv\n",
-            Status::Done,
+            0,
             "no-view\n[{\"success\":true}]\n",
         ),
-        ("paint\nmapp\n", Status::BadScript { line: 2 }, ""),
-        ("paint\n\npaint\n", Status::BadScript { line: 2 }, ""),
-        ("map 00000g 1x1\n", Status::BadScript { line: 1 }, ""),
-        ("map 000000 16385x1\n", Status::BadScript { line: 1 }, ""),
+        ("run \nrun  ; \n", 0, "[]\n[]\n"),
+        (
+            "run nop, kill; exit",
+            0,
+            "[{\"success\":true},{\"error\":\"not built yet\",\"success\":false},{\"success\":true}]\n",
+        ),
+        (
+            "run mark a; nop; bogus",
+            0,
+            "[{\"error\":\"parse error at byte 12\",\"parse_error\":true,\"success\":false}]\n",
+        ),
+        ("run\n", 3, ""),
+        ("paint\nmapp\n", 3, ""),
+        ("paint\n\npaint\n", 3, ""),
+        ("map 00000g 1x1\n", 3, ""),
+        ("map 000000 16385x1\n", 3, ""),
     ];
-    for (script, status, text) in cases {
+    for (script, number, text) in cases {
         let mut bytes = Vec::new(rt.alloc());
         bytes.extend_from_slice(script.as_bytes())?;
         let (ended, written) = replayed(rt.alloc(), bytes, 0, 0)?;
-        assert_eq!(rt; ended, status, "{script}");
+        assert_eq!(rt; ended.number(), number, "{script}");
         assert_eq!(rt; written.as_slice(), text.as_bytes(), "{script}");
     }
+    Ok(())
+}
+
+#[test]
+fn refused_patterns_are_listed(rt: HostRuntime) -> Result<(), Fail> {
+    let script =
+        "paint\nrun nop\nrun [class=a title=\"(\"] nop\nrun [title=b] nop\nrun [con_mark=\"(\"] nop\n";
+    let (ended, written) = replayed(rt.alloc(), repeated(rt.alloc(), script, 1)?, 0, 0)?;
+    let refused = [
+        Refused {
+            place: 1,
+            pattern: 1,
+        },
+        Refused {
+            place: 3,
+            pattern: 0,
+        },
+    ];
+    assert!(rt; is_done(&ended, &refused));
+    let text =
+        "[{\"error\":\"pattern 1 is refused\",\"success\":false}]\n[{\"success\":true}]\n[{\"error\":\"pattern 0 is refused\",\"success\":false}]\n";
+    assert!(rt; written.ends_with(text.as_bytes()));
+    Ok(())
+}
+
+#[test]
+fn a_run_line_that_is_no_text(rt: HostRuntime) -> Result<(), Fail> {
+    let mut script = repeated(rt.alloc(), "paint\nrun nop ", 1)?;
+    script.push(0xff)?;
+    let (ended, written) = replayed(rt.alloc(), script, 0, 0)?;
+    assert!(rt; matches!(ended, Status::BadScript { line: 2 }));
+    assert!(rt; written.is_empty());
     Ok(())
 }
 
@@ -74,7 +125,7 @@ fn repeated(alloc: Global, text: &str, times: u32) -> Result<Vec<u8>, Fail> {
 fn one_child_too_many(rt: HostRuntime) -> Result<(), Fail> {
     let maps = repeated(rt.alloc(), "map 000000 1x1\n", 257)?;
     let (ended, written) = replayed(rt.alloc(), maps, 0, 0)?;
-    assert_eq!(rt; ended, Status::Done);
+    assert_eq!(rt; ended.number(), 0);
     assert!(rt; written.ends_with(b"\nok 258\nok 259\nfull children\n"));
     Ok(())
 }
@@ -92,14 +143,14 @@ fn an_input_one_byte_too_long(rt: HostRuntime) -> Result<(), Fail> {
 fn ports_that_fail(rt: HostRuntime) -> Result<(), Fail> {
     let script = "map 000000 1x1\nclose 4\nclose 4\n";
     let runs = [
-        (2, 0, Status::ReadFault, ""),
-        (0, 1, Status::WriteFault, ""),
-        (0, 2, Status::Done, "ok 4\nok\nno-view\n"),
+        (2, 0, 7, ""),
+        (0, 1, 8, ""),
+        (0, 2, 0, "ok 4\nok\nno-view\n"),
     ];
-    for (read, write, status, text) in runs {
+    for (read, write, number, text) in runs {
         let bytes = repeated(rt.alloc(), script, 1)?;
         let (ended, written) = replayed(rt.alloc(), bytes, read, write)?;
-        assert_eq!(rt; ended, status);
+        assert_eq!(rt; ended.number(), number);
         assert_eq!(rt; written.as_slice(), text.as_bytes());
     }
     Ok(())
@@ -108,11 +159,11 @@ fn ports_that_fail(rt: HostRuntime) -> Result<(), Fail> {
 #[test]
 fn a_sink_that_fails_at_a_later_piece(rt: HostRuntime) -> Result<(), Fail> {
     let (ended, all) = replayed(rt.alloc(), repeated(rt.alloc(), "paint\n", 6000)?, 0, 0)?;
-    assert_eq!(rt; ended, Status::Done);
+    assert_eq!(rt; ended.number(), 0);
     for call in 1..=4 {
         let paints = repeated(rt.alloc(), "paint\n", 6000)?;
         let (ended, part) = replayed(rt.alloc(), paints, 0, call)?;
-        assert_eq!(rt; ended, Status::WriteFault);
+        assert!(rt; matches!(ended, Status::WriteFault));
         assert!(rt; all.starts_with(&part) && part.len() < all.len());
     }
     Ok(())
@@ -121,7 +172,13 @@ fn a_sink_that_fails_at_a_later_piece(rt: HostRuntime) -> Result<(), Fail> {
 #[test]
 fn statuses_and_their_texts(rt: HostRuntime) -> Result<(), Fail> {
     let cases = [
-        (Status::Done, 0, ""),
+        (
+            Status::Done {
+                refused: List::of(Vec::new(rt.alloc())),
+            },
+            0,
+            "",
+        ),
         (Status::BadWords, 2, "bad words"),
         (Status::BadScript { line: 12 }, 3, "bad script, line 12"),
         (Status::BadFrames { at: 7 }, 4, "bad frame at byte 7"),
@@ -142,19 +199,23 @@ fn statuses_and_their_texts(rt: HostRuntime) -> Result<(), Fail> {
     Ok(())
 }
 
+/// Whether these words are wrong ones, and nothing is written.
+fn are_refused(alloc: Global, words: &[String]) -> Result<bool, Fail> {
+    let mut source = MemSource::new(Vec::new(alloc), Vec::new(alloc));
+    let mut sink = MemSink::new(alloc, 10, Vec::new(alloc))?;
+    let mut build = ListBuild::new(Vec::new(alloc));
+    let ended = tool(alloc, words, &mut source, &mut sink, &mut build);
+    Ok(ended.number() == 2 && sink.taken().is_empty())
+}
+
 #[test]
 fn words_of_no_command(rt: HostRuntime) -> Result<(), Fail> {
-    let none = vec![in rt.alloc(); String::from_str(rt.alloc(), "Replay")?]?;
-    let mut source = MemSource::new(Vec::new(rt.alloc()), Vec::new(rt.alloc()));
-    let mut sink = MemSink::new(rt.alloc(), 10, Vec::new(rt.alloc()))?;
-    assert_eq!(rt;
-        tool(rt.alloc(), &none, &mut source, &mut sink),
-        Status::BadWords
-    );
-    assert_eq!(rt;
-        tool(rt.alloc(), &[], &mut source, &mut sink),
-        Status::BadWords
-    );
-    assert!(rt; sink.taken().is_empty());
+    let alloc = rt.alloc();
+    let other = vec![in alloc; String::from_str(alloc, "Replay")?]?;
+    assert!(rt; are_refused(alloc, &other)?);
+    let mut two = vec![in alloc; String::from_str(alloc, "ipc")?]?;
+    two.push(String::from_str(alloc, "ipc")?)?;
+    assert!(rt; are_refused(alloc, &two)?);
+    assert!(rt; are_refused(alloc, &[])?);
     Ok(())
 }

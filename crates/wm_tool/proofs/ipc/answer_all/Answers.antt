@@ -14,8 +14,8 @@ returns-in_err-answer_queue-clause-part g c =
     let refused = g.B.Build.refused c.args.build.now in
     let whole : List Refused → List ℕ = λ rs. tells rs [] in
     let begun : Plays told told c.in_ok-desk.desk c.args.refused.now.items [] tells whole texts texts count count refused refused =
-        subst (λ rs. Plays told told c.in_ok-desk.desk rs [] tells whole texts texts count count refused refused) (sym c.requires.none)
-        (begins told c.in_ok-desk.desk tells texts count refused c.in_ok-desk.ensures.stands) in
+    subst (λ rs. Plays told told c.in_ok-desk.desk rs [] tells whole texts texts count count refused refused) (sym c.requires.none)
+    (begins told c.in_ok-desk.desk tells texts count refused c.in_ok-desk.ensures.stands) in
     on_err c.from_residual-in_err-answer_queue.result (c.in_err-answer_queue.ensures.part told whole texts count refused begun).0
 
 pub returns-in_err-answer_queue-clause-backed : goal.returns-in_err-answer_queue-clause-backed
@@ -27,8 +27,8 @@ returns-in_err-answer_queue-clause-backed g c =
     let refused = g.B.Build.refused c.args.build.now in
     let whole : List Refused → List ℕ = λ rs. tells rs [] in
     let begun : Plays told told c.in_ok-desk.desk c.args.refused.now.items [] tells whole texts texts count count refused refused =
-        subst (λ rs. Plays told told c.in_ok-desk.desk rs [] tells whole texts texts count count refused refused) (sym c.requires.none)
-        (begins told c.in_ok-desk.desk tells texts count refused c.in_ok-desk.ensures.stands) in
+    subst (λ rs. Plays told told c.in_ok-desk.desk rs [] tells whole texts texts count count refused refused) (sym c.requires.none)
+    (begins told c.in_ok-desk.desk tells texts count refused c.in_ok-desk.ensures.stands) in
     (c.in_err-answer_queue.ensures.part told whole texts count refused begun).1
 
 pub returns-clause-ok : goal.returns-clause-ok
@@ -40,8 +40,8 @@ returns-clause-ok g c =
     let refused = g.B.Build.refused c.args.build.now in
     let whole : List Refused → List ℕ = λ rs. tells rs [] in
     let begun : Plays told told c.in_ok-desk.desk c.args.refused.now.items [] tells whole texts texts count count refused refused =
-        subst (λ rs. Plays told told c.in_ok-desk.desk rs [] tells whole texts texts count count refused refused) (sym c.requires.none)
-        (begins told c.in_ok-desk.desk tells texts count refused c.in_ok-desk.ensures.stands) in
+    subst (λ rs. Plays told told c.in_ok-desk.desk rs [] tells whole texts texts count count refused refused) (sym c.requires.none)
+    (begins told c.in_ok-desk.desk tells texts count refused c.in_ok-desk.ensures.stands) in
     ends_written told (g.W.Sink.taken c.answer_queue.new.sink) c.answer_queue.new.desk c.answer_queue.new.refused.items (replies_from []) whole (λ rs history. refl) (c.in_ok-answer_queue.ensures.ok told whole texts count refused begun).runs
 
 pub returns-clause-backed : goal.returns-clause-backed
@@ -53,6 +53,6 @@ returns-clause-backed g c =
     let refused = g.B.Build.refused c.args.build.now in
     let whole : List Refused → List ℕ = λ rs. tells rs [] in
     let begun : Plays told told c.in_ok-desk.desk c.args.refused.now.items [] tells whole texts texts count count refused refused =
-        subst (λ rs. Plays told told c.in_ok-desk.desk rs [] tells whole texts texts count count refused refused) (sym c.requires.none)
-        (begins told c.in_ok-desk.desk tells texts count refused c.in_ok-desk.ensures.stands) in
+    subst (λ rs. Plays told told c.in_ok-desk.desk rs [] tells whole texts texts count count refused refused) (sym c.requires.none)
+    (begins told c.in_ok-desk.desk tells texts count refused c.in_ok-desk.ensures.stands) in
     (c.in_ok-answer_queue.ensures.ok told whole texts count refused begun).backed.backed

@@ -12,7 +12,7 @@ returns-in_err-answer_message-clause-part g c = λ old whole texts count told p.
     let desk = c.loop-message.desk in
     on_err c.from_residual.result
     (stops_message old now desk c.loop-message.refused.items c.answer_message.new.refused.items [] whole texts count (g.B.Build.refusals c.loop-message.build) (g.B.Build.refusals c.answer_message.new.build) told (g.B.Build.refused c.loop-message.build) (g.B.Build.refused c.answer_message.new.build)
-        c.in-Some.message c.loop-message.decoder.queue c.next.new.self.queue c.in-Some.ensures.queue (c.loop-message.invariant.plays old whole texts count told p) c.answer_message.ensures.grows c.answer_message.ensures.backs)
+    c.in-Some.message c.loop-message.decoder.queue c.next.new.self.queue c.in-Some.ensures.queue (c.loop-message.invariant.plays old whole texts count told p) c.answer_message.ensures.grows c.answer_message.ensures.backs)
 
 pub returns-in_err-write_all-clause-part : goal.returns-in_err-write_all-clause-part
 returns-in_err-write_all-clause-part g c = λ old whole texts count told p.
@@ -21,10 +21,10 @@ returns-in_err-write_all-clause-part g c = λ old whole texts count told p.
     on_err c.from_residual-in_err-write_all.result
     (fails old now (g.W.Sink.taken c.write_all.new.sink) c.answer_message.new.desk c.answer_message.new.refused.items c.answer_message.new.piece.items (replies_from c.next.new.self.queue) whole texts (message_texts c.next.new.self.queue) count (g.B.Build.refusals c.answer_message.new.build) told (g.B.Build.refused c.answer_message.new.build)
     (plays_message old now desk c.loop-message.refused.items c.answer_message.new.refused.items [] whole texts count (g.B.Build.refusals c.loop-message.build) (g.B.Build.refusals c.answer_message.new.build) told (g.B.Build.refused c.loop-message.build) (g.B.Build.refused c.answer_message.new.build)
-        c.in-Some.message c.loop-message.decoder.queue c.next.new.self.queue c.in-Some.ensures.queue (c.loop-message.invariant.plays old whole texts count told p) c.answer_message.ensures.grows c.answer_message.ensures.backs
-        c.answer_message.new.desk c.answer_message.new.piece.items c.loop-message.invariant.plan
-        (λ none. subst (λ before. Leads desk c.answer_message.new.desk (after_message c.in-Some.message c.answer_message.new.refused.items) (replied (opening_of desk.plan) c.in-Some.message c.answer_message.new.refused.items) before c.answer_message.new.piece.items) c.loop-message.invariant.empty (c.in_ok-answer_message.ensures.ok none))
-        c.in_ok-answer_message.ensures.steps)
+    c.in-Some.message c.loop-message.decoder.queue c.next.new.self.queue c.in-Some.ensures.queue (c.loop-message.invariant.plays old whole texts count told p) c.answer_message.ensures.grows c.answer_message.ensures.backs
+    c.answer_message.new.desk c.answer_message.new.piece.items c.loop-message.invariant.plan
+    (λ none. subst (λ before. Leads desk c.answer_message.new.desk (after_message c.in-Some.message c.answer_message.new.refused.items) (replied (opening_of desk.plan) c.in-Some.message c.answer_message.new.refused.items) before c.answer_message.new.piece.items) c.loop-message.invariant.empty (c.in_ok-answer_message.ensures.ok none))
+    c.in_ok-answer_message.ensures.steps)
     (subst (TakesPart now (g.W.Sink.taken c.write_all.new.sink)) c.deref.ensures.value c.in_err-write_all.ensures.part))
 
 pub loop-message-preserved : goal.loop-message-preserved
@@ -39,10 +39,10 @@ loop-message-preserved g c =
       plays = λ old whole texts count told p.
           writes old now (g.W.Sink.taken c.write_all.new.sink) c.answer_message.new.desk c.answer_message.new.refused.items c.answer_message.new.piece.items (replies_from c.next.new.self.queue) whole texts (message_texts c.next.new.self.queue) count (g.B.Build.refusals c.answer_message.new.build) told (g.B.Build.refused c.answer_message.new.build)
           (plays_message old now desk c.loop-message.refused.items c.answer_message.new.refused.items [] whole texts count (g.B.Build.refusals c.loop-message.build) (g.B.Build.refusals c.answer_message.new.build) told (g.B.Build.refused c.loop-message.build) (g.B.Build.refused c.answer_message.new.build)
-        c.in-Some.message c.loop-message.decoder.queue c.next.new.self.queue c.in-Some.ensures.queue (c.loop-message.invariant.plays old whole texts count told p) c.answer_message.ensures.grows c.answer_message.ensures.backs
-        c.answer_message.new.desk c.answer_message.new.piece.items c.loop-message.invariant.plan
-        (λ none. subst (λ before. Leads desk c.answer_message.new.desk (after_message c.in-Some.message c.answer_message.new.refused.items) (replied (opening_of desk.plan) c.in-Some.message c.answer_message.new.refused.items) before c.answer_message.new.piece.items) c.loop-message.invariant.empty (c.in_ok-answer_message.ensures.ok none))
-        c.in_ok-answer_message.ensures.steps)
+          c.in-Some.message c.loop-message.decoder.queue c.next.new.self.queue c.in-Some.ensures.queue (c.loop-message.invariant.plays old whole texts count told p) c.answer_message.ensures.grows c.answer_message.ensures.backs
+          c.answer_message.new.desk c.answer_message.new.piece.items c.loop-message.invariant.plan
+          (λ none. subst (λ before. Leads desk c.answer_message.new.desk (after_message c.in-Some.message c.answer_message.new.refused.items) (replied (opening_of desk.plan) c.in-Some.message c.answer_message.new.refused.items) before c.answer_message.new.piece.items) c.loop-message.invariant.empty (c.in_ok-answer_message.ensures.ok none))
+          c.in_ok-answer_message.ensures.steps)
           [] (writes_all now (g.W.Sink.taken c.write_all.new.sink) c.answer_message.new.piece.items [] (subst (TakesAll now (g.W.Sink.taken c.write_all.new.sink)) c.deref.ensures.value c.in_ok-write_all.ensures.ok) refl);
       counted = omega (arith, kept.counted, c.write_all.ensures.counted);
     }

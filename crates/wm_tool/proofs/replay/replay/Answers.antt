@@ -16,9 +16,9 @@ returns-in_err-run_lines-clause-part g c =
     let refused = g.B.Build.refused c.args.build.now in
     let whole : List Refused → List ℕ = λ rs. tells rs [] in
     let begun : Plays told told c.in_ok-desk.desk c.args.refused.now.items c.new-piece.result.items tells whole texts texts count count refused refused =
-        subst (λ rs. Plays told told c.in_ok-desk.desk rs c.new-piece.result.items tells whole texts texts count count refused refused) (sym c.requires.none)
-        (subst (λ piece. Plays told told c.in_ok-desk.desk [] piece tells whole texts texts count count refused refused) (sym c.new-piece.ensures.items)
-        (begins told c.in_ok-desk.desk tells texts count refused c.in_ok-desk.ensures.stands)) in
+    subst (λ rs. Plays told told c.in_ok-desk.desk rs c.new-piece.result.items tells whole texts texts count count refused refused) (sym c.requires.none)
+    (subst (λ piece. Plays told told c.in_ok-desk.desk [] piece tells whole texts texts count count refused refused) (sym c.new-piece.ensures.items)
+    (begins told c.in_ok-desk.desk tells texts count refused c.in_ok-desk.ensures.stands)) in
     on_err c.from_residual-in_err-run_lines.result (c.in_err-run_lines.ensures.part told whole texts count refused begun).0
 
 pub returns-in_err-run_lines-clause-backed : goal.returns-in_err-run_lines-clause-backed
@@ -30,9 +30,9 @@ returns-in_err-run_lines-clause-backed g c =
     let refused = g.B.Build.refused c.args.build.now in
     let whole : List Refused → List ℕ = λ rs. tells rs [] in
     let begun : Plays told told c.in_ok-desk.desk c.args.refused.now.items c.new-piece.result.items tells whole texts texts count count refused refused =
-        subst (λ rs. Plays told told c.in_ok-desk.desk rs c.new-piece.result.items tells whole texts texts count count refused refused) (sym c.requires.none)
-        (subst (λ piece. Plays told told c.in_ok-desk.desk [] piece tells whole texts texts count count refused refused) (sym c.new-piece.ensures.items)
-        (begins told c.in_ok-desk.desk tells texts count refused c.in_ok-desk.ensures.stands)) in
+    subst (λ rs. Plays told told c.in_ok-desk.desk rs c.new-piece.result.items tells whole texts texts count count refused refused) (sym c.requires.none)
+    (subst (λ piece. Plays told told c.in_ok-desk.desk [] piece tells whole texts texts count count refused refused) (sym c.new-piece.ensures.items)
+    (begins told c.in_ok-desk.desk tells texts count refused c.in_ok-desk.ensures.stands)) in
     (c.in_err-run_lines.ensures.part told whole texts count refused begun).1
 
 pub returns-in_err-write_all-clause-part : goal.returns-in_err-write_all-clause-part
@@ -44,9 +44,9 @@ returns-in_err-write_all-clause-part g c =
     let refused = g.B.Build.refused c.args.build.now in
     let whole : List Refused → List ℕ = λ rs. tells rs [] in
     let begun : Plays told told c.in_ok-desk.desk c.args.refused.now.items c.new-piece.result.items tells whole texts texts count count refused refused =
-        subst (λ rs. Plays told told c.in_ok-desk.desk rs c.new-piece.result.items tells whole texts texts count count refused refused) (sym c.requires.none)
-        (subst (λ piece. Plays told told c.in_ok-desk.desk [] piece tells whole texts texts count count refused refused) (sym c.new-piece.ensures.items)
-        (begins told c.in_ok-desk.desk tells texts count refused c.in_ok-desk.ensures.stands)) in
+    subst (λ rs. Plays told told c.in_ok-desk.desk rs c.new-piece.result.items tells whole texts texts count count refused refused) (sym c.requires.none)
+    (subst (λ piece. Plays told told c.in_ok-desk.desk [] piece tells whole texts texts count count refused refused) (sym c.new-piece.ensures.items)
+    (begins told c.in_ok-desk.desk tells texts count refused c.in_ok-desk.ensures.stands)) in
     on_err c.from_residual-in_err-write_all.result (fails told (g.W.Sink.taken c.run_lines.new.sink) (g.W.Sink.taken c.write_all.new.sink) c.run_lines.new.desk c.run_lines.new.refused.items c.run_lines.new.piece.items (out_from []) whole texts [] count (g.B.Build.refusals c.run_lines.new.build) refused (g.B.Build.refused c.run_lines.new.build) (c.in_ok-run_lines.ensures.ok told whole texts count refused begun) (subst (TakesPart (g.W.Sink.taken c.run_lines.new.sink) (g.W.Sink.taken c.write_all.new.sink)) c.deref.ensures.value c.in_err-write_all.ensures.part)).0
 
 pub returns-in_err-write_all-clause-backed : goal.returns-in_err-write_all-clause-backed
@@ -58,9 +58,9 @@ returns-in_err-write_all-clause-backed g c =
     let refused = g.B.Build.refused c.args.build.now in
     let whole : List Refused → List ℕ = λ rs. tells rs [] in
     let begun : Plays told told c.in_ok-desk.desk c.args.refused.now.items c.new-piece.result.items tells whole texts texts count count refused refused =
-        subst (λ rs. Plays told told c.in_ok-desk.desk rs c.new-piece.result.items tells whole texts texts count count refused refused) (sym c.requires.none)
-        (subst (λ piece. Plays told told c.in_ok-desk.desk [] piece tells whole texts texts count count refused refused) (sym c.new-piece.ensures.items)
-        (begins told c.in_ok-desk.desk tells texts count refused c.in_ok-desk.ensures.stands)) in
+    subst (λ rs. Plays told told c.in_ok-desk.desk rs c.new-piece.result.items tells whole texts texts count count refused refused) (sym c.requires.none)
+    (subst (λ piece. Plays told told c.in_ok-desk.desk [] piece tells whole texts texts count count refused refused) (sym c.new-piece.ensures.items)
+    (begins told c.in_ok-desk.desk tells texts count refused c.in_ok-desk.ensures.stands)) in
     (c.in_ok-run_lines.ensures.ok told whole texts count refused begun).backed.backed
 
 pub returns-clause-ok : goal.returns-clause-ok
@@ -72,9 +72,9 @@ returns-clause-ok g c =
     let refused = g.B.Build.refused c.args.build.now in
     let whole : List Refused → List ℕ = λ rs. tells rs [] in
     let begun : Plays told told c.in_ok-desk.desk c.args.refused.now.items c.new-piece.result.items tells whole texts texts count count refused refused =
-        subst (λ rs. Plays told told c.in_ok-desk.desk rs c.new-piece.result.items tells whole texts texts count count refused refused) (sym c.requires.none)
-        (subst (λ piece. Plays told told c.in_ok-desk.desk [] piece tells whole texts texts count count refused refused) (sym c.new-piece.ensures.items)
-        (begins told c.in_ok-desk.desk tells texts count refused c.in_ok-desk.ensures.stands)) in
+    subst (λ rs. Plays told told c.in_ok-desk.desk rs c.new-piece.result.items tells whole texts texts count count refused refused) (sym c.requires.none)
+    (subst (λ piece. Plays told told c.in_ok-desk.desk [] piece tells whole texts texts count count refused refused) (sym c.new-piece.ensures.items)
+    (begins told c.in_ok-desk.desk tells texts count refused c.in_ok-desk.ensures.stands)) in
     ends told (g.W.Sink.taken c.run_lines.new.sink) (g.W.Sink.taken c.write_all.new.sink) c.run_lines.new.desk c.run_lines.new.refused.items c.run_lines.new.piece.items (out_from []) whole (λ rs history. refl) (c.in_ok-run_lines.ensures.ok told whole texts count refused begun).runs (subst (TakesAll (g.W.Sink.taken c.run_lines.new.sink) (g.W.Sink.taken c.write_all.new.sink)) c.deref.ensures.value c.in_ok-write_all.ensures.ok)
 
 pub returns-clause-backed : goal.returns-clause-backed
@@ -86,7 +86,7 @@ returns-clause-backed g c =
     let refused = g.B.Build.refused c.args.build.now in
     let whole : List Refused → List ℕ = λ rs. tells rs [] in
     let begun : Plays told told c.in_ok-desk.desk c.args.refused.now.items c.new-piece.result.items tells whole texts texts count count refused refused =
-        subst (λ rs. Plays told told c.in_ok-desk.desk rs c.new-piece.result.items tells whole texts texts count count refused refused) (sym c.requires.none)
-        (subst (λ piece. Plays told told c.in_ok-desk.desk [] piece tells whole texts texts count count refused refused) (sym c.new-piece.ensures.items)
-        (begins told c.in_ok-desk.desk tells texts count refused c.in_ok-desk.ensures.stands)) in
+    subst (λ rs. Plays told told c.in_ok-desk.desk rs c.new-piece.result.items tells whole texts texts count count refused refused) (sym c.requires.none)
+    (subst (λ piece. Plays told told c.in_ok-desk.desk [] piece tells whole texts texts count count refused refused) (sym c.new-piece.ensures.items)
+    (begins told c.in_ok-desk.desk tells texts count refused c.in_ok-desk.ensures.stands)) in
     (c.in_ok-run_lines.ensures.ok told whole texts count refused begun).backed.backed
