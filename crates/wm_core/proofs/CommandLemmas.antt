@@ -1,5 +1,5 @@
 -- The groups of a text are run one after another.
-use Rattle.std.proofs.Common.{◌≡◌, ◌∙◌, refl, ap, sym, ℕ, suc, ◌-◌, ◌≤◌, get_or, List, [], ◌∷◌, ◌++◌, length, take, drop, arith, append_assoc}
+use Rattle.std.proofs.Common.{◌≡◌, ◌∙◌, ap, suc, ◌-◌, ◌≤◌, get_or, List, [], ◌∷◌, ◌++◌, length, take, drop, arith, append_assoc}
 use Rattle.std.proofs.lemmas.List.{take_all}
 use Rattle.wm_grammar.specs.declared.batch.Group.{Group}
 use Rattle.wm_json.specs.declared.replies.Reply.{Reply}

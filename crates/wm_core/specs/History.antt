@@ -1,5 +1,5 @@
 -- The history of a desk: the steps of its callers, the newest first, and the tree that they leave.
-use Rattle.std.specs.Prelude.{ℕ, ◌==◌, ◌||◌, Bool, false, if◌then◌else◌, List, [], ◌∷◌, Option, None, Some, is_some, pos}
+use Rattle.std.specs.Prelude.{ℕ, ◌==◌, ◌||◌, Bool, false, if◌then◌else◌, List, [], ◌∷◌, Option, None, Some, pos}
 use Rattle.wm_base.specs.declared.errors.Limit.{Limit}
 use Rattle.wm_base.specs.declared.geometry.Rect.{Rect}
 use Rattle.wm_base.specs.declared.geometry.Size.{Size}
@@ -9,8 +9,8 @@ use Rattle.wm_tree.specs.declared.part.ConPart.{ConPart}
 use Rattle.wm_tree.specs.declared.part.ConKind.{ConKind}
 use Rattle.wm_tree.specs.declared.part.ConKind.TheVariants.{Window}
 use Rattle.wm_tree.specs.declared.place.NewCon.TheVariants as new
-use Rattle.wm_tree.specs.Look.{kind_of, con_kind, space_kind}
-use Rattle.wm_tree.specs.TreeValue.{TreeValue, opening, id, focused, parent, newcomer_place, passed_limit, attached, detached, with_raised, with_space_layout}
+use Rattle.wm_tree.specs.Look.{kind_of, con_kind}
+use Rattle.wm_tree.specs.TreeValue.{TreeValue, opening, id, newcomer_place, passed_limit, attached, detached, with_raised}
 use Rattle.wm_layouts.specs.declared.plan.Plan.{Plan}
 use Rattle.wm_core.specs.declared.step.Answer.{Answer}
 use Rattle.wm_core.specs.declared.step.Answer.TheVariants.{Done, Mapped, Replies, NoView, Empty, Full}

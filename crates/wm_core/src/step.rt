@@ -15,23 +15,43 @@ pub enum Step {
         then: Option<Prepared>,
     },
     /// Gives the caller's window another title.
-    Retitle { con: ConId, title: Text },
+    Retitle {
+        con: ConId,
+        title: Text,
+    },
     /// Says whether the caller's window is urgent.
-    Urgent { con: ConId, on: bool },
+    Urgent {
+        con: ConId,
+        on: bool,
+    },
     /// Closes the caller's window.
-    Close { con: ConId },
+    Close {
+        con: ConId,
+    },
     /// Closes all windows of the caller.
     Gone,
     /// Presses a chord, which runs the text of the current mode among these.
-    Key { chord: Text, choices: List<Choice> },
+    Key {
+        chord: Text,
+        choices: List<Choice>,
+    },
     /// Sends a tick, which has at most 4,096 bytes.
-    Tick { payload: Str },
+    Tick {
+        payload: Str,
+    },
     /// Adds an output.
-    OutputAdd { plan: OutputPlan },
+    OutputAdd {
+        plan: OutputPlan,
+    },
     /// Removes the output of this name.
-    OutputRemove { name: Text },
+    OutputRemove {
+        name: Text,
+    },
     /// Reserves the edges of an output for bars, in pixels.
-    Reserve { name: Text, edges: Edges },
+    Reserve {
+        name: Text,
+        edges: Edges,
+    },
 }
 
 /// What a key does in a mode.

@@ -1,5 +1,5 @@
 -- How a run on frames ends, from what a decoder says of them.
-use Rattle.std.proofs.Common.{◌≡◌, ◌∙◌, refl, ap, sym, subst, ℕ, zero, suc, ◌+◌, ◌≤◌, List, [], Option, None, Some, length, drop, arith}
+use Rattle.std.proofs.Common.{◌≡◌, ◌∙◌, refl, ap, sym, ℕ, zero, suc, ◌+◌, ◌≤◌, List, [], Option, None, Some, length, drop, arith}
 use Rattle.wm_frames.specs.declared.message.FrameFault.{FrameFault}
 use Rattle.wm_frames.specs.declared.message.FrameFault.TheVariants.{Magic, TooLong}
 use Rattle.wm_frames.specs.declared.front.Front.{Front}

@@ -1,7 +1,7 @@
 -- Lists of refusals: what is at a place, and what one more changes.
 use Rattle.std.proofs.Common.{◌≡◌, ◌∙◌, refl, ap, sym, subst, ℕ, zero, suc, ◌+◌, ◌<◌, ◌≤◌, ◌⊎◌, inl, inr, Bool, true, false, cond, eqb, List, [], ◌∷◌, ◌++◌, length, drop, take, Option, None, Some, is_some, arith, append_assoc, length-append}
-use Rattle.std.specs.Prelude.{slice_get, min, IsTrue, option_and_then, option_map}
-use Rattle.std.specs.List.{flat_map, AllByRecursion}
+use Rattle.std.specs.Prelude.{slice_get, IsTrue, option_and_then, option_map}
+use Rattle.std.specs.List.{AllByRecursion}
 use Rattle.std.specs.Option.{option_to_list}
 use Rattle.std.proofs.lemmas.Bool.{eqb-true}
 use Rattle.std.proofs.lemmas.Bool.Decides.{Decides-eqb}
@@ -15,10 +15,9 @@ use Rattle.wm_criteria.specs.Verdict.{IsVerdict, OnRefusal, refused_patterns}
 use Rattle.wm_criteria.specs.declared.verdict.Verdict.{Verdict}
 use Rattle.wm_criteria.specs.declared.verdict.Verdict.TheVariants.{Ready, Bad, PatternRefused}
 use Rattle.wm_grammar.specs.Reading.{batch_of, groups_of, is_whole, IsReach}
-use Rattle.wm_grammar.specs.declared.batch.Batch.{Batch}
 use Rattle.wm_grammar.specs.declared.batch.Group.{Group}
 use Rattle.wm_tool.specs.declared.status.Refused.{Refused}
-use Rattle.wm_tool.specs.Refusals.{IsBacked, IsRefusable, IsRising, RoseBy, pattern_in, patterns_in, reach, refusal_at, text_at, verdict_by, verdict_of}
+use Rattle.wm_tool.specs.Refusals.{IsRefusable, IsRising, RoseBy, pattern_in, patterns_in, reach, refusal_at, text_at, verdict_by, verdict_of}
 use Rattle.wm_tool.specs.Running.{Backs, Grows, IsBackedTo, fresh}
 
 -- ---- places

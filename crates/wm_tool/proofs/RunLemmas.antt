@@ -1,18 +1,18 @@
 -- A desk takes steps one after another, and what they tell is written in pieces.
-use Rattle.std.proofs.Common.{◌≡◌, ◌∙◌, refl, ap, ap₂, sym, subst, ℕ, zero, suc, ◌+◌, ◌-◌, get_or, ◌<◌, ◌≤◌, ◌⊎◌, inl, inr, List, [], ◌∷◌, ◌++◌, Option, None, Some, Result, Ok, Err, length, take, drop, arith, length-append, append_assoc}
+use Rattle.std.proofs.Common.{◌≡◌, ◌∙◌, refl, ap, ap₂, sym, subst, ℕ, zero, suc, ◌+◌, ◌-◌, get_or, ◌<◌, ◌≤◌, inl, inr, List, [], ◌∷◌, ◌++◌, Option, None, Some, Result, Ok, Err, length, take, drop, arith, length-append, append_assoc}
 use Rattle.std.specs.Prelude.{pos, OnErr, OnOk}
 use Rattle.std.proofs.lemmas.List.{append-nil, drop_all, take_all, take-append-drop}
 use Rattle.wm_frames.specs.declared.message.Message.{Message}
 use Rattle.wm_layouts.specs.Plan.{default_outputs}
-use Rattle.wm_tree.specs.TreeValue.{TreeValue, opening}
+use Rattle.wm_tree.specs.TreeValue.{opening}
 use Rattle.wm_core.specs.DeskValue.{DeskValue, Stands}
 use Rattle.wm_criteria.specs.Building.{Tells}
-use Rattle.wm_core.specs.History.{Entry, History, first_rect, opening_of}
+use Rattle.wm_core.specs.History.{History, first_rect, opening_of}
 use Rattle.wm_ports.specs.Told.{TakesAll, TakesPart}
 use Rattle.wm_tool.specs.declared.script.Line.{Line}
 use Rattle.wm_tool.specs.declared.script.Line.TheVariants as line
 use Rattle.wm_tool.specs.declared.status.Refused.{Refused}
-use Rattle.wm_tool.specs.Ipc.{after_message, entry_by, framed, message_entry, message_step, message_texts, payload, replied, replies_from, request_of, text_of_request, text_step}
+use Rattle.wm_tool.specs.Ipc.{after_message, entry_by, framed, message_step, message_texts, payload, replied, replies_from, request_of, text_of_request, text_step}
 use Rattle.wm_tool.specs.Output.{after, after_entry, entry_text, line_entry, line_step, entry_of, line_texts, out_from, run_entry, start, told}
 use Rattle.wm_tool.specs.Refusals.{IsBacked, IsRising, refusal_at, verdict_of}
 use Rattle.wm_tool.specs.Running.{Backs, Grows, Holds, IsBackedTo, Leads, Plays, Runs, Stops, Writes, fresh}

@@ -1,5 +1,5 @@
 -- The patterns that were refused in a run, and the verdicts on its texts.
-use Rattle.std.specs.Prelude.{◌≡◌, ℕ, ◌+◌, ◌==◌, ◌≤◌, if◌then◌else◌, min, List, [], ◌∷◌, length, take, Option, None, Some, is_some, option_and_then, slice_get, IsTrue}
+use Rattle.std.specs.Prelude.{ℕ, ◌+◌, ◌==◌, ◌≤◌, if◌then◌else◌, min, List, [], ◌∷◌, length, take, Option, None, Some, is_some, option_and_then, slice_get, IsTrue}
 use Rattle.std.specs.List.{flat_map, AllByRecursion}
 use Rattle.std.specs.Option.{option_to_list}
 use Rattle.wm_defs.specs.Counts.{LAST_COUNT}

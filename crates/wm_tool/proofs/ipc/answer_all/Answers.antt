@@ -1,4 +1,4 @@
-use Rattle.std.proofs.Common.{◌≡◌, ℕ, [], List, Option, refl, subst, sym}
+use Rattle.std.proofs.Common.{ℕ, [], List, refl, subst, sym}
 use Rattle.wm_tool.specs.Ipc.{message_texts, replies_from}
 use Rattle.wm_tool.specs.declared.status.Refused.{Refused}
 use Rattle.wm_tool.specs.Running.{Plays}

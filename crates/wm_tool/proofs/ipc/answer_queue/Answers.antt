@@ -1,4 +1,4 @@
-use Rattle.std.proofs.Common.{◌≡◌, ◌∙◌, [], ap, arith, length, refl, subst}
+use Rattle.std.proofs.Common.{◌∙◌, [], ap, arith, length, refl, subst}
 use Rattle.wm_core.specs.History.{opening_of}
 use Rattle.wm_ports.specs.Told.{TakesAll, TakesPart}
 use Rattle.wm_tool.specs.Ipc.{after_message, message_texts, replied, replies_from, request_of, text_of_request}

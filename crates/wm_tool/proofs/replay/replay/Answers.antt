@@ -1,5 +1,4 @@
-use Rattle.std.proofs.Common.{◌≡◌, ℕ, [], List, Option, refl, subst, sym}
-use Rattle.wm_core.specs.DeskValue.{DeskValue}
+use Rattle.std.proofs.Common.{ℕ, [], List, refl, subst, sym}
 use Rattle.wm_ports.specs.Told.{TakesAll, TakesPart}
 use Rattle.wm_tool.specs.Output.{line_texts, out_from}
 use Rattle.wm_tool.specs.declared.status.Refused.{Refused}

@@ -1,4 +1,4 @@
-use Rattle.std.proofs.Common.{◌≡◌, ◌∙◌, ◌-◌, ap, arith, drop, length, subst, take}
+use Rattle.std.proofs.Common.{◌∙◌, ◌-◌, ap, arith, drop, length, subst, take}
 use Rattle.std.proofs.lemmas.List.Elements.{All-take, All-drop}
 use Rattle.wm_tool.specs.Output.{line_texts, out_from}
 use Rattle.wm_tool.specs.Running.{Plays}
