@@ -157,8 +157,7 @@ impl Tree {
 
     /// The two containers change places; the shares stay with the places. Neither is within the other.
     pub fn exchange(&mut self, a: ConId, b: ConId) -> Result<(), TreeRefusal>
-        requires { has a self.old.nodes ≡ true → has b (only a self.old.nodes) ≡ false }
-        ensures ok { OnOk result (self.new ≡ exchanged a b self.old) }
+        ensures ok { has b (only a self.old.nodes) ≡ false → OnOk result (self.new ≡ exchanged a b self.old) }
         ensures err { OnErr result (self.new ≡ self.old) }
         ensures missing { has a self.old.nodes ≡ false → result ≡ Err (Missing a) }
         ensures other { has a self.old.nodes ≡ true → has b self.old.nodes ≡ false → result ≡ Err (Missing b) }
@@ -208,8 +207,8 @@ impl Row {
         requires hole { alone spare.old ≡ hole }
         requires first { has a.0 self.old ≡ true }
         requires second { has b.0 self.old ≡ true }
-        requires outside { has b.0 (only a.0 self.old) ≡ false }
-        ensures { self.new ≡ exchanged_nodes a.0 b.0 a.1 b.1 away self.old }
+        ensures { has b.0 (only a.0 self.old) ≡ false →
+            self.new ≡ exchanged_nodes a.0 b.0 a.1 b.1 away self.old }
     {
         self.swap(a.0, spare);
         spare.arrive(b.1, None, away);
