@@ -2,7 +2,7 @@
 ghost use Rattle.std.specs.Prelude.{◌≡◌, ◌≢◌, ◌≤◌, false, true, Err, None, IfOk, IfErr, OnOk, OnErr, IfSome, MatchOption, IsOk, is_some};
 ghost use Rattle.wm_nested.specs.Change.{arriving, hole};
 ghost use Rattle.wm_nested.specs.Look.{has, only};
-ghost use Rattle.wm_nested.specs.Move.{IsMove, apart, exchanged, exchanged_nodes, is_too_deep, moved, moved_share, passed_by_move, passed_by_wrap, same_space, share_in, wrap_word, wrapped, IsExchangeCause, IsMoveCause, IsWrapCause};
+ghost use Rattle.wm_nested.specs.Move.{IsExchange, IsMove, apart, exchanged, exchanged_nodes, is_too_deep, moved, moved_share, passed_by_move, passed_by_wrap, same_space, share_in, wrap_word, wrapped, IsExchangeCause, IsMoveCause, IsWrapCause};
 ghost use Rattle.wm_nested.specs.Place.{IsTiled, named, put};
 ghost use Rattle.wm_nested.specs.Sound.{IsSound};
 ghost use Rattle.wm_nested.specs.Row.{alone};
@@ -158,6 +158,7 @@ impl Tree {
     /// The two containers change places; the shares stay with the places. Neither is within the other.
     pub fn exchange(&mut self, a: ConId, b: ConId) -> Result<(), TreeRefusal>
         ensures ok { has b (only a self.old.nodes) ≡ false → OnOk result (self.new ≡ exchanged a b self.old) }
+        ensures sound { IsExchange a b self.old.nodes → IsSound self.old → IsSound self.new }
         ensures err { OnErr result (self.new ≡ self.old) }
         ensures missing { has a self.old.nodes ≡ false → result ≡ Err (Missing a) }
         ensures other { has a self.old.nodes ≡ true → has b self.old.nodes ≡ false → result ≡ Err (Missing b) }
