@@ -7,6 +7,7 @@ pub mod ExchangeSound
 pub mod FocusLemmas
 pub mod ForestLemmas
 pub mod HoleLemmas
+pub mod HoleLooks
 pub mod LookLemmas
 pub mod MarkLemmas
 pub mod MoveLemmas
