@@ -20,7 +20,7 @@ use Rattle.wm_nested.specs.Kinds.{changed, kind_changed, laid_out, titled}
 use Rattle.wm_nested.specs.Look.{only, in_row, first_kids}
 use Rattle.wm_nested.specs.Sound.{Level, roots, outputs, spaces, containers, HasKids, HasShare, IsNode, IsSoundRow, ranks}
 use Rattle.wm_nested.specs.Spot.{room_below, spot_in, spot_of}
-use Rattle.wm_nested.proofs.RowLemmas.{same_row, behind_row, Grows, keeps_sound}
+use Rattle.wm_nested.proofs.RowLemmas.{same_row, behind_row, Grows, keeps_by, node_keeps}
 use Rattle.wm_nested.proofs.PutLemmas.{Here}
 
 -- what a change needs of its node: a share within its limits, a workspace or output that is there
@@ -109,7 +109,7 @@ changed_one edit kind = refl
 
 pub sound-changed : (c : ConId) (edit : KindEdit) (l : Level) (s : Spot) (forest : Forest) → FitsEditAt edit (spot_in s c forest) (first_kids (only c forest)) → IsSoundRow l s.tiled s.room forest
     → Grows 0 l s.tiled s.room forest forest (at c kind_changed edit forest) (row_with c forest forest)
-sound-changed c edit l s forest ok p = keeps_sound c kind_changed edit 0 (λ found sp st. FitsEditAt edit sp (first_kids found)) (λ found sp st h. inl refl) here l s forest forest ok p
+sound-changed c edit l s forest ok p = keeps_by IsNode node_keeps c kind_changed edit 0 (λ found sp st. FitsEditAt edit sp (first_kids found)) (λ found sp st h. inl refl) here l s forest forest ok p
   where
     here : (l : Level) (s : Spot) (whole : Forest) (part : Part) (kids floats rest : Forest) → FitsEditAt edit (Some (spot_of s part)) kids
         → Here 0 l s (con part kids floats rest) (con (record part { kind = changed edit part.kind }) kids floats rest)

@@ -3,8 +3,11 @@ pub mod ChangeLemmas
 pub mod CountLemmas
 pub mod EditLemmas
 pub mod ExchangeLemmas
+pub mod ExchangeSound
 pub mod FocusLemmas
 pub mod ForestLemmas
+pub mod HoleLemmas
+pub mod HoleLooks
 pub mod LookLemmas
 pub mod MarkLemmas
 pub mod MoveLemmas

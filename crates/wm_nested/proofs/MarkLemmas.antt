@@ -18,7 +18,7 @@ use Rattle.wm_nested.specs.TreeValue.{TreeValue, root}
 use Rattle.wm_nested.proofs.ChangeLemmas.{by_change}
 use Rattle.wm_nested.proofs.CountLemmas.{count-same}
 use Rattle.wm_nested.proofs.PutLemmas.{Here, IsConFirst, con_level}
-use Rattle.wm_nested.proofs.RowLemmas.{same_row, behind_row, Grows, keeps_sound}
+use Rattle.wm_nested.proofs.RowLemmas.{same_row, behind_row, Grows, keeps_by, node_keeps}
 
 other_shorter : (n : List ℕ) (marks : List (List ℕ)) → length (other_marks n marks) ≤ length marks
 other_shorter n [] = omega arith
@@ -54,7 +54,7 @@ unmarked_node n containers tiled room id (Con c) marks kids h = (h.0, h.1, omega
 
 shaped-marks : (c : ConId) (marks : List (List ℕ)) (l : Level) (s : Spot) (forest : Forest) → IsConFirst (only c forest) → length marks ≤ 32 → IsSoundRow l s.tiled s.room forest
     → Grows 0 l s.tiled s.room forest forest (at c marks_word marks forest) (row_with c forest forest)
-shaped-marks c marks l s forest ok few p = keeps_sound c marks_word marks 0 (λ found sp st. IsConFirst found) (λ found sp st h. inl refl) here l s forest forest ok p
+shaped-marks c marks l s forest ok few p = keeps_by IsNode node_keeps c marks_word marks 0 (λ found sp st. IsConFirst found) (λ found sp st h. inl refl) here l s forest forest ok p
   where
     here : (l : Level) (s : Spot) (whole : Forest) (part : Part) (kids floats rest : Forest) → IsConFirst (con part kids floats end) → Here 0 l s (con part kids floats rest) (con (record part { marks = marks }) kids floats rest)
     here l s whole part kids floats rest ok p =
@@ -64,7 +64,7 @@ shaped-marks c marks l s forest ok few p = keeps_sound c marks_word marks 0 (λ 
 
 shaped-unmarked : (c : ConId) (n : List ℕ) (l : Level) (s : Spot) (forest : Forest) → IsSoundRow l s.tiled s.room forest
     → Grows 0 l s.tiled s.room forest forest (at c unmark_word n forest) (row_with c forest forest)
-shaped-unmarked c n l s forest p = keeps_sound c unmark_word n 0 (λ found sp st. Unit {0}) (λ found sp st h. inl refl) here l s forest forest tt p
+shaped-unmarked c n l s forest p = keeps_by IsNode node_keeps c unmark_word n 0 (λ found sp st. Unit {0}) (λ found sp st h. inl refl) here l s forest forest tt p
   where
     here : (l : Level) (s : Spot) (whole : Forest) (part : Part) (kids floats rest : Forest) → Unit {0} → Here 0 l s (con part kids floats rest) (con (record part { marks = other_marks n part.marks }) kids floats rest)
     here l s whole part kids floats rest ok p =

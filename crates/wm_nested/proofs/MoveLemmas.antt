@@ -66,13 +66,13 @@ placed_room room share rect (Output o) = refl
 placed_room room share rect (Space w) = refl
 placed_room room share rect (Con c) = refl
 
-placed_ranks : (share : ℕ) (rect : Option Rect) (kind : NodeKind) → ranks (placed share rect kind) ≡ ranks kind
+pub placed_ranks : (share : ℕ) (rect : Option Rect) (kind : NodeKind) → ranks (placed share rect kind) ≡ ranks kind
 placed_ranks share rect (Root c) = refl
 placed_ranks share rect (Output o) = refl
 placed_ranks share rect (Space w) = refl
 placed_ranks share rect (Con c) = refl
 
-placed_one : (share : ℕ) (rect : Option Rect) (kind : NodeKind) → one_con (placed share rect kind) ≡ one_con kind
+pub placed_one : (share : ℕ) (rect : Option Rect) (kind : NodeKind) → one_con (placed share rect kind) ≡ one_con kind
 placed_one share rect (Root c) = refl
 placed_one share rect (Output o) = refl
 placed_one share rect (Space w) = refl
@@ -110,7 +110,7 @@ arrived tiled other room room' share rect away (con part kids floats end) ok fit
 
 -- ---- counts
 
-count-arriving : (m : Part → ℕ) (share : ℕ) (rect : Option Rect) → ((part : Part) → m (record part { kind = unfull_kind part.kind }) ≡ m part) → ((part : Part) → m (record part { kind = placed share rect part.kind }) ≡ m part)
+pub count-arriving : (m : Part → ℕ) (share : ℕ) (rect : Option Rect) → ((part : Part) → m (record part { kind = unfull_kind part.kind }) ≡ m part) → ((part : Part) → m (record part { kind = placed share rect part.kind }) ≡ m part)
     → (away : Bool) (f : Forest) → count m (arriving share rect away f) ≡ count m f
 count-arriving m share rect hu hp away end = refl
 count-arriving m share rect hu hp true (con part kids floats rest) =

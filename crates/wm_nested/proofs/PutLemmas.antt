@@ -14,7 +14,7 @@ use Rattle.wm_nested.specs.Look.{only, con_kind, first_kids, first_part, kind_by
 use Rattle.wm_nested.specs.Place.{IsSplit, TakesFirst, TakesKids, before_first}
 use Rattle.wm_nested.specs.Sound.{Level, roots, outputs, spaces, containers, below, HasKids, IsNode, IsSoundRow}
 use Rattle.wm_nested.specs.Spot.{room_below, spot_in, spot_of}
-use Rattle.wm_nested.proofs.RowLemmas.{KeepsRow, same_row, behind_row, Grows, keeps_sound}
+use Rattle.wm_nested.proofs.RowLemmas.{KeepsRow, same_row, behind_row, Grows, keeps_by, node_keeps}
 
 -- the row found begins with a container
 abbrev pub IsConFirst : Forest → Type 0
@@ -44,7 +44,7 @@ Here d l s old new = IsSoundRow l s.tiled s.room old → IsSoundRow l s.tiled s.
 -- ---- taking out
 
 pub sound-without : (c : ConId) (l : Level) (s : Spot) (forest : Forest) → IsConFirst (only c forest) → IsSoundRow l s.tiled s.room forest → Grows 0 l s.tiled s.room forest forest (without c forest) (row_with c forest forest)
-sound-without c l s forest ok p = keeps_sound c (λ row part kids floats rest. rest) end 0 (λ found sp st. IsConFirst found) (λ found sp st h. inl refl) here l s forest forest ok p
+sound-without c l s forest ok p = keeps_by IsNode node_keeps c (λ row part kids floats rest. rest) end 0 (λ found sp st. IsConFirst found) (λ found sp st h. inl refl) here l s forest forest ok p
   where
     here : (l : Level) (s : Spot) (whole : Forest) (part : Part) (kids floats rest : Forest) → IsConFirst (con part kids floats end) → Here 0 l s (con part kids floats rest) rest
     here l s whole part kids floats rest ok p =
@@ -64,7 +64,7 @@ Beside row found sp st = IsConFirst found × IsSoundAt sp row × (row_length st 
 pub sound-put_after : (c : ConId) (row : Forest) (l : Level) (s : Spot) (forest : Forest) → Beside row (only c forest) (spot_in s c forest) (row_with c forest forest) → IsSoundRow l s.tiled s.room forest
     → Grows (row_length row) l s.tiled s.room forest forest (at c (λ row part kids floats rest. con part kids floats (append row rest)) row forest) (row_with c forest forest)
 sound-put_after c row l s forest ok p =
-    keeps_sound c (λ row part kids floats rest. con part kids floats (append row rest)) row (row_length row) (Beside row) (λ found sp st h. inr h.2) here l s forest forest ok p
+    keeps_by IsNode node_keeps c (λ row part kids floats rest. con part kids floats (append row rest)) row (row_length row) (Beside row) (λ found sp st h. inr h.2) here l s forest forest ok p
   where
     here : (l : Level) (s : Spot) (whole : Forest) (part : Part) (kids floats rest : Forest) → Beside row (con part kids floats end) (Some (spot_of s part)) whole
         → Here (row_length row) l s (con part kids floats rest) (con part kids floats (append row rest))
@@ -75,7 +75,7 @@ sound-put_after c row l s forest ok p =
 
 pub sound-put_before : (c : ConId) (row : Forest) (l : Level) (s : Spot) (forest : Forest) → Beside row (only c forest) (spot_in s c forest) (row_with c forest forest) → IsSoundRow l s.tiled s.room forest
     → Grows (row_length row) l s.tiled s.room forest forest (at c before_first row forest) (row_with c forest forest)
-sound-put_before c row l s forest ok p = keeps_sound c before_first row (row_length row) (Beside row) (λ found sp st h. inr h.2) here l s forest forest ok p
+sound-put_before c row l s forest ok p = keeps_by IsNode node_keeps c before_first row (row_length row) (Beside row) (λ found sp st h. inr h.2) here l s forest forest ok p
   where
     here : (l : Level) (s : Spot) (whole : Forest) (part : Part) (kids floats rest : Forest) → Beside row (con part kids floats end) (Some (spot_of s part)) whole
         → Here (row_length row) l s (con part kids floats rest) (append row (con part kids floats rest))
@@ -128,13 +128,13 @@ under_here row new l s whole part kids floats rest ok long joins p =
 pub sound-put_last : (c : ConId) (row : Forest) (l : Level) (s : Spot) (forest : Forest) → Under row (only c forest) (spot_in s c forest) (row_with c forest forest) → IsSoundRow l s.tiled s.room forest
     → Grows 0 l s.tiled s.room forest forest (at c (λ row part kids floats rest. con part (append kids row) floats rest) row forest) (row_with c forest forest)
 sound-put_last c row l s forest ok p =
-    keeps_sound c (λ row part kids floats rest. con part (append kids row) floats rest) row 0 (Under row) (λ found sp st h. inl refl)
+    keeps_by IsNode node_keeps c (λ row part kids floats rest. con part (append kids row) floats rest) row 0 (Under row) (λ found sp st h. inl refl)
     (λ l s whole part kids floats rest ok. under_here row (append kids row) l s whole part kids floats rest ok (row_length-append kids row) (λ t r a b. sound-append containers t r kids row a b)) l s forest forest ok p
 
 pub sound-put_first : (c : ConId) (row : Forest) (l : Level) (s : Spot) (forest : Forest) → Under row (only c forest) (spot_in s c forest) (row_with c forest forest) → IsSoundRow l s.tiled s.room forest
     → Grows 0 l s.tiled s.room forest forest (at c (λ row part kids floats rest. con part (append row kids) floats rest) row forest) (row_with c forest forest)
 sound-put_first c row l s forest ok p =
-    keeps_sound c (λ row part kids floats rest. con part (append row kids) floats rest) row 0 (Under row) (λ found sp st h. inl refl)
+    keeps_by IsNode node_keeps c (λ row part kids floats rest. con part (append row kids) floats rest) row 0 (Under row) (λ found sp st h. inl refl)
     (λ l s whole part kids floats rest ok. under_here row (append row kids) l s whole part kids floats rest ok (omega (arith, row_length-append row kids)) (λ t r a b. sound-append containers t r row kids b a)) l s forest forest ok p
 
 -- ---- putting among the floating windows of a node, or in the scratchpad
@@ -144,7 +144,7 @@ Above row found sp st = IsSoundBelow false sp (first_part found) row
 
 pub sound-put_float : (c : ConId) (row : Forest) (l : Level) (s : Spot) (forest : Forest) → Above row (only c forest) (spot_in s c forest) (row_with c forest forest) → IsSoundRow l s.tiled s.room forest
     → Grows 0 l s.tiled s.room forest forest (at c (λ row part kids floats rest. con part kids (append floats row) rest) row forest) (row_with c forest forest)
-sound-put_float c row l s forest ok p = keeps_sound c (λ row part kids floats rest. con part kids (append floats row) rest) row 0 (Above row) (λ found sp st h. inl refl) here l s forest forest ok p
+sound-put_float c row l s forest ok p = keeps_by IsNode node_keeps c (λ row part kids floats rest. con part kids (append floats row) rest) row 0 (Above row) (λ found sp st h. inl refl) here l s forest forest ok p
   where
     here : (l : Level) (s : Spot) (whole : Forest) (part : Part) (kids floats rest : Forest) → Above row (con part kids floats end) (Some (spot_of s part)) whole
         → Here 0 l s (con part kids floats rest) (con part kids (append floats row) rest)

@@ -15,7 +15,7 @@ use Rattle.wm_nested.specs.TreeValue.{TreeValue, root, workspace_of}
 use Rattle.wm_nested.specs.Words.{raised_at, with_raised}
 use Rattle.wm_nested.proofs.CountLemmas.{count-append, count-same}
 use Rattle.wm_nested.proofs.PutLemmas.{Here, sound-append}
-use Rattle.wm_nested.proofs.RowLemmas.{KeepsRow, same_row, behind_row, node_keeps, Grows, keeps_sound}
+use Rattle.wm_nested.proofs.RowLemmas.{KeepsRow, same_row, behind_row, node_keeps, Grows, keeps_by}
 use Rattle.wm_nested.proofs.StandLemmas.{sound-but}
 use Rattle.wm_nested.proofs.TimesLemmas.{times-raised}
 
@@ -144,7 +144,7 @@ count-to_end m c f = step (in_row c f)
 -- ---- raising
 
 pub sound-raised_in : (w c : ConId) (l : Level) (s : Spot) (forest : Forest) → IsSoundRow l s.tiled s.room forest → Grows 0 l s.tiled s.room forest forest (at w raised_in c forest) (row_with w forest forest)
-sound-raised_in w c l s forest p = keeps_sound w raised_in c 0 (λ found sp st. Unit {0}) (λ found sp st h. inl refl) here l s forest forest tt p
+sound-raised_in w c l s forest p = keeps_by IsNode node_keeps w raised_in c 0 (λ found sp st. Unit {0}) (λ found sp st h. inl refl) here l s forest forest tt p
   where
     here : (l : Level) (s : Spot) (whole : Forest) (part : Part) (kids floats rest : Forest) → Unit {0} → Here 0 l s (con part kids floats rest) (con part (unfull c kids) (to_end c (unfull c floats)) rest)
     here l s whole part kids floats rest ok p = (

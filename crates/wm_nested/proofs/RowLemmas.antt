@@ -11,7 +11,7 @@ use Rattle.wm_nested.specs.Forest.{Forest, end, con}
 use Rattle.wm_nested.specs.Change.{at}
 use Rattle.wm_nested.specs.Counts.{row_length, row_with}
 use Rattle.wm_nested.specs.Look.{same, only, in_row}
-use Rattle.wm_nested.specs.Sound.{Level, roots, outputs, spaces, containers, below, HasKids, IsNode, IsSoundRow}
+use Rattle.wm_nested.specs.Sound.{Level, roots, outputs, spaces, containers, below, HasKids, IsNode, RowOf}
 use Rattle.wm_nested.specs.Spot.{spot_below, spot_in, spot_of}
 use Rattle.wm_nested.proofs.ChangeLemmas.{by_place}
 
@@ -66,20 +66,25 @@ node_keeps containers tiled room id (Space w) marks old new keeps ends h = h
 node_keeps containers tiled room id (Con c) marks old new keeps ends h = (h.0, h.1, h.2, kids_keep c.kind old new ends h.3)
 
 -- a row after a change that adds at most d nodes to the row `st` in which it is made
-pub record Grows (d : ℕ) (l : Level) (tiled : Bool) (room : ℕ) (whole old new st : Forest) : Type 0 where
-  pub sound : IsSoundRow l tiled room new
+pub record GrowsBy (N : Level → Bool → ℕ → ConId → NodeKind → List (List ℕ) → Forest → Type 0) (d : ℕ) (l : Level) (tiled : Bool) (room : ℕ) (whole old new st : Forest) : Type 0 where
+  pub sound : RowOf N l tiled room new
   pub keeps : KeepsRow l old new
   pub ends : old ≡ end → new ≡ end
   pub grows : (row_length new ≤ row_length old) ⊎ ((st ≡ whole) × (row_length new ≤ row_length old + d))
 
+abbrev pub Grows : ℕ → Level → Bool → ℕ → Forest → Forest → Forest → Forest → Type 0
+Grows d l tiled room whole old new st = GrowsBy IsNode d l tiled room whole old new st
+
 -- a change that keeps what holds of a row where it is made keeps it everywhere; Allowed is what it needs of the node, its spot and its row
-module _ {X : Type 0} (c : ConId) (f : X → Part → Forest → Forest → Forest → Forest) (x : X) (d : ℕ) (Allowed : Forest → Option Spot → Forest → Type 0)
+module _ (N : Level → Bool → ℕ → ConId → NodeKind → List (List ℕ) → Forest → Type 0)
+    (keeps_node : (l : Level) (tiled : Bool) (room : ℕ) (id : ConId) (kind : NodeKind) (marks : List (List ℕ)) (old new : Forest) → KeepsRow (below l) old new → (old ≡ end → new ≡ end) → N l tiled room id kind marks old → N l tiled room id kind marks new)
+    {X : Type 0} (c : ConId) (f : X → Part → Forest → Forest → Forest → Forest) (x : X) (d : ℕ) (Allowed : Forest → Option Spot → Forest → Type 0)
     (room_left : (found : Forest) (sp : Option Spot) (st : Forest) → Allowed found sp st → (d ≡ 0) ⊎ (row_length st + d ≤ 256))
-    (here : (l : Level) (s : Spot) (whole : Forest) (part : Part) (kids floats rest : Forest) → Allowed (con part kids floats end) (Some (spot_of s part)) whole → IsSoundRow l s.tiled s.room (con part kids floats rest)
-    → IsSoundRow l s.tiled s.room (f x part kids floats rest) × KeepsRow l (con part kids floats rest) (f x part kids floats rest) × (row_length (f x part kids floats rest) ≤ row_length (con part kids floats rest) + d))
+    (here : (l : Level) (s : Spot) (whole : Forest) (part : Part) (kids floats rest : Forest) → Allowed (con part kids floats end) (Some (spot_of s part)) whole → RowOf N l s.tiled s.room (con part kids floats rest)
+    → RowOf N l s.tiled s.room (f x part kids floats rest) × KeepsRow l (con part kids floats rest) (f x part kids floats rest) × (row_length (f x part kids floats rest) ≤ row_length (con part kids floats rest) + d))
   where
     abbrev Kept : Level → Spot → Forest → Forest → Forest → Forest → Option Spot → Forest → Type 0
-    Kept l s whole old new found sp st = Allowed found sp st → IsSoundRow l s.tiled s.room old → Grows d l s.tiled s.room whole old new st
+    Kept l s whole old new found sp st = Allowed found sp st → RowOf N l s.tiled s.room old → GrowsBy N d l s.tiled s.room whole old new st
 
     -- a row below a node has room for what is put into it
     short : (old new st : Forest) → row_length old ≤ 256 → (d ≡ 0) ⊎ (row_length st + d ≤ 256) → (row_length new ≤ row_length old) ⊎ ((st ≡ old) × (row_length new ≤ row_length old + d)) → row_length new ≤ 256
@@ -92,7 +97,7 @@ module _ {X : Type 0} (c : ConId) (f : X → Part → Forest → Forest → Fore
     in_kids l s whole part kids floats rest new found sp st h ok p =
         let g = h ok p.2 in
         record {
-          sound = (node_keeps l s.tiled s.room part.id part.kind part.marks kids new g.keeps g.ends p.0, short kids new st p.1 (room_left found sp st ok) g.grows, g.sound, p.3, p.4);
+          sound = (keeps_node l s.tiled s.room part.id part.kind part.marks kids new g.keeps g.ends p.0, short kids new st p.1 (room_left found sp st ok) g.grows, g.sound, p.3, p.4);
           keeps = behind_row l part part kids floats rest new floats rest refl (same_row l rest);
           ends = λ e. cc;
           grows = inl (omega arith);
@@ -120,8 +125,8 @@ module _ {X : Type 0} (c : ConId) (f : X → Part → Forest → Forest → Fore
           grows = ⊎_elim (λ le. inl (omega (arith, le))) (λ e. inr (e.0, omega (arith, e.1))) g.grows;
         }
 
-    pub keeps_sound : (l : Level) (s : Spot) (whole forest : Forest) → Kept l s whole forest (at c f x forest) (only c forest) (spot_in s c forest) (row_with c whole forest)
-    keeps_sound =
+    pub keeps_by : (l : Level) (s : Spot) (whole forest : Forest) → Kept l s whole forest (at c f x forest) (only c forest) (spot_in s c forest) (row_with c whole forest)
+    keeps_by =
         by_place c f x Kept
         (λ l s whole ok p. record { sound = p; keeps = same_row l end; ends = λ e. e; grows = inl (omega arith) })
         (λ l s whole part kids floats rest ok p. let h = here l s whole part kids floats rest ok p in record { sound = h.0; keeps = h.1; ends = λ e. cc; grows = inr (refl, h.2) })

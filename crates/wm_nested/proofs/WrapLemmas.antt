@@ -25,7 +25,7 @@ use Rattle.wm_nested.proofs.AttachLemmas.{sound-grown}
 use Rattle.wm_nested.proofs.CountLemmas.{count-more}
 use Rattle.wm_nested.proofs.EditLemmas.{changed_one, changed_ranks}
 use Rattle.wm_nested.proofs.PutLemmas.{Here, IsConFirst, con_level}
-use Rattle.wm_nested.proofs.RowLemmas.{Grows, keeps_sound}
+use Rattle.wm_nested.proofs.RowLemmas.{Grows, keeps_by, node_keeps}
 use Rattle.wm_nested.proofs.StandLemmas.{HasSpot, has_spot}
 
 -- ---- rows with other room
@@ -65,7 +65,7 @@ resound tiled room other (con part kids floats rest) fit p =
 
 -- ---- wrapping
 
-node_share : (tiled : Bool) (room : ℕ) (id : ConId) (kind : NodeKind) (marks : List (List ℕ)) (kids : Forest) → IsNode containers tiled room id kind marks kids → HasShare tiled (share_of kind) × (1 ≤ room)
+pub node_share : (tiled : Bool) (room : ℕ) (id : ConId) (kind : NodeKind) (marks : List (List ℕ)) (kids : Forest) → IsNode containers tiled room id kind marks kids → HasShare tiled (share_of kind) × (1 ≤ room)
 node_share tiled room id (Root c) marks kids h = absurd h
 node_share tiled room id (Output o) marks kids h = absurd h
 node_share tiled room id (Space w) marks kids h = absurd h
@@ -93,7 +93,7 @@ Wraps share found sp st = IsConFirst found × (share ≡ share_by (first_part fo
 
 shaped-wrapped : (c n : ConId) (share : ℕ) (border : Border) (layout : Layout) (l : Level) (s : Spot) (forest : Forest) → Wraps share (only c forest) (spot_in s c forest) (row_with c forest forest) → IsSoundRow l s.tiled s.room forest
     → Grows 0 l s.tiled s.room forest forest (at c wrap_word (new_part n share border None (new.Split layout)) forest) (row_with c forest forest)
-shaped-wrapped c n share border layout l s forest ok p = keeps_sound c wrap_word split 0 (Wraps share) (λ found sp st h. inl refl) here l s forest forest ok p
+shaped-wrapped c n share border layout l s forest ok p = keeps_by IsNode node_keeps c wrap_word split 0 (Wraps share) (λ found sp st h. inl refl) here l s forest forest ok p
   where
     split : Part
     split = new_part n share border None (new.Split layout)

@@ -16,7 +16,7 @@ use Rattle.wm_nested.specs.Change.{at, arriving, hole, nobody, replaced, without
 use Rattle.wm_nested.specs.Counts.{but, con_count, mark_count, newcomer_share, row_length, share_of}
 use Rattle.wm_nested.specs.Kinds.{changed}
 use Rattle.wm_nested.specs.Look.{con_kind, first_marks, first_part, has, kind_of, only, same}
-use Rattle.wm_nested.specs.Place.{IsPlace, named, new_part, put, rect_at, room_at, row_room, siblings, tiles}
+use Rattle.wm_nested.specs.Place.{IsTiled, IsPlace, named, new_part, put, rect_at, room_at, row_room, siblings, tiles}
 use Rattle.wm_nested.specs.Spot.{fits}
 use Rattle.wm_nested.specs.TreeValue.{TreeValue, id, workspace_of}
 
@@ -109,6 +109,11 @@ exchanged_nodes a b sa sb away forest =
 -- the two change places; the shares stay with the places
 abbrev pub exchanged : ConId → ConId → TreeValue → TreeValue
 exchanged a b t = record t { nodes = exchanged_nodes a b (share_in a t.nodes) (share_in b t.nodes) (apart t a b) t.nodes }
+
+-- both are tiled containers, where they are there, and neither is below the other
+abbrev pub IsExchange : ConId → ConId → Forest → Type 0
+IsExchange a b forest =
+    (has a forest ≡ true → IsTiled a forest) × (has b forest ≡ true → IsTiled b forest) × (has b (only a forest) ≡ false) × (has a (only b forest) ≡ false)
 
 -- the only limit that an exchange may pass is the depth
 abbrev pub is_too_deep : ConId → ConId → Forest → Bool

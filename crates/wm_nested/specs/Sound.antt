@@ -74,12 +74,17 @@ IsNode containers tiled room id (Output o) marks kids = ⊥
 IsNode containers tiled room id (Space w) marks kids = ⊥
 IsNode containers tiled room id (Con c) marks kids = (1 ≤ room) × HasShare tiled c.share × (length marks ≤ 32) × HasKids c.kind kids
 
--- each node is sound, and has at most 256 children; the row is one of tiled children or not, and may have `room` levels
+-- N holds of each node, and each has at most 256 children; the row is one of tiled children or not, and may have
+-- `room` levels
+abbrev pub RowOf : (Level → Bool → ℕ → ConId → NodeKind → List (List ℕ) → Forest → Type 0) → Level → Bool → ℕ → Forest → Type 0
+RowOf N l tiled room end = Unit {0}
+RowOf N l tiled room (con part kids floats rest) =
+    N l tiled room part.id part.kind part.marks kids × (row_length kids ≤ 256) × RowOf N (below l) true (room_below room part.kind) kids ×
+    RowOf N containers false (room_below room part.kind) floats × RowOf N l tiled room rest
+
+-- each node of the row is sound
 abbrev pub IsSoundRow : Level → Bool → ℕ → Forest → Type 0
-IsSoundRow l tiled room end = Unit {0}
-IsSoundRow l tiled room (con part kids floats rest) =
-    IsNode l tiled room part.id part.kind part.marks kids × (row_length kids ≤ 256) × IsSoundRow (below l) true (room_below room part.kind) kids ×
-    IsSoundRow containers false (room_below room part.kind) floats × IsSoundRow l tiled room rest
+IsSoundRow l tiled room f = RowOf IsNode l tiled room f
 
 -- how many nodes have the id c
 abbrev pub one_of : ConId → Part → ℕ

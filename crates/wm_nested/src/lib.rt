@@ -19,6 +19,10 @@ mod row;
 mod sets;
 mod spot;
 mod start;
+#[cfg(test)]
+mod tests;
+#[cfg(test)]
+mod tests_parts;
 mod tree;
 mod words;
 

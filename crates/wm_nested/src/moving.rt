@@ -2,7 +2,7 @@
 ghost use Rattle.std.specs.Prelude.{◌≡◌, ◌≢◌, ◌≤◌, false, true, Err, None, IfOk, IfErr, OnOk, OnErr, IfSome, MatchOption, IsOk, is_some};
 ghost use Rattle.wm_nested.specs.Change.{arriving, hole};
 ghost use Rattle.wm_nested.specs.Look.{has, only};
-ghost use Rattle.wm_nested.specs.Move.{IsMove, apart, exchanged, exchanged_nodes, is_too_deep, moved, moved_share, passed_by_move, passed_by_wrap, same_space, share_in, wrap_word, wrapped, IsExchangeCause, IsMoveCause, IsWrapCause};
+ghost use Rattle.wm_nested.specs.Move.{IsExchange, IsMove, apart, exchanged, exchanged_nodes, is_too_deep, moved, moved_share, passed_by_move, passed_by_wrap, same_space, share_in, wrap_word, wrapped, IsExchangeCause, IsMoveCause, IsWrapCause};
 ghost use Rattle.wm_nested.specs.Place.{IsTiled, named, put};
 ghost use Rattle.wm_nested.specs.Sound.{IsSound};
 ghost use Rattle.wm_nested.specs.Row.{alone};
@@ -157,8 +157,8 @@ impl Tree {
 
     /// The two containers change places; the shares stay with the places. Neither is within the other.
     pub fn exchange(&mut self, a: ConId, b: ConId) -> Result<(), TreeRefusal>
-        requires { has a self.old.nodes ≡ true → has b (only a self.old.nodes) ≡ false }
-        ensures ok { OnOk result (self.new ≡ exchanged a b self.old) }
+        ensures ok { has b (only a self.old.nodes) ≡ false → OnOk result (self.new ≡ exchanged a b self.old) }
+        ensures sound { IsExchange a b self.old.nodes → IsSound self.old → IsSound self.new }
         ensures err { OnErr result (self.new ≡ self.old) }
         ensures missing { has a self.old.nodes ≡ false → result ≡ Err (Missing a) }
         ensures other { has a self.old.nodes ≡ true → has b self.old.nodes ≡ false → result ≡ Err (Missing b) }
@@ -208,8 +208,8 @@ impl Row {
         requires hole { alone spare.old ≡ hole }
         requires first { has a.0 self.old ≡ true }
         requires second { has b.0 self.old ≡ true }
-        requires outside { has b.0 (only a.0 self.old) ≡ false }
-        ensures { self.new ≡ exchanged_nodes a.0 b.0 a.1 b.1 away self.old }
+        ensures { has b.0 (only a.0 self.old) ≡ false →
+            self.new ≡ exchanged_nodes a.0 b.0 a.1 b.1 away self.old }
     {
         self.swap(a.0, spare);
         spare.arrive(b.1, None, away);
