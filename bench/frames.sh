@@ -3,13 +3,7 @@
 # and SYNC. Prints both times, their ratio, frames a second, and the peak memory, and fails where the ratio is above 2.3.
 # usage: bench/frames.sh [PROGRAM]
 set -eu
-here=$(cd "$(dirname "$0")/.." && pwd)
-program=${1:-$here/crates/i3replay/out/i3replay}
-if [ ! -x "$program" ]; then
-    "$here/run" i3replay --version >/dev/null
-fi
-folder=$(mktemp -d)
-trap 'rm -rf "$folder"' EXIT
+. "$(dirname "$0")/program.sh"
 
 python3 - "$program" "$folder" <<'PROGRAM'
 import os, resource, struct, subprocess, sys, time

@@ -4,13 +4,7 @@
 # and fails where the ratio is above 2.3 or the memory above 12 times the input and 64 MiB.
 # usage: bench/replay.sh [PROGRAM]
 set -eu
-here=$(cd "$(dirname "$0")/.." && pwd)
-program=${1:-$here/crates/i3replay/out/i3replay}
-if [ ! -x "$program" ]; then
-    "$here/run" i3replay --version >/dev/null
-fi
-folder=$(mktemp -d)
-trap 'rm -rf "$folder"' EXIT
+. "$(dirname "$0")/program.sh"
 
 lines() {
     awk -v lines="$1" 'BEGIN {
