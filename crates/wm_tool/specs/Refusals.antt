@@ -57,7 +57,7 @@ abbrev pub patterns_in : List (Option (List ℕ)) → List Refused → List (Lis
 patterns_in texts refused = flat_map (λ r. option_to_list (pattern_in texts r)) refused
 
 -- Of steps with these texts: each refusal names a place, once, and a pattern of its text that is not plain; the build
--- counted as many refusals as there are, and where it tells their texts these are they, in order.
+-- counted as many refusals at least, and where it tells their texts these are they, in order.
 pub record IsBacked (texts : List (Option (List ℕ))) (refused : List Refused) (old new : ℕ) (told_old told_new : Option (List (List ℕ))) : Type 0 where
   pub rising : IsRising 0 refused
   pub fair : AllByRecursion (IsRefusable texts) refused

@@ -1,6 +1,8 @@
 //! The messages of i3-ipc are answered one after another, and each reply is written as it is made.
 ghost use Rattle.std.specs.Prelude.{◌≡◌, ℕ, List, Option, ◌+◌, ◌<◌, ◌≤◌, ◌^◌, [], ◌∷◌, ◌++◌, None, Some, IfErr, IfOk, OnErr, OnOk, length};
 ghost use Rattle.std.specs.Option.{option_map};
+ghost use Rattle.std.specs.List.{AllByRecursion};
+ghost use Rattle.wm_frames.specs.Frame.{IsShort};
 ghost use Rattle.wm_core.specs.History.{answer, History, opening_of};
 ghost use Rattle.wm_json.specs.Replies.{replies_text};
 ghost use Rattle.wm_layouts.specs.Plan.{default_outputs};
@@ -42,6 +44,7 @@ pub fn answer_all<B: Build, W: Sink>(
     sink: &mut W,
 ) -> Result<(), Stop>
     requires few { length decoder.old.queue ≤ 16777216 }
+    requires short { AllByRecursion IsShort decoder.old.queue }
     requires none { refused.old.items ≡ [] }
     ensures ok { OnOk result (TakesAll (W.taken sink.old) (W.taken sink.new) (replies_from decoder.old.queue refused.new.items [])) }
     ensures part { OnErr result (TakesPart (W.taken sink.old) (W.taken sink.new) (replies_from decoder.old.queue refused.new.items [])) }
@@ -67,6 +70,7 @@ fn answer_queue<B: Build, W: Sink>(
     sink: &mut W,
 ) -> Result<(), Stop>
     requires few { desk.old.steps + length decoder.old.queue ≤ 16777216 }
+    requires short { AllByRecursion IsShort decoder.old.queue }
     requires plan { desk.old.plan.outputs ≡ default_outputs }
     requires empty { piece.old.items ≡ [] }
     ensures ok { (old : Option (List ℕ)) → (whole : List Refused → List ℕ) → (texts : List (Option (List ℕ))) → (count : ℕ) → (told : Option (List (List ℕ))) →
@@ -99,6 +103,7 @@ fn answer_message<B: Build>(
     piece: &mut Vec<u8>,
 ) -> Result<(), NoMemory>
     requires few { desk.old.steps < 2 ^ 48 }
+    requires short { IsShort message.now }
     ensures ok { refusal_at desk.old.steps refused.old.items ≡ None →
         OnOk result (Leads desk.old desk.new (after_message message.now refused.new.items) (replied (opening_of desk.old.plan) message.now refused.new.items) piece.old.items piece.new.items) }
     ensures steps { OnOk result (desk.new.steps ≡ desk.old.steps + length (message_step message.now)) }
@@ -123,6 +128,7 @@ fn answer_command<B: Build>(
     piece: &mut Vec<u8>,
 ) -> Result<(), NoMemory>
     requires few { desk.old.steps < 2 ^ 48 }
+    requires short { IsShort message.now }
     requires runs { message.now.kind ≡ 0 }
     ensures ok { refusal_at desk.old.steps refused.old.items ≡ None →
         OnOk result (Leads desk.old desk.new (after_message message.now refused.new.items) (replied (opening_of desk.old.plan) message.now refused.new.items) piece.old.items piece.new.items) }
@@ -141,7 +147,7 @@ fn answer_command<B: Build>(
     }
 }
 
-/// Runs a text on the desk, and adds the frame of its replies. A text whose length does not fit 32 bits is want of memory.
+/// Runs a text on the desk, and adds the frame of its replies.
 fn answer_text<B: Build>(
     alloc: Global,
     desk: &mut Desk,
@@ -151,6 +157,7 @@ fn answer_text<B: Build>(
     piece: &mut Vec<u8>,
 ) -> Result<(), NoMemory>
     requires few { desk.old.steps < 2 ^ 48 }
+    requires short { length text.now < 2 ^ 32 }
     ensures ok { refusal_at desk.old.steps refused.old.items ≡ None →
         OnOk result (Leads desk.old desk.new (λ history. run_entry refused.new.items history text.now ∷ history)
         (λ history. framed 0 (Some (replies_text (replies_of (answer (opening_of desk.old.plan) history (run_entry refused.new.items history text.now))))))
@@ -161,9 +168,6 @@ fn answer_text<B: Build>(
     ensures backs { Backs desk.old.steps (Some text.now ∷ []) refused.old.items refused.new.items
         (B.refusals build.old) (B.refusals build.new) (B.refused build.old) (B.refused build.new) }
 {
-    if text.len() > u32::MAX as usize {
-        return Err(NoMemory);
-    }
     let answer = run_text(alloc, desk, text, build, refused)?;
     let replies = answer_replies(alloc, &answer)?;
     push_reply(RUN_COMMAND, Some(replies), piece)

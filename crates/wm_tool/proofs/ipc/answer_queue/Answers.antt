@@ -1,4 +1,6 @@
 use Rattle.std.proofs.Common.{◌∙◌, [], ap, arith, length, refl, subst}
+use Rattle.std.specs.List.{AllByRecursion}
+use Rattle.wm_frames.specs.Frame.{IsShort}
 use Rattle.wm_core.specs.History.{opening_of}
 use Rattle.wm_ports.specs.Told.{TakesAll, TakesPart}
 use Rattle.wm_tool.specs.Ipc.{after_message, message_texts, replied, replies_from, request_of, text_of_request}
@@ -35,6 +37,7 @@ loop-message-preserved g c =
     record {
       few = omega (arith, kept.few, c.in_ok-answer_message.ensures.steps, one_text (text_of_request (request_of c.in-Some.message)), ap length c.in-Some.ensures.queue);
       plan = ap (λ p. p.outputs) c.in_ok-answer_message.ensures.plan ∙ kept.plan;
+      short = (subst (AllByRecursion IsShort) c.in-Some.ensures.queue kept.short).1;
       empty = c.clear.ensures.items;
       plays = λ old whole texts count told p.
           writes old now (g.W.Sink.taken c.write_all.new.sink) c.answer_message.new.desk c.answer_message.new.refused.items c.answer_message.new.piece.items (replies_from c.next.new.self.queue) whole texts (message_texts c.next.new.self.queue) count (g.B.Build.refusals c.answer_message.new.build) told (g.B.Build.refused c.answer_message.new.build)
@@ -52,3 +55,8 @@ returns-clause-ok g c = λ old whole texts count told p.
     let now = g.W.Sink.taken c.loop-message.sink in
     subst (λ queue. Plays old now c.loop-message.desk c.loop-message.refused.items [] (replies_from queue) whole texts (message_texts queue) count (g.B.Build.refusals c.loop-message.build) told (g.B.Build.refused c.loop-message.build))
     c.in_default.ensures.none (c.loop-message.invariant.plays old whole texts count told p)
+
+pub answer_message-requires : goal.answer_message-requires
+answer_message-requires g c =
+    let kept = c.loop-message.invariant in
+    record { few = omega (arith, kept.few); short = (subst (AllByRecursion IsShort) c.in-Some.ensures.queue kept.short).0 }

@@ -1,4 +1,6 @@
 use Rattle.std.proofs.Common.{◌≡◌, ℕ, ◌+◌, ◌≤◌, List, [], Option, length}
+use Rattle.std.specs.List.{AllByRecursion}
+use Rattle.wm_frames.specs.Frame.{IsShort}
 use Rattle.wm_layouts.specs.Plan.{default_outputs}
 use Rattle.wm_tool.specs.declared.status.Refused.{Refused}
 use Rattle.wm_tool.specs.Ipc.{message_texts, replies_from}
@@ -10,6 +12,7 @@ abbrev pub invariant-loop-message : goal.invariant-loop-message
 invariant-loop-message g l = record {
   few : l.desk.steps + length l.decoder.queue ≤ 16777216;
   plan : l.desk.plan.outputs ≡ default_outputs;
+  short : AllByRecursion IsShort l.decoder.queue;
   empty : l.piece.items ≡ [];
   plays : (old : Option (List ℕ)) (whole : List Refused → List ℕ) (texts : List (Option (List ℕ))) (count : ℕ) (told : Option (List (List ℕ)))
       → Plays old (g.W.Sink.taken l.initial.sink) l.initial.desk l.initial.refused.items [] (replies_from l.initial.decoder.queue) whole texts (message_texts l.initial.decoder.queue) count (g.B.Build.refusals l.initial.build) told (g.B.Build.refused l.initial.build)
