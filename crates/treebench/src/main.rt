@@ -5,7 +5,7 @@ use std::alloc::{AllocError, Global};
 use std::env;
 use std::process::ExitCode;
 use wm_base::{Border, ConId, Edges, Layout, NoMemory, OutputPlan, Props, Rect, Size, Text};
-use wm_nested::{NewCon, Place, Tree, TreeRefusal};
+use wm_tree::{NewCon, Place, Tree, TreeRefusal};
 
 /// How many calls are made.
 const CALLS: u32 = 100_000;

@@ -1,18 +1,26 @@
 -- The contents of an arrangement are windows of its tree, so buffers that agree there paint one frame.
-use Rattle.std.proofs.Common.{◌≡◌, ℕ, ◌+◌, eqb, Bool, true, false, cond, ◌||◌, List, [], ◌∷◌, ◌++◌, Option, Some, None, refl, ap, ap₂}
+use Rattle.std.proofs.Common.{◌≡◌, ℕ, ◌+◌, ◌≤◌, eqb, Bool, true, false, cond, ◌||◌, List, [], ◌∷◌, ◌++◌, Option, Some, None, refl, ap, ap₂, arith}
 use Rattle.std.proofs.lemmas.Bool.{eq-eqb}
-use Rattle.wm_base.specs.declared.geometry.Axis.{Axis}
 use Rattle.wm_base.specs.declared.geometry.Rect.{Rect}
 use Rattle.wm_base.specs.declared.ids.Buffer.{Buffer}
 use Rattle.wm_base.specs.declared.ids.ConId.{ConId}
+use Rattle.wm_base.specs.declared.plan.Layout.{Layout}
+use Rattle.wm_tree.specs.declared.part.ConKind.{ConKind}
+use Rattle.wm_tree.specs.declared.part.ConKind.TheVariants.{Split, Window, Placeholder}
+use Rattle.wm_tree.specs.declared.part.NodeKind.{NodeKind}
+use Rattle.wm_tree.specs.declared.part.NodeKind.TheVariants.{Root, Output, Space, Con}
 use Rattle.wm_tree.specs.declared.part.OutputPart.{OutputPart}
+use Rattle.wm_tree.specs.declared.part.Part.{Part}
 use Rattle.wm_tree.specs.declared.part.SpacePart.{SpacePart}
 use Rattle.wm_tree.specs.Forest.{Forest, end, con}
-use Rattle.wm_tree.specs.Look.{same, has, node_in, output_kind, space_kind}
+use Rattle.wm_tree.specs.Look.{first_kids, same, node_in, output_kind, space_kind}
+use Rattle.wm_tree.specs.Sound.{IsSound, ranked, ranks}
+use Rattle.wm_tree.specs.TreeValue.{TreeValue}
 use Rattle.wm_core.specs.declared.arrange.Placed.{Placed}
 use Rattle.wm_core.specs.declared.arrange.PartKind.{PartKind}
 use Rattle.wm_core.specs.declared.arrange.PartKind.TheVariants.{Back, Area, Content}
-use Rattle.wm_core.specs.Arranged.{placed, axis_of, shares, child_area, window_parts, row_parts, children_parts, space_parts, output_parts, arranged}
+use Rattle.wm_core.specs.Arranged.{Standing, placed, standing, slot, con_parts, node_parts, shown_parts, row_parts, kids_parts, rect_of, floats_parts, is_fullscreen, or_else, fullscreen_in, on_ground, space_parts, first_space, output_parts, outputs_parts, arranged}
+use Rattle.wm_core.specs.DeskValue.{IsNotGone}
 use Rattle.wm_core.specs.Frame.{what_of, quad_of, quads}
 
 -- the fact holds of a content
@@ -46,69 +54,150 @@ placed_step P false p h = (h, tt)
 all_placed : (P : ConId → Type 0) (id : ConId) (part : PartKind) (rect : Rect) → OfContent part (P id) → AllContents P (placed id part rect)
 all_placed P id part rect h = placed_step P (eqb rect.w 0 || eqb rect.h 0) (record { con = id; part = part; rect = rect }) h
 
--- v is in the forest
-abbrev Has : Forest → ConId → Type 0
-Has f v = has v f ≡ true
+-- v is a workspace or container of the forest
+abbrev Ranked : Forest → ConId → Type 0
+Ranked f v = 1 ≤ ranked v f
 
-or_first : (a b c d : Bool) → a ≡ true → (a || b || c || d) ≡ true
-or_first a b c d h = rw h refl
+rank_step : (b : Bool) (n k l r : ℕ) → b ≡ true → n ≡ 1 → 1 ≤ cond b n 0 + k + l + r
+rank_step true n k l r h e = omega (arith, e)
+rank_step false n k l r h e = cc
 
-or_second : (a b c d : Bool) → b ≡ true → (a || b || c || d) ≡ true
-or_second true b c d h = refl
-or_second false b c d h = rw h refl
+-- a container of a row, and those below it and behind it, are in the row
+here : (part : Part) (kids floats rest : Forest) → ranks part.kind ≡ 1 → Ranked (con part kids floats rest) part.id
+here part kids floats rest h = rank_step (same part.id part.id) (ranks part.kind) (ranked part.id kids) (ranked part.id floats) (ranked part.id rest) (eq-eqb part.id.0 part.id.0 refl) h
 
-or_last : (a b c d : Bool) → d ≡ true → (a || b || c || d) ≡ true
-or_last true b c d h = refl
-or_last false true c d h = refl
-or_last false false true d h = refl
-or_last false false false d h = h
+in_kids : (part : Part) (kids floats rest : Forest) (v : ConId) → Ranked kids v → Ranked (con part kids floats rest) v
+in_kids part kids floats rest v h = omega (arith, h)
 
-row_all : (axis : Axis) (area : Rect) (all : List ℕ) (i : ℕ) (row : Forest) → AllContents (Has row) (row_parts axis area all i row)
-row_all axis area all i end = tt
-row_all axis area all i (con part kids floats rest) =
+in_floats : (part : Part) (kids floats rest : Forest) (v : ConId) → Ranked floats v → Ranked (con part kids floats rest) v
+in_floats part kids floats rest v h = omega (arith, h)
+
+in_rest : (part : Part) (kids floats rest : Forest) (v : ConId) → Ranked rest v → Ranked (con part kids floats rest) v
+in_rest part kids floats rest v h = omega (arith, h)
+
+con_all : (P : ConId → Type 0) (id : ConId) (kind : ConKind) (area : Rect) (children : Layout → List Placed) → P id → ((layout : Layout) → AllContents P (children layout)) → AllContents P (con_parts id kind area children)
+con_all P id (Split layout last) area children p below = below layout
+con_all P id (Window props owner natural) area children p below = all_placed P id Content area p
+con_all P id (Placeholder props swallows) area children p below = tt
+
+node_all : (P : ConId → Type 0) (id : ConId) (kind : NodeKind) (area : Rect) (children : Layout → List Placed) → (ranks kind ≡ 1 → P id) → ((layout : Layout) → AllContents P (children layout)) → AllContents P (node_parts id kind area children)
+node_all P id (Root c) area children p below = tt
+node_all P id (Output o) area children p below = tt
+node_all P id (Space s) area children p below = tt
+node_all P id (Con c) area children p below = con_all P id c.kind area children (p refl) below
+
+shown_all : (P : ConId → Type 0) (id : ConId) (kind : NodeKind) (children : Rect → Layout → List Placed) (slot : Option Rect) → (ranks kind ≡ 1 → P id) → ((area : Rect) (layout : Layout) → AllContents P (children area layout))
+    → AllContents P (shown_parts id kind children slot)
+shown_all P id kind children None p below = tt
+shown_all P id kind children (Some area) p below =
+    all_append P (placed id Area area) (node_parts id kind area (children area)) (all_placed P id Area area tt) (node_all P id kind area (children area) p (below area))
+
+row_all : (recency : List ConId) (s : Standing) (i : ℕ) (row : Forest) → AllContents (Ranked row) (row_parts recency s i row)
+row_all recency s i end = tt
+row_all recency s i (con part kids floats rest) =
     let row = con part kids floats rest in
-    let here = or_first (same part.id part.id) (has part.id kids) (has part.id floats) (has part.id rest) (eq-eqb part.id.0 part.id.0 refl) in
-    let child = child_area axis area all i in
-    all_append (Has row) (window_parts part.id child) (row_parts axis area all (i + 1) rest)
-    (all_append (Has row) (placed part.id Area child) (placed part.id Content child) (all_placed (Has row) part.id Area child tt) (all_placed (Has row) part.id Content child here))
-    (all_weaker (Has rest) (Has row) (row_parts axis area all (i + 1) rest) (λ v h. or_last (same part.id v) (has v kids) (has v floats) (has v rest) h) (row_all axis area all (i + 1) rest))
+    let below : Rect → Layout → List Placed = λ area layout. row_parts recency (standing recency layout area kids) 0 kids in
+    all_append (Ranked row) (shown_parts part.id part.kind below (slot s i part.id)) (row_parts recency s (i + 1) rest)
+    (shown_all (Ranked row) part.id part.kind below (slot s i part.id) (here part kids floats rest)
+    (λ area layout. all_weaker (Ranked kids) (Ranked row) (below area layout) (in_kids part kids floats rest) (row_all recency (standing recency layout area kids) 0 kids)))
+    (all_weaker (Ranked rest) (Ranked row) (row_parts recency s (i + 1) rest) (in_rest part kids floats rest) (row_all recency s (i + 1) rest))
 
-children_all : (rect : Rect) (space : Option SpacePart) (kids : Forest) → AllContents (Has kids) (children_parts rect space kids)
-children_all rect None kids = tt
-children_all rect (Some space) kids = row_all (axis_of space.layout) rect (shares kids) 0 kids
-
-space_all : (rect : Rect) (row : Forest) → AllContents (Has row) (space_parts rect row)
-space_all rect end = tt
-space_all rect (con part kids floats rest) =
+floats_all : (row : Forest) → AllContents (Ranked row) (floats_parts row)
+floats_all end = tt
+floats_all (con part kids floats rest) =
     let row = con part kids floats rest in
-    let inner = children_parts rect (space_kind part.kind) kids in
-    all_append (Has row) (placed part.id Back rect ++ placed part.id Area rect) inner
-    (all_append (Has row) (placed part.id Back rect) (placed part.id Area rect) (all_placed (Has row) part.id Back rect tt) (all_placed (Has row) part.id Area rect tt))
-    (all_weaker (Has kids) (Has row) inner (λ v h. or_second (same part.id v) (has v kids) (has v floats) (has v rest) h) (children_all rect (space_kind part.kind) kids))
+    let below : Rect → Layout → List Placed = λ area layout. [] in
+    all_append (Ranked row) (shown_parts part.id part.kind below (rect_of part.kind)) (floats_parts rest)
+    (shown_all (Ranked row) part.id part.kind below (rect_of part.kind) (here part kids floats rest) (λ area layout. tt))
+    (all_weaker (Ranked rest) (Ranked row) (floats_parts rest) (in_rest part kids floats rest) (floats_all rest))
 
-node_step : (b : Bool) (x y z : Forest) (v : ConId) → (has v x ≡ true → has v z ≡ true) → (has v y ≡ true → has v z ≡ true) → has v (cond b x y) ≡ true → has v z ≡ true
+-- the fact holds of the one that was found
+abbrev OfFound : (ConId → Type 0) → Option ConId → Type 0
+OfFound P None = Unit {0}
+OfFound P (Some c) = P c
+
+found_weaker : (P Q : ConId → Type 0) (o : Option ConId) → ((v : ConId) → P v → Q v) → OfFound P o → OfFound Q o
+found_weaker P Q None f p = tt
+found_weaker P Q (Some c) f p = f c p
+
+or_found : (P : ConId → Type 0) (a b : Option ConId) → OfFound P a → OfFound P b → OfFound P (or_else a b)
+or_found P None b p q = q
+or_found P (Some c) b p q = p
+
+found_by : (P : ConId → Type 0) (b : Bool) (id : ConId) (a c d : Option ConId) → (b ≡ true → P id) → OfFound P a → OfFound P c → OfFound P d → OfFound P (cond b (Some id) (or_else a (or_else c d)))
+found_by P true id a c d p q r s = p refl
+found_by P false id a c d p q r s = or_found P a (or_else c d) q (or_found P c d r s)
+
+-- a fullscreen window is a container
+fullscreen_rank : (kind : NodeKind) → is_fullscreen kind ≡ true → ranks kind ≡ 1
+fullscreen_rank (Root c) h = cc
+fullscreen_rank (Output o) h = cc
+fullscreen_rank (Space s) h = cc
+fullscreen_rank (Con c) h = refl
+
+fullscreen_all : (row : Forest) → OfFound (Ranked row) (fullscreen_in row)
+fullscreen_all end = tt
+fullscreen_all (con part kids floats rest) =
+    let row = con part kids floats rest in
+    found_by (Ranked row) (is_fullscreen part.kind) part.id (fullscreen_in kids) (fullscreen_in floats) (fullscreen_in rest) (λ e. here part kids floats rest (fullscreen_rank part.kind e))
+    (found_weaker (Ranked kids) (Ranked row) (fullscreen_in kids) (in_kids part kids floats rest) (fullscreen_all kids))
+    (found_weaker (Ranked floats) (Ranked row) (fullscreen_in floats) (in_floats part kids floats rest) (fullscreen_all floats))
+    (found_weaker (Ranked rest) (Ranked row) (fullscreen_in rest) (in_rest part kids floats rest) (fullscreen_all rest))
+
+ground_all : (P : ConId → Type 0) (recency : List ConId) (rect : Rect) (id : ConId) (space : SpacePart) (kids floats : Forest) (found : Option ConId)
+    → OfFound P found → ((v : ConId) → Ranked kids v → P v) → ((v : ConId) → Ranked floats v → P v) → AllContents P (on_ground recency rect id space kids floats found)
+ground_all P recency rect id space kids floats None p f g =
+    all_append P (placed id Area rect) (kids_parts recency kids rect space.layout ++ floats_parts floats) (all_placed P id Area rect tt)
+    (all_append P (kids_parts recency kids rect space.layout) (floats_parts floats)
+    (all_weaker (Ranked kids) P (kids_parts recency kids rect space.layout) f (row_all recency (standing recency space.layout rect kids) 0 kids))
+    (all_weaker (Ranked floats) P (floats_parts floats) g (floats_all floats)))
+ground_all P recency rect id space kids floats (Some c) p f g = all_placed P c Content rect p
+
+space_all : (P : ConId → Type 0) (recency : List ConId) (rect : Rect) (id : ConId) (space : Option SpacePart) (kids floats : Forest)
+    → ((v : ConId) → Ranked kids v → P v) → ((v : ConId) → Ranked floats v → P v) → AllContents P (space_parts recency rect id space kids floats)
+space_all P recency rect id None kids floats f g = tt
+space_all P recency rect id (Some space) kids floats f g =
+    let found = or_else (fullscreen_in kids) (fullscreen_in floats) in
+    all_append P (placed id Back rect) (on_ground recency rect id space kids floats found) (all_placed P id Back rect tt)
+    (ground_all P recency rect id space kids floats found
+    (or_found P (fullscreen_in kids) (fullscreen_in floats) (found_weaker (Ranked kids) P (fullscreen_in kids) f (fullscreen_all kids)) (found_weaker (Ranked floats) P (fullscreen_in floats) g (fullscreen_all floats)))
+    f g)
+
+first_all : (recency : List ConId) (rect : Rect) (row : Forest) → AllContents (Ranked row) (first_space recency rect row)
+first_all recency rect end = tt
+first_all recency rect (con part kids floats rest) =
+    space_all (Ranked (con part kids floats rest)) recency rect part.id (space_kind part.kind) kids floats (in_kids part kids floats rest) (in_floats part kids floats rest)
+
+node_step : (b : Bool) (x y z : Forest) (v : ConId) → (Ranked x v → Ranked z v) → (Ranked y v → Ranked z v) → Ranked (cond b x y) v → Ranked z v
 node_step true x y z v f g h = f h
 node_step false x y z v f g h = g h
 
-in_row : (id : ConId) (f : Forest) (v : ConId) → has v (node_in id f) ≡ true → has v f ≡ true
+in_row : (id : ConId) (f : Forest) (v : ConId) → Ranked (node_in id f) v → Ranked f v
 in_row id end v h = h
 in_row id (con part kids floats rest) v h =
-    node_step (same part.id id) (con part kids floats rest) (node_in id rest) (con part kids floats rest) v (λ x. x)
-    (λ x. or_last (same part.id v) (has v kids) (has v floats) (has v rest) (in_row id rest v x)) h
+    node_step (same part.id id) (con part kids floats rest) (node_in id rest) (con part kids floats rest) v (λ x. x) (λ x. in_rest part kids floats rest v (in_row id rest v x)) h
 
-output_all : (output : Option OutputPart) (spaces : Forest) → AllContents (Has spaces) (output_parts output spaces)
-output_all None spaces = tt
-output_all (Some o) spaces = all_weaker (Has (node_in o.shown spaces)) (Has spaces) (space_parts o.rect (node_in o.shown spaces)) (in_row o.shown spaces) (space_all o.rect (node_in o.shown spaces))
+output_all : (recency : List ConId) (output : Option OutputPart) (spaces : Forest) → AllContents (Ranked spaces) (output_parts recency output spaces)
+output_all recency None spaces = tt
+output_all recency (Some o) spaces =
+    all_weaker (Ranked (node_in o.shown spaces)) (Ranked spaces) (first_space recency o.rect (node_in o.shown spaces)) (in_row o.shown spaces) (first_all recency o.rect (node_in o.shown spaces))
 
--- each window with a content is in the tree
-pub contents_there : (f : Forest) → AllContents (λ v. has v f ≡ true) (arranged f)
-contents_there end = tt
-contents_there (con part kids floats rest) =
+outputs_all : (recency : List ConId) (f : Forest) → AllContents (Ranked f) (outputs_parts recency f)
+outputs_all recency end = tt
+outputs_all recency (con part kids floats rest) =
     let row = con part kids floats rest in
-    let first = output_parts (output_kind part.kind) kids in
-    all_append (Has row) first (arranged rest)
-    (all_weaker (Has kids) (Has row) first (λ v h. or_second (same part.id v) (has v kids) (has v floats) (has v rest) h) (output_all (output_kind part.kind) kids))
-    (all_weaker (Has rest) (Has row) (arranged rest) (λ v h. or_last (same part.id v) (has v kids) (has v floats) (has v rest) h) (contents_there rest))
+    let first = output_parts recency (output_kind part.kind) kids in
+    all_append (Ranked row) first (outputs_parts recency rest)
+    (all_weaker (Ranked kids) (Ranked row) first (in_kids part kids floats rest) (output_all recency (output_kind part.kind) kids))
+    (all_weaker (Ranked rest) (Ranked row) (outputs_parts recency rest) (in_rest part kids floats rest) (outputs_all recency rest))
+
+below_first : (v : ConId) (f : Forest) → Ranked (first_kids f) v → Ranked f v
+below_first v end h = h
+below_first v (con part kids floats rest) h = in_kids part kids floats rest v h
+
+-- each window with a content is not gone
+pub contents_known : (t : TreeValue) → IsSound t → AllContents (IsNotGone t) (arranged t)
+contents_known t s = all_weaker (Ranked (first_kids t.nodes)) (IsNotGone t) (arranged t) (λ v h below. omega (arith, s.known v, below_first v t.nodes h)) (outputs_all t.recency (first_kids t.nodes))
 
 what_same : (part : PartKind) (a b : Option Buffer) → OfContent part (a ≡ b) → what_of part a ≡ what_of part b
 what_same Back a b h = refl

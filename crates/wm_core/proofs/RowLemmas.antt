@@ -1,25 +1,55 @@
 -- Going along a row of children.
-use Rattle.std.proofs.Common.{◌≡◌, Bool, true, false, cond, ℕ, zero, suc, ◌+◌, ◌-◌, ◌≤◌, List, [], ◌∷◌, ◌++◌, Some, sum, take, drop, refl, ap, sym, subst, ◌∙◌, append_assoc, arith, add-one}
-use Rattle.std.proofs.lemmas.List.Sums.{sum_by-cons, sum_by-take-le}
+use Rattle.std.proofs.Common.{◌≡◌, ◌⊎◌, inl, inr, ℕ, zero, suc, ◌+◌, ◌≤◌, ◌<◌, List, [], ◌∷◌, ◌++◌, Option, Some, sum, take, drop, refl, ap, ap₂, sym, subst, ◌∙◌, append_assoc, arith, add-one}
+use Rattle.std.proofs.lemmas.List.Sums.{sum_by-cons}
 use Rattle.wm_base.specs.declared.geometry.Axis.{Axis}
-use Rattle.wm_base.specs.declared.ids.ConId.{ConId}
 use Rattle.wm_base.specs.declared.geometry.Rect.{Rect}
+use Rattle.wm_base.specs.declared.ids.ConId.{ConId}
+use Rattle.wm_base.specs.declared.plan.Layout.{Layout}
+use Rattle.wm_base.specs.declared.plan.Layout.TheVariants.{Tabbed, Stacked}
+use Rattle.wm_defs.specs.Cut.{cut}
 use Rattle.wm_tree.specs.declared.part.Part.{Part}
-use Rattle.wm_tree.specs.Forest.{Forest, end, con}
-use Rattle.wm_tree.specs.Limits.{IsWithinLimits}
-use Rattle.wm_tree.specs.Look.{same, node_in, first_part, first_kids, first_floats, rest_of, row_length, share_of, share_sum}
-use Rattle.wm_core.specs.Arranged.{shares, row_parts, window_parts, child_area, cut_between}
+use Rattle.wm_tree.specs.Counts.{row_length, share_of, share_sum}
+use Rattle.wm_tree.specs.Forest.{Forest, end, con, node_count}
+use Rattle.wm_tree.specs.Look.{first_part, first_kids, rest_of}
+use Rattle.wm_tree.specs.TreeValue.{focused_in}
+use Rattle.wm_core.specs.declared.children.Slots.{Slots}
+use Rattle.wm_core.specs.declared.children.Slots.TheVariants.{Beside, Alone}
+use Rattle.wm_core.specs.Areas.{cut_between, shares, side_of, slice_of}
+use Rattle.wm_core.specs.Arranged.{alone, beside, kids_parts, row_parts, shown_parts}
+use Rattle.wm_core.specs.Slots.{IsTiledRow, parts_from, slot_between}
 
--- how many children of the row stand before the rest of it
-abbrev pub index : Forest → Forest → ℕ
-index kids row = row_length kids - row_length row
+-- what one turn along the row does
+pub record Turn (recency : List ConId) (slots : Slots) (before : ℕ) (row : Forest) (part : Part) : Type 0 where
+  pub sum : share_sum row ≡ share_of part.kind + share_sum (rest_of row)
+  pub kids : IsTiledRow (first_kids row)
+  pub few : row_length (first_kids row) ≤ 256
+  pub rest : IsTiledRow (rest_of row)
+  pub below : node_count (first_kids row) < node_count row
+  pub behind : node_count (rest_of row) < node_count row
+  pub parts : parts_from recency slots before row
+      ≡ shown_parts part.id part.kind (kids_parts recency (first_kids row)) (slot_between slots before (before + share_of part.kind) part.id) ++ parts_from recency slots (before + share_of part.kind) (rest_of row)
 
--- a row with a first part is that node and its rest
-pub row_is : (row : Forest) (part : Part) → first_part row ≡ Some part → row ≡ con part (first_kids row) (first_floats row) (rest_of row)
-row_is end part h = cc
-row_is (con p kids floats rest) part h = let same_part : p ≡ part = cc in ap (λ q. con q kids floats rest) same_part
+turn_at : (recency : List ConId) (slots : Slots) (before : ℕ) (part : Part) (kids floats rest : Forest) → IsTiledRow (con part kids floats rest) → Turn recency slots before (con part kids floats rest) part
+turn_at recency slots before part kids floats rest (room, s) = record {
+  sum = refl;
+  kids = (_, s.2);
+  few = s.1;
+  rest = (room, s.4);
+  below = omega arith;
+  behind = omega arith;
+  parts = refl;
+}
 
-pub sum-shares : (row : Forest) → sum (shares row) ≡ share_sum row
+pub turn : (recency : List ConId) (slots : Slots) (before : ℕ) (row : Forest) (part : Part) → first_part row ≡ Some part → IsTiledRow row → Turn recency slots before row part
+turn recency slots before end part h s = cc
+turn recency slots before (con p kids floats rest) part h s =
+    let same_part : p ≡ part = cc in
+    let At : Part → Type 0 = λ q. Turn recency slots before (con p kids floats rest) q in
+    subst At same_part (turn_at recency slots before p kids floats rest s)
+
+-- ---- the parts told by sums of shares are those told by the shares
+
+sum-shares : (row : Forest) → sum (shares row) ≡ share_sum row
 sum-shares end = refl
 sum-shares (con part kids floats rest) = omega (arith, sum_by-cons (λ n. n) (share_of part.kind) (shares rest), sum-shares rest)
 
@@ -35,65 +65,35 @@ next_item (x ∷ xs) (suc i) item rest h =
     let n = next_item xs i item rest h in
     (n.0, omega (arith, n.1, sum_by-cons (λ n. n) x (take (suc i) xs), sum_by-cons (λ n. n) x (take i xs)))
 
--- what one turn along the row does
-pub record Turn (axis : Axis) (area : Rect) (kids row : Forest) (part : Part) : Type 0 where
-  pub counted : row_length (rest_of row) ≤ row_length kids
-  pub before : sum (take (index kids (rest_of row)) (shares kids)) ≡ sum (take (index kids row) (shares kids)) + share_of part.kind
-  pub next : index kids (rest_of row) ≡ index kids row + 1
-  pub left : shares (rest_of row) ≡ drop (index kids (rest_of row)) (shares kids)
-  pub fits : sum (take (index kids row) (shares kids)) + share_of part.kind ≤ share_sum kids
-  pub parts : row_parts axis area (shares kids) (index kids row) row
-      ≡ window_parts part.id (cut_between axis area (sum (take (index kids row) (shares kids))) (sum (take (index kids row) (shares kids)) + share_of part.kind) (share_sum kids)) ++ row_parts axis area (shares kids) (index kids (rest_of row)) (rest_of row)
-  pub within : IsWithinLimits row → IsWithinLimits (rest_of row)
-
 -- a child's area by its place, and by the sums of the shares
 child : (axis : Axis) (area : Rect) (kids : Forest) (i after : ℕ) → sum (take (suc i) (shares kids)) ≡ after
-    → child_area axis area (shares kids) i ≡ cut_between axis area (sum (take i (shares kids))) after (share_sum kids)
+    → slice_of axis area (cut (side_of axis area) (shares kids) i) ≡ cut_between axis area (sum (take i (shares kids))) after (share_sum kids)
 child axis area kids i after e = rw (add-one, e, sum-shares) refl
 
-turn_at : (axis : Axis) (area : Rect) (kids : Forest) (part : Part) (k l rest : Forest) → row_length (con part k l rest) ≤ row_length kids
-    → shares (con part k l rest) ≡ drop (index kids (con part k l rest)) (shares kids) → Turn axis area kids (con part k l rest) part
-turn_at axis area kids part k l rest short left =
-    let next : index kids rest ≡ index kids (con part k l rest) + 1 = omega arith in
-    let item = next_item (shares kids) (index kids (con part k l rest)) (share_of part.kind) (shares rest) (sym left) in
-    let before : sum (take (index kids rest) (shares kids)) ≡ sum (take (index kids (con part k l rest)) (shares kids)) + share_of part.kind = rw (next, add-one) item.1 in
-    record {
-      counted = omega arith;
-      before = before;
-      next = next;
-      left = rw (next, add-one) (sym item.0);
-      fits = omega (arith, before, sum-shares kids, sum_by-take-le (λ n. n) (shares kids) (index kids rest));
-      parts =
-          ap (λ i. window_parts part.id (child_area axis area (shares kids) (index kids (con part k l rest))) ++ row_parts axis area (shares kids) i rest) (sym next)
-          ∙ ap (λ r. window_parts part.id r ++ row_parts axis area (shares kids) (index kids rest) rest) (child axis area kids (index kids (con part k l rest)) _ item.1);
-      within = λ w. w.4;
-    }
+pub beside_is : (recency : List ConId) (axis : Axis) (area : Rect) (kids : Forest) (i : ℕ) (row : Forest) → shares row ≡ drop i (shares kids)
+    → parts_from recency (Beside axis area (share_sum kids)) (sum (take i (shares kids))) row ≡ row_parts recency (beside axis area (shares kids)) i row
+beside_is recency axis area kids i end left = refl
+beside_is recency axis area kids i (con part k floats rest) left =
+    let item = next_item (shares kids) i (share_of part.kind) (shares rest) (sym left) in
+    let next : i + 1 ≡ suc i = omega arith in
+    let slots = Beside axis area (share_sum kids) in
+    let behind : parts_from recency slots (sum (take i (shares kids)) + share_of part.kind) rest ≡ row_parts recency (beside axis area (shares kids)) (i + 1) rest
+    = ap (λ b. parts_from recency slots b rest) (sym item.1) ∙ (beside_is recency axis area kids (suc i) rest (sym item.0) ∙ ap (λ n. row_parts recency (beside axis area (shares kids)) n rest) (sym next)) in
+    ap₂ (λ r more. shown_parts part.id part.kind (kids_parts recency k) (Some r) ++ more) (sym (child axis area kids i _ item.1)) behind
 
-pub turn : (axis : Axis) (area : Rect) (kids row : Forest) (part : Part) → first_part row ≡ Some part → row_length row ≤ row_length kids → shares row ≡ drop (index kids row) (shares kids) → Turn axis area kids row part
-turn axis area kids end part h short left = cc
-turn axis area kids (con p k l rest) part h short left =
-    let same_part : p ≡ part = cc in
-    let At : Part → Type 0 = λ q. Turn axis area kids (con p k l rest) q in
-    subst At same_part (turn_at axis area kids p k l rest short left)
+pub alone_is : (recency : List ConId) (area : Rect) (chosen : Option ConId) (before i : ℕ) (row : Forest) → parts_from recency (Alone area chosen) before row ≡ row_parts recency (alone area chosen) i row
+alone_is recency area chosen before i end = refl
+alone_is recency area chosen before i (con part kids floats rest) =
+    ap (λ more. shown_parts part.id part.kind (kids_parts recency kids) (slot_between (Alone area chosen) before (before + share_of part.kind) part.id) ++ more)
+    (alone_is recency area chosen (before + share_of part.kind) (i + 1) rest)
 
-node_step : (b : Bool) (x y : Forest) → IsWithinLimits x → IsWithinLimits y → IsWithinLimits (cond b x y)
-node_step true x y p q = p
-node_step false x y p q = q
+-- tabbed and stacked containers show the most recent child
+pub alone_kids : (recency : List ConId) (area : Rect) (kids : Forest) (layout : Layout) → (layout ≡ Tabbed) ⊎ (layout ≡ Stacked) → parts_from recency (Alone area (focused_in recency kids)) 0 kids ≡ kids_parts recency kids area layout
+alone_kids recency area kids layout (inl e) = rw e (alone_is recency area (focused_in recency kids) 0 0 kids)
+alone_kids recency area kids layout (inr e) = rw e (alone_is recency area (focused_in recency kids) 0 0 kids)
 
--- a row from one of its nodes on is within its limits
-pub within-node_in : (id : ConId) (f : Forest) → IsWithinLimits f → IsWithinLimits (node_in id f)
-within-node_in id end p = tt
-within-node_in id (con part kids floats rest) p = node_step (same part.id id) (con part kids floats rest) (node_in id rest) p (within-node_in id rest p.4)
-
-pub within-first_kids : (f : Forest) → IsWithinLimits f → IsWithinLimits (first_kids f)
-within-first_kids end p = tt
-within-first_kids (con part kids floats rest) p = p.2
+-- ---- rows of outputs and workspaces
 
 -- a first part of a list is added, and the rest of it is left
 pub joined : {X : Type 0} (old new part rest all whole : List X) → new ≡ old ++ part → all ≡ part ++ rest → old ++ all ≡ whole → new ++ rest ≡ whole
 joined old new part rest all whole added split before = ap (λ z. z ++ rest) added ∙ (append_assoc old part rest ∙ (ap (λ z. old ++ z) (sym split) ∙ before))
-
--- the same cut from equal sums
-pub cut_same : (axis : Axis) (area : Rect) (b b' a a' t t' : ℕ) → b ≡ b' → a ≡ a' → t ≡ t' → cut_between axis area b a t ≡ cut_between axis area b' a' t'
-cut_same axis area b b' a a' t t' p q r =
-    ap (λ z. cut_between axis area z a t) p ∙ (ap (λ z. cut_between axis area b' z t) q ∙ ap (λ z. cut_between axis area b' a' z) r)

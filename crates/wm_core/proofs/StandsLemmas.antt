@@ -1,5 +1,5 @@
 -- A desk that stood for a history stands for it with one more entry.
-use Rattle.std.proofs.Common.{◌≡◌, ℕ, ◌+◌, ◌≤◌, Bool, true, false, cond, eqb, List, ◌∷◌, Option, Some, None, refl, ap, ap₂, add-one, sym, subst, ◌∙◌, arith}
+use Rattle.std.proofs.Common.{◌≡◌, ℕ, ◌+◌, ◌≤◌, ◌<◌, Bool, true, false, cond, eqb, List, [], ◌∷◌, Option, Some, None, refl, ap, ap₂, add-one, sym, subst, ◌∙◌, arith}
 use Rattle.std.proofs.lemmas.Bool.{eqb-true}
 use Rattle.std.proofs.lemmas.Bool.Decides.{nat_tests}
 use Rattle.std.specs.Ordering.{nat_cmp}
@@ -7,18 +7,21 @@ use Rattle.std.specs.BTreeMap.{is_at}
 use Rattle.wm_base.specs.declared.ids.Buffer.{Buffer}
 use Rattle.wm_base.specs.declared.ids.ConId.{ConId}
 use Rattle.wm_tree.specs.Forest.{Forest}
-use Rattle.wm_tree.specs.Look.{has, same}
+use Rattle.wm_tree.specs.Look.{same}
+use Rattle.wm_tree.specs.Sound.{IsSound, times}
+use Rattle.wm_tree.specs.Ids.{IdsRise}
 use Rattle.wm_tree.specs.TreeValue.{TreeValue}
+use Rattle.wm_layouts.specs.declared.plan.Plan.{Plan}
 use Rattle.wm_core.specs.declared.arrange.Placed.{Placed}
 use Rattle.wm_core.specs.declared.frame.Frame.{Frame}
 use Rattle.wm_core.specs.declared.frame.Quad.{Quad}
 use Rattle.wm_core.specs.Arranged.{arranged, same_parts}
-use Rattle.wm_core.specs.DeskValue.{DeskValue, Stands, buffer_in, next_desk}
+use Rattle.wm_core.specs.DeskValue.{DeskValue, IsNotGone, Stands, buffer_in, next_desk}
 use Rattle.wm_core.specs.Frame.{shown, buffer_after, frame, frame_at, quads}
 use Rattle.wm_core.specs.History.{Entry, opening_of, tree, tree_after}
 use Rattle.wm_core.specs.Schedule.{Turn, arrangement, turn}
 use Rattle.wm_core.proofs.ArrangedLemmas.{parts-decide}
-use Rattle.wm_core.proofs.ContentLemmas.{contents_there, quads_same, all_weaker, AllContents}
+use Rattle.wm_core.proofs.ContentLemmas.{contents_known, quads_same, all_weaker, AllContents}
 use Rattle.wm_core.proofs.ScheduleLemmas.{turn_stays, none_begins, one_begins, then_none, done_is}
 
 -- the desk after a step, by whether the arrangement is the last one
@@ -30,7 +33,7 @@ desk_by same t buffers d = record {
   buffers = buffers;
   number = cond same d.number (d.number + 1);
   prefix = cond same d.prefix (d.steps + 1);
-  parts = cond same d.parts (arranged t.outputs);
+  parts = cond same d.parts (arranged t);
 }
 
 abbrev turn_at : ℕ → List Placed → Turn
@@ -38,18 +41,18 @@ turn_at prefix parts = record { prefix = prefix; parts = parts }
 
 module _ (d : DeskValue) (history : List Entry) (entry : Entry) (t : TreeValue) (buffers : List (ℕ × Buffer)) (s : Stands d history) (early : d.prefix ≤ d.steps)
     (after : t ≡ tree_after d.tree entry.who entry.act)
-    (given : (v : ConId) → has v t.outputs ≡ true → buffer_in buffers v ≡ buffer_after d.tree entry.act v (shown (opening_of d.plan) history v))
+    (given : (v : ConId) → IsNotGone t v → buffer_in buffers v ≡ buffer_after d.tree entry.act v (shown (opening_of d.plan) history v))
   where
     next_tree : t ≡ tree (opening_of d.plan) (entry ∷ history)
     next_tree = after ∙ ap (λ z. tree_after z entry.who entry.act) s.tree_is
 
-    next_parts : arranged t.outputs ≡ arrangement (opening_of d.plan) (entry ∷ history)
-    next_parts = ap (λ (z : TreeValue). arranged z.outputs) next_tree
+    next_parts : arranged t ≡ arrangement (opening_of d.plan) (entry ∷ history)
+    next_parts = ap arranged next_tree
 
-    next_buffers : (v : ConId) → has v t.outputs ≡ true → buffer_in buffers v ≡ shown (opening_of d.plan) (entry ∷ history) v
+    next_buffers : (v : ConId) → IsNotGone t v → buffer_in buffers v ≡ shown (opening_of d.plan) (entry ∷ history) v
     next_buffers v h = given v h ∙ ap (λ z. buffer_after z entry.act v (shown (opening_of d.plan) history v)) s.tree_is
 
-    by_same : (b : Bool) → same_parts (arranged t.outputs) d.parts ≡ b → Stands (desk_by b t buffers d) (entry ∷ history)
+    by_same : (b : Bool) → same_parts (arranged t) d.parts ≡ b → Stands (desk_by b t buffers d) (entry ∷ history)
     by_same true e =
         let test : same_parts (arrangement (opening_of d.plan) (entry ∷ history)) d.parts ≡ true = rw (← next_parts) e in
         record {
@@ -74,28 +77,44 @@ module _ (d : DeskValue) (history : List Entry) (entry : Entry) (t : TreeValue) 
 
     -- the step leaves the desk standing for the history with the entry
     pub stands_next : Stands (next_desk t buffers d) (entry ∷ history)
-    stands_next = by_same (same_parts (arranged t.outputs) d.parts) refl
+    stands_next = by_same (same_parts (arranged t) d.parts) refl
 
 -- a step that changes neither tree nor buffers is counted
 pub stands_counted : (d : DeskValue) (history : List Entry) (entry : Entry) → Stands d history → d.prefix ≤ d.steps → d.tree ≡ tree_after d.tree entry.who entry.act
     → ((v : ConId) (b : Option Buffer) → buffer_after d.tree entry.act v b ≡ b) → Stands (record d { steps = d.steps + 1 }) (entry ∷ history)
 stands_counted d history entry s early same_tree same_buffers =
     let Standing : Bool → Type 0 = λ b. Stands (desk_by b d.tree d.buffers d) (entry ∷ history) in
-    let same : same_parts (arranged d.tree.outputs) d.parts ≡ true = (parts-decide _ _).1 (ap (λ (z : TreeValue). arranged z.outputs) s.tree_is ∙ s.newest) in
+    let same : same_parts (arranged d.tree) d.parts ≡ true = (parts-decide _ _).1 (ap arranged s.tree_is ∙ s.newest) in
     subst Standing same (stands_next d history entry d.tree d.buffers s early same_tree (λ v h. s.buffers v h ∙ sym (same_buffers v (shown (opening_of d.plan) history v))))
+
+-- a desk at the opening of its plan stands for the history without entries
+pub stands_start : (plan : Plan) (t : TreeValue) (buffers : List (ℕ × Buffer)) (parts : List Placed) → t ≡ opening_of plan → buffers ≡ [] → parts ≡ arranged t
+    → Stands (record { plan = plan; steps = 0; tree = t; buffers = buffers; number = 0; prefix = 0; parts = parts }) []
+stands_start plan t buffers parts opened none laid =
+    let start = opening_of plan in
+    let here : arranged start ≡ parts = ap arranged (sym opened) ∙ sym laid in
+    let alike : same_parts (arranged start) (arranged start) ≡ true = (parts-decide (arranged start) (arranged start)).1 refl in
+    record {
+      counted = refl;
+      tree_is = opened;
+      ended = ap (λ p. Some (turn_at 0 p)) here;
+      last = rw alike refl;
+      newest = here;
+      buffers = λ v h. ap (λ m. buffer_in m v) none;
+    }
 
 abbrev painted : ℕ → ℕ → List Quad → Frame
 painted number prefix quads = record { number = number; prefix = prefix; quads = quads }
 
 -- what a desk that stands for a history paints
-pub stands_frame : (d : DeskValue) (history : List Entry) → Stands d history → d.number ≤ d.steps
+pub stands_frame : (d : DeskValue) (history : List Entry) → Stands d history → d.number ≤ d.steps → IsSound d.tree
     → frame (opening_of d.plan) history ≡ record { number = d.number; prefix = d.prefix; quads = quads (buffer_in d.buffers) d.parts }
-stands_frame d history s within =
+stands_frame d history s within sound =
     let start = opening_of d.plan in
     let number = done_is start history d.number _ s.ended s.last (omega (arith, s.counted)) in
-    let parts : arranged d.tree.outputs ≡ d.parts = ap (λ (z : TreeValue). arranged z.outputs) s.tree_is ∙ s.newest in
+    let parts : arranged d.tree ≡ d.parts = ap arranged s.tree_is ∙ s.newest in
     let Agree : List Placed → Type 0 = λ z. AllContents (λ v. buffer_in d.buffers v ≡ shown start history v) z in
-    let agree = subst Agree parts (all_weaker (λ v. has v d.tree.outputs ≡ true) (λ v. buffer_in d.buffers v ≡ shown start history v) (arranged d.tree.outputs) s.buffers (contents_there d.tree.outputs)) in
+    let agree = subst Agree parts (all_weaker (IsNotGone d.tree) (λ v. buffer_in d.buffers v ≡ shown start history v) (arranged d.tree) s.buffers (contents_known d.tree sound)) in
     ap (λ n. frame_at n (shown start history) (turn start n history)) number
     ∙ (ap (frame_at d.number (shown start history)) s.ended
     ∙ ap (painted d.number d.prefix) (sym (quads_same (buffer_in d.buffers) (shown start history) d.parts agree)))
@@ -120,14 +139,18 @@ buffer_put old new i v given before put kept =
 pub buffer_kept : (old new : List (ℕ × Buffer)) (i v : ConId) → buffer_in new v ≡ cond (is_at (nat_cmp i.0) v.0) None (buffer_in old v) → same i v ≡ false → buffer_in new v ≡ buffer_in old v
 buffer_kept old new i v put other = put ∙ (ap (λ b. cond b None (buffer_in old v)) (test_same i.0 v.0 ∙ other))
 
--- one that is there is not the one that is gone
-pub other_than_gone : (f : Forest) (i v : ConId) → has i f ≡ false → has v f ≡ true → same i v ≡ false
-other_than_gone f i v gone there = by_test (same i v) refl
+-- what is not gone after a change was not gone before
+pub still_known : (old new : TreeValue) (v : ConId) → IdsRise old new → IsNotGone new v → IsNotGone old v
+still_known old new v ids h below = omega (arith, ids.known v below, h (omega (arith, below, ids.next)))
+
+-- one that is not gone is not one that is
+pub other_than_gone : (t : TreeValue) (i v : ConId) → i.0 < t.next_id → times i t.recency ≡ 0 → IsNotGone t v → same i v ≡ false
+other_than_gone t i v given gone h = by_test (same i v) refl
   where
     by_test : (b : Bool) → same i v ≡ b → b ≡ false
     by_test false e = refl
     by_test true e =
         let of : ℕ → ConId = λ n. record { 0 = n } in
         let equal : i ≡ v = ap of (eqb-true i.0 v.0 e) in
-        let bad : false ≡ true = sym gone ∙ (ap (λ z. has z f) equal ∙ there) in
-        cc
+        let there : 1 ≤ times i t.recency = subst (λ z. z.0 < t.next_id → 1 ≤ times z t.recency) (sym equal) h given in
+        absurd (omega (arith, gone, there))

@@ -1,5 +1,5 @@
 -- The value of a desk, and the histories that it stands for.
-use Rattle.std.specs.Prelude.{◌≡◌, ℕ, suc, ◌+◌, true, if◌then◌else◌, List, length, Option, None, Some, refl}
+use Rattle.std.specs.Prelude.{◌≡◌, ◌<◌, ◌≤◌, ℕ, suc, ◌+◌, if◌then◌else◌, List, length, Option, None, Some, refl}
 use Rattle.std.specs.Coded.{Coded, code_by, coded×, coded_ℕ, coded_list}
 use Rattle.std.specs.Ordering.{nat_cmp}
 use Rattle.std.specs.BTreeMap.{is_at}
@@ -7,7 +7,7 @@ use Rattle.std.specs.Map.{lookup}
 use Rattle.wm_base.specs.contracts.ids.Buffer as buffer
 use Rattle.wm_base.specs.declared.ids.Buffer.{Buffer}
 use Rattle.wm_base.specs.declared.ids.ConId.{ConId}
-use Rattle.wm_tree.specs.Look.{has}
+use Rattle.wm_tree.specs.Sound.{times}
 use Rattle.wm_tree.specs.TreeValue.{TreeValue, tree_code}
 use Rattle.wm_core.specs.contracts.arrange.Placed as placed
 use Rattle.wm_layouts.specs.contracts.plan.Plan as plan
@@ -36,6 +36,10 @@ pub record DeskValue : Type 0 where
 abbrev pub buffer_in : List (ℕ × Buffer) → ConId → Option Buffer
 buffer_in buffers v = lookup (is_at (nat_cmp v.0)) buffers
 
+-- v is not gone: it is a workspace or container of the tree, or its id was not given yet
+abbrev pub IsNotGone : TreeValue → ConId → Type 0
+IsNotGone t v = v.0 < t.next_id → 1 ≤ times v t.recency
+
 -- the desk stands for the history: it is what the history leaves
 pub record Stands (d : DeskValue) (history : List Entry) : Type 0 where
   pub counted : d.steps ≡ length history
@@ -43,14 +47,14 @@ pub record Stands (d : DeskValue) (history : List Entry) : Type 0 where
   pub ended : turn (opening_of d.plan) d.number history ≡ Some (record { prefix = d.prefix; parts = d.parts })
   pub last : turn (opening_of d.plan) (suc d.number) history ≡ None
   pub newest : arrangement (opening_of d.plan) history ≡ d.parts
-  pub buffers : (v : ConId) → has v d.tree.outputs ≡ true → buffer_in d.buffers v ≡ shown (opening_of d.plan) history v
+  pub buffers : (v : ConId) → IsNotGone d.tree v → buffer_in d.buffers v ≡ shown (opening_of d.plan) history v
 
 -- ---- one step
 
 -- the desk after a step that leaves this tree and these buffers: a transaction begins, and ends, where the arrangement differs
 abbrev pub next_desk : TreeValue → List (ℕ × Buffer) → DeskValue → DeskValue
 next_desk t buffers d =
-    let same = same_parts (arranged t.outputs) d.parts in
+    let same = same_parts (arranged t) d.parts in
     record {
       plan = d.plan;
       steps = d.steps + 1;
@@ -58,7 +62,7 @@ next_desk t buffers d =
       buffers = buffers;
       number = if same then d.number else d.number + 1;
       prefix = if same then d.prefix else d.steps + 1;
-      parts = if same then d.parts else arranged t.outputs;
+      parts = if same then d.parts else arranged t;
     }
 
 -- the desk after a step that was refused

@@ -1,9 +1,10 @@
 pub mod Act
+pub mod Areas
 pub mod Arranged
-pub mod Commands
 pub mod DeskValue
 pub mod Frame
 pub mod History
 pub mod Schedule
 pub mod Sizes
+pub mod Slots
 pub mod Text

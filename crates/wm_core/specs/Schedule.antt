@@ -8,7 +8,7 @@ use Rattle.wm_core.specs.History.{Entry, tree}
 
 -- the arrangement after a history
 abbrev pub arrangement : TreeValue → List Entry → List Placed
-arrangement start history = arranged (tree start history).outputs
+arrangement start history = arranged (tree start history)
 
 abbrev pub or_here : Option (List Entry) → Bool → List Entry → Option (List Entry)
 or_here (Some found) passes history = Some found

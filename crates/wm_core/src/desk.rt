@@ -1,34 +1,33 @@
 //! The desk: the tree, the buffers of its windows, and the last arrangement that was committed.
-ghost use Rattle.std.specs.Prelude.{◌≡◌, ◌+◌, ◌<◌, ◌^◌, [], ◌∷◌, true, Option, IfOk, OnOk, OnErr};
+ghost use Rattle.std.specs.Prelude.{◌≡◌, ◌≢◌, ◌+◌, ◌<◌, ◌^◌, [], ◌∷◌, true, map, None, Option, IfOk, IsTrue, OnOk, OnErr};
 ghost use Rattle.wm_base.specs.declared.ids.Buffer.{Buffer};
-ghost use Rattle.wm_base.specs.declared.properties.Props.{Props};
 ghost use Rattle.wm_core.specs.Arranged.{arranged};
 ghost use Rattle.wm_core.specs.DeskValue.{next_desk, Stands};
 ghost use Rattle.wm_core.specs.Frame.{buffer_after, frame};
-ghost use Rattle.wm_core.specs.History.{answer, answer_to, has_no_pixels, is_window, opening_of, tree_after, verdict_replies, Entry, History};
+ghost use Rattle.wm_core.specs.History.{answer, answer_to, has_no_pixels, is_owned, is_window, opening_of, reply_to, tree_after, verdict_replies, verdict_tree, Entry, History};
 ghost use Rattle.wm_layouts.specs.Plan.{IsSound};
 ghost use Rattle.wm_core.specs.Sizes.{IsFitStep};
 ghost use Rattle.std.specs.Bool.{OnTrue};
-ghost use Rattle.wm_tree.specs.Look.{has};
-ghost use Rattle.wm_tree.specs.Limits.{IsOutputRect};
-ghost use Rattle.wm_tree.specs.TreeValue.{opening};
+ghost use Rattle.wm_tree.specs.Look.{con_kind, has, kind_of};
+ghost use Rattle.wm_tree.specs.Sound as trees;
 ghost use Rattle.wm_core.specs.Act.{act_of, Act, Close, Map, Run};
-ghost use Rattle.wm_core.specs.Commands.{groups_replies, groups_tree};
+ghost use Rattle.wm_apply.specs.Batches.{outcome};
+ghost use Rattle.wm_criteria.specs.Prepared.{is_built};
 ghost use Rattle.wm_core.specs.declared.step.Answer.TheVariants.{Replies};
 
 use crate::arrange::{Placed, arrange, same};
-use crate::commands::run_groups;
 use crate::frame::{Frame, painted};
+use crate::replies::replies_to;
 use crate::step::{Answer, Step};
 use std::alloc::Global;
 use std::collections::BTreeMap;
 use std::marker::Model;
-use wm_base::{Buffer, ConId, List, NoMemory, Rect, Size};
+use wm_apply::run;
+use wm_base::{Buffer, ConId, List, NoMemory, Props, Size};
 use wm_criteria::{Prepared, Verdict};
-use wm_grammar::Group;
 use wm_json::Reply;
 use wm_layouts::Plan;
-use wm_tree::{ConKind, NewCon, Tree, TreeRefusal};
+use wm_tree::{ConKind, NewCon, Tree, TreeRefusal, copy_props};
 
 /// A desk. It stands for the history of the steps that were taken on it, from the opening of its plan.
 #[derive(Drop)]
@@ -45,6 +44,7 @@ pub struct Desk {
 
 impl Model for Desk {
     ghost use Rattle.std.specs.Prelude.{◌≤◌};
+    ghost use Rattle.wm_tree.specs.Sound as trees;
     ghost use Rattle.wm_core.specs.DeskValue.{DeskValue, desk_code};
 
     ghost Value = { DeskValue };
@@ -53,7 +53,7 @@ impl Model for Desk {
 
     ghost view = { λ d. record { plan = d.plan; steps = d.steps; tree = d.tree; buffers = d.buffers.entries; number = d.number; prefix = d.prefix; parts = d.parts.items } };
 
-    ghost invariant = { λ d. (d.number ≤ d.steps) × (d.prefix ≤ d.steps) };
+    ghost invariant = { λ d. (d.number ≤ d.steps) × (d.prefix ≤ d.steps) × trees.IsSound d.tree };
 }
 
 impl Desk {
@@ -63,8 +63,8 @@ impl Desk {
         ensures plan { IfOk result (λ desk. desk.plan ≡ plan) }
         ensures stands { IfOk result (λ desk. Stands desk []) }
     {
-        let rect = first_rect(&plan);
-        let tree = Tree::start(alloc, rect)?;
+        let outputs = plan.outputs.items();
+        let tree = Tree::start(alloc, outputs, plan.border, plan.inner, plan.outer)?;
         let parts = arrange(alloc, &tree)?;
         Ok(Desk {
             alloc,
@@ -93,7 +93,7 @@ impl Desk {
     {
         match step {
             Step::Run(text) => self.run(who, text),
-            Step::Map { buffer, .. } => self.map(who, *buffer),
+            Step::Map { props, buffer, .. } => self.map(who, props, *buffer),
             Step::Close { con } => self.close(who, *con),
             _ => unreachable!(),
         }
@@ -120,11 +120,11 @@ impl Desk {
     }
 
     /// Opens a window of the caller, raised, where there is room for it.
-    fn map(&mut self, who: u32, buffer: Buffer) -> Result<Answer, NoMemory>
+    fn map(&mut self, who: u32, props: &Props, buffer: Buffer) -> Result<Answer, NoMemory>
         requires few { self.old.steps < 2 ^ 48 }
-        ensures answer { (props : Props) → IfOk result (λ a. a ≡ answer_to self.old.tree who (Map props buffer)) }
-        ensures stands { (props : Props) → (history : History) → Stands self.old history →
-            OnOk result (Stands self.new (record { who = who; act = Map props buffer } ∷ history)) }
+        ensures answer { IfOk result (λ a. a ≡ answer_to self.old.tree who (Map props.now buffer)) }
+        ensures stands { (history : History) → Stands self.old history →
+            OnOk result (Stands self.new (record { who = who; act = Map props.now buffer } ∷ history)) }
         ensures plan { self.new.plan ≡ self.old.plan }
         ensures count { OnOk result (self.new.steps ≡ self.old.steps + 1) }
         ensures err { OnErr result (self.new ≡ self.old) }
@@ -134,7 +134,12 @@ impl Desk {
             return Ok(Answer::Empty);
         }
         let mut tree = self.tree.copy()?;
-        let id = match tree.attach(tree.newcomer_place(), NewCon::Window { owner: who }) {
+        let window = NewCon::Window {
+            props: copy_props(props)?,
+            owner: who,
+            natural: buffer.size,
+        };
+        let id = match tree.attach(tree.newcomer_place(), window) {
             Ok(id) => id,
             Err(TreeRefusal::Full { limit }) => {
                 self.steps += 1;
@@ -144,6 +149,7 @@ impl Desk {
             Err(TreeRefusal::NoMemory) => return Err(NoMemory),
         };
         tree.raise(id);
+        tree.settle();
         let newest = arrange(self.alloc, &tree)?;
         self.buffers.insert(id.0, buffer)?;
         self.commit(tree, newest);
@@ -168,6 +174,7 @@ impl Desk {
         if tree.detach(con).is_err() {
             unreachable!();
         }
+        tree.settle();
         let newest = arrange(self.alloc, &tree)?;
         self.buffers.remove(&con.0);
         self.commit(tree, newest);
@@ -176,8 +183,9 @@ impl Desk {
 
     /// Runs a text, or answers why it is not run.
     fn run(&mut self, who: u32, text: &Prepared) -> Result<Answer, NoMemory>
+        requires built { IsTrue (is_built text.now) }
         requires few { self.old.steps < 2 ^ 48 }
-        ensures answer { IfOk result (λ a. a ≡ Replies (verdict_replies text.now.verdict)) }
+        ensures answer { IfOk result (λ a. a ≡ Replies (verdict_replies text.now.verdict self.old.tree)) }
         ensures stands { (history : History) → Stands self.old history →
             OnOk result (Stands self.new (record { who = who; act = Run text.now.text text.now.verdict } ∷ history)) }
         ensures plan { self.new.plan ≡ self.old.plan }
@@ -185,27 +193,27 @@ impl Desk {
         ensures err { OnErr result (self.new ≡ self.old) }
     {
         match &text.verdict {
-            Verdict::Ready(batch) => self.run_groups(batch.groups.items()),
+            Verdict::Ready(_) => self.apply(text),
             Verdict::Bad { at } => self.reply(Reply::Parse(*at)),
             Verdict::PatternRefused { pattern } => self.reply(Reply::Pattern(*pattern)),
         }
     }
 
-    /// Runs the commands of the groups.
-    fn run_groups(&mut self, groups: &[Group]) -> Result<Answer, NoMemory>
+    /// Runs the commands of a text that reads.
+    fn apply(&mut self, text: &Prepared) -> Result<Answer, NoMemory>
+        requires built { IsTrue (is_built text.now) }
         requires few { self.old.steps < 2 ^ 48 }
-        ensures answer { IfOk result (λ a. a ≡ Replies (groups_replies groups.now)) }
+        ensures answer { IfOk result (λ a. a ≡ Replies (map reply_to (outcome text.now.verdict None self.old.tree).replies)) }
         ensures stands { (history : History) → (entry : Entry) →
-            groups_tree groups.now self.old.tree ≡ tree_after self.old.tree entry.who entry.act →
+            verdict_tree text.now.verdict self.old.tree ≡ tree_after self.old.tree entry.who entry.act →
             ((v : ConId) → (b : Option Buffer) → buffer_after self.old.tree entry.act v b ≡ b) →
             Stands self.old history → OnOk result (Stands self.new (entry ∷ history)) }
         ensures plan { self.new.plan ≡ self.old.plan }
         ensures count { OnOk result (self.new.steps ≡ self.old.steps + 1) }
         ensures err { OnErr result (self.new ≡ self.old) }
     {
-        let mut replies = Vec::new(self.alloc);
-        let mut tree = self.tree.copy()?;
-        run_groups(&mut tree, groups, &mut replies)?;
+        let (tree, applied) = run(self.alloc, &self.tree, &self.plan.env, text, None)?;
+        let replies = replies_to(self.alloc, applied.replies.items())?;
         let newest = arrange(self.alloc, &tree)?;
         self.commit(tree, newest);
         Ok(Answer::Replies(List::of(replies)))
@@ -231,13 +239,10 @@ impl Desk {
     /// Whether this is an open window of the caller.
     fn is_window(&self, who: u32, con: ConId) -> bool
         ensures value { result ≡ is_window self.now.tree who con }
-        ensures there { OnTrue result (has con self.now.tree.outputs ≡ true) }
+        ensures there { OnTrue result ((has con self.now.tree.nodes ≡ true) × (kind_of con_kind con self.now.tree.nodes ≢ None)) }
     {
         match self.tree.container(con) {
-            Some(part) => {
-                let ConKind::Window { owner } = part.kind;
-                owner == who
-            }
+            Some(part) => is_owned(who, &part.kind),
             None => false,
         }
     }
@@ -246,7 +251,8 @@ impl Desk {
     /// arrangement differs from the last one.
     fn commit(&mut self, tree: Tree, newest: Vec<Placed>)
         requires few { self.old.steps < 2 ^ 48 }
-        requires arranged { newest.items ≡ arranged tree.outputs }
+        requires arranged { newest.items ≡ arranged tree }
+        requires sound { trees.IsSound tree }
         ensures { self.new ≡ next_desk tree self.old.buffers self.old }
     {
         self.steps += 1;
@@ -266,14 +272,12 @@ fn has_no_pixels(size: Size) -> bool
     size.w == 0 || size.h == 0
 }
 
-/// The rectangle of the plan's output.
-fn first_rect(plan: &Plan) -> Rect
-    requires { IsSound plan.now }
-    ensures rect { opening result ≡ opening_of plan.now }
-    ensures placed { IsOutputRect result }
+/// Whether this is a window of the caller.
+fn is_owned(who: u32, kind: &ConKind) -> bool
+    ensures { result ≡ is_owned who kind.now }
 {
-    match plan.outputs.items() {
-        [output] => output.rect,
-        _ => unreachable!(),
+    match kind {
+        ConKind::Window { owner, .. } => *owner == who,
+        ConKind::Split { .. } | ConKind::Placeholder { .. } => false,
     }
 }

@@ -1,13 +1,17 @@
 //! The desk: one history of steps, what each answers, and the frames that are painted.
 #![tactic(auto)]
 
+mod areas;
 mod arrange;
-mod commands;
+mod children;
 mod desk;
 mod frame;
+mod replies;
 mod step;
 #[cfg(test)]
 mod tests;
+#[cfg(test)]
+mod tests_arrange;
 mod text;
 
 pub use desk::Desk;

@@ -3,3 +3,6 @@ pub mod BuildingLemmas
 pub mod NumberLemmas
 pub mod CountLemmas
 pub mod PartLemmas
+pub mod FormLemmas
+pub mod SearchLemmas
+pub mod GatherLemmas

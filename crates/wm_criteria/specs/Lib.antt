@@ -6,3 +6,6 @@ pub mod Verdict
 pub mod Prepared
 pub mod Stop
 pub mod Parts
+pub mod Searching
+pub mod Holds
+pub mod Gathered

@@ -1,10 +1,13 @@
 //! The built form of a pattern.
-ghost use Rattle.std.specs.Prelude.{◌≡◌, Some, None};
+ghost use Rattle.std.specs.Prelude.{◌≡◌, Some, None, IfOk};
 ghost use Rattle.regex.specs.Strings.{regex_source};
 ghost use Rattle.wm_criteria.specs.Building.{IsRead};
+ghost use Rattle.wm_criteria.specs.Searching.{form_search};
 
 use regex::Regex;
+use std::alloc::Global;
 use std::marker::Model;
+use wm_base::NoMemory;
 
 /// What a key's pattern was built to. There is none where the key has no pattern, or a plain one.
 #[derive(Debug, Drop)]
@@ -39,5 +42,18 @@ impl Form {
         ensures { result ≡ Some (regex_source regex) }
     {
         Form { regex: Some(regex) }
+    }
+
+    /// Whether the pattern that was built matches the text. Nothing matches where none was built.
+    pub fn search(&self, alloc: Global, text: &str) -> Result<bool, NoMemory>
+        ensures { IfOk result (λ found. found ≡ form_search self.now text.now) }
+    {
+        match &self.regex {
+            None => Ok(false),
+            Some(regex) => {
+                let mut matcher = regex.matcher(alloc)?;
+                Ok(matcher.is_match(text))
+            }
+        }
     }
 }

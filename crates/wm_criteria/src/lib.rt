@@ -4,18 +4,26 @@
 mod build;
 mod form;
 mod forms;
+mod gathering;
+mod groups;
+mod holds;
 mod laws;
 mod list_build;
 mod patterns;
 mod plain;
 mod prepared;
 mod preparing;
+mod property;
 mod regex_build;
 #[cfg(test)]
 mod tests;
+#[cfg(test)]
+mod tests_matching;
 mod verdict;
 
 pub use build::{Build, BuildFault};
+pub use gathering::matching;
+pub use groups::matches;
 pub use laws::{any_text_is_asked_for, matches_a_part};
 pub use list_build::ListBuild;
 pub use plain::{is_plain, plain_search};

@@ -3,12 +3,14 @@ use Rattle.std.proofs.Common.{◌≡◌, ℕ, zero, suc, ◌<◌, ◌/◌, ◌%�
 use Rattle.std.specs.Prelude.{decimal, ◌==◌}
 use Rattle.std.specs.Fmt.{digits, digits_onto, digit_glyph}
 use Rattle.std.specs.List.{join_with_byte}
-use Rattle.json.specs.Print.{escape_byte, escape}
+use Rattle.json.specs.Print.{escape_byte, escape, quoted}
+use Rattle.serde_json.specs.Data.{Data, array, string}
 use Rattle.serde_json.specs.View.{items_of}
 use Rattle.serde_json.specs.Written.{compact_text, items_text, has_float, items_have_float}
 use Rattle.wm_base.specs.ErrorText.{text_of}
 use Rattle.wm_base.specs.declared.errors.ErrorText.{ErrorText}
 use Rattle.wm_base.specs.declared.errors.ErrorText.TheVariants as errors
+use Rattle.wm_json.specs.Arrays.{array_text, texts_data, texts_text}
 use Rattle.wm_json.specs.Replies.{success_data, success_text, error_data, parse_error_data, reply_data, reply_text, replies_data, replies_text, version_data, VERSION_TEXT}
 use Rattle.wm_json.specs.declared.replies.Reply.{Reply}
 use Rattle.wm_json.specs.declared.replies.Reply.TheVariants as replies
@@ -128,23 +130,38 @@ reply_whole (replies.Error error) = refl
 reply_whole (replies.Parse at) = refl
 reply_whole (replies.Pattern pattern) = refl
 
--- ---- all replies
+-- ---- arrays
 
-more_are : (given : List Reply) (first : Reply) → items_text true (items_of (map reply_data (first ∷ given))) ≡ 44 ∷ (join_with_byte 44 (map reply_text (first ∷ given)) ++ 93 ∷ [])
-more_are [] first = ap (λ zs. 44 ∷ (zs ++ 93 ∷ [])) (reply_is first)
-more_are (second ∷ given) first =
-    ap (λ zs. 44 ∷ (zs ++ items_text true (items_of (map reply_data (second ∷ given))))) (reply_is first)
-    ∙ ap (λ zs. 44 ∷ (reply_text first ++ zs)) (more_are given second)
-    ∙ sym (ap (λ zs. 44 ∷ zs) (append_assoc (reply_text first) (44 ∷ join_with_byte 44 (map reply_text (second ∷ given))) (93 ∷ [])))
+module _ {A : Type 0} (value : A → Data) (text : A → List ℕ) (is : (x : A) → compact_text (value x) ≡ text x) where
+  more_are : (xs : List A) (first : A) → items_text true (items_of (map value (first ∷ xs))) ≡ 44 ∷ (join_with_byte 44 (map text (first ∷ xs)) ++ 93 ∷ [])
+  more_are [] first = ap (λ zs. 44 ∷ (zs ++ 93 ∷ [])) (is first)
+  more_are (second ∷ xs) first =
+      ap (λ zs. 44 ∷ (zs ++ items_text true (items_of (map value (second ∷ xs))))) (is first)
+      ∙ ap (λ zs. 44 ∷ (text first ++ zs)) (more_are xs second)
+      ∙ sym (ap (λ zs. 44 ∷ zs) (append_assoc (text first) (44 ∷ join_with_byte 44 (map text (second ∷ xs))) (93 ∷ [])))
+
+  -- the array of values is the array of their texts
+  pub array_is : (xs : List A) → compact_text (array (items_of (map value xs))) ≡ array_text text xs
+  array_is [] = refl
+  array_is (first ∷ []) = ap (λ zs. 91 ∷ (zs ++ 93 ∷ [])) (is first)
+  array_is (first ∷ second ∷ xs) =
+      ap (λ zs. 91 ∷ (zs ++ items_text true (items_of (map value (second ∷ xs))))) (is first)
+      ∙ ap (λ zs. 91 ∷ (text first ++ zs)) (more_are xs second)
+      ∙ sym (ap (λ zs. 91 ∷ zs) (append_assoc (text first) (44 ∷ join_with_byte 44 (map text (second ∷ xs))) (93 ∷ [])))
+
+-- an array of values without floats has none
+pub array_whole : {A : Type 0} (value : A → Data) → ((x : A) → has_float (value x) ≡ false) → (xs : List A) → has_float (array (items_of (map value xs))) ≡ false
+array_whole value whole [] = refl
+array_whole value whole (first ∷ xs) = ap (λ b. b || items_have_float (items_of (map value xs))) (whole first) ∙ array_whole value whole xs
 
 pub replies_are : (given : List Reply) → compact_text (replies_data given) ≡ replies_text given
-replies_are [] = refl
-replies_are (first ∷ []) = ap (λ zs. 91 ∷ (zs ++ 93 ∷ [])) (reply_is first)
-replies_are (first ∷ second ∷ given) =
-    ap (λ zs. 91 ∷ (zs ++ items_text true (items_of (map reply_data (second ∷ given))))) (reply_is first)
-    ∙ ap (λ zs. 91 ∷ (reply_text first ++ zs)) (more_are given second)
-    ∙ sym (ap (λ zs. 91 ∷ zs) (append_assoc (reply_text first) (44 ∷ join_with_byte 44 (map reply_text (second ∷ given))) (93 ∷ [])))
+replies_are = array_is reply_data reply_text reply_is
 
 pub replies_whole : (given : List Reply) → has_float (replies_data given) ≡ false
-replies_whole [] = refl
-replies_whole (first ∷ given) = ap (λ b. b || items_have_float (items_of (map reply_data given))) (reply_whole first) ∙ replies_whole given
+replies_whole = array_whole reply_data reply_whole
+
+pub texts_are : (texts : List (List ℕ)) → compact_text (texts_data texts) ≡ texts_text texts
+texts_are = array_is string quoted (λ t. refl)
+
+pub texts_whole : (texts : List (List ℕ)) → has_float (texts_data texts) ≡ false
+texts_whole = array_whole string (λ t. refl)

@@ -1,9 +1,9 @@
 -- The replies to the commands of one text, as values and as texts.
 use Rattle.std.specs.Prelude.{ℕ, List, [], ◌∷◌, ◌++◌, map, codes, decimal, Bool, true, false}
-use Rattle.std.specs.List.{join_with_byte}
 use Rattle.serde_json.specs.Data.{Data, boolean, unsigned, number, string, array, object, member, no_members}
 use Rattle.serde_json.specs.View.{items_of}
 use Rattle.wm_base.specs.ErrorText.{text_of}
+use Rattle.wm_json.specs.Arrays.{array_text}
 use Rattle.wm_json.specs.declared.replies.Reply.{Reply}
 use Rattle.wm_json.specs.declared.replies.Reply.TheVariants as replies
 
@@ -25,7 +25,7 @@ reply_text (replies.Pattern pattern) = codes "{\"error\":\"pattern " ++ decimal 
 
 -- the array of the replies, with a comma between two
 abbrev pub replies_text : List Reply → List ℕ
-replies_text given = 91 ∷ (join_with_byte 44 (map reply_text given) ++ 93 ∷ [])
+replies_text given = array_text reply_text given
 
 -- ---- values
 

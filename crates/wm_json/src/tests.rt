@@ -1,7 +1,7 @@
 //! The bytes of replies.
-use crate::{Reply, compact, replies_json, success_value, version_value};
+use crate::{Reply, compact, replies_json, success_value, texts_json, version_value};
 use std::test::Fail;
-use wm_base::ErrorText;
+use wm_base::{ErrorText, Text};
 
 #[test]
 fn replies_have_their_bytes(rt: HostRuntime) -> Result<(), Fail> {
@@ -43,5 +43,17 @@ fn single_values_have_their_bytes(rt: HostRuntime) -> Result<(), Fail> {
     let text =
         "{\"human_readable\":\"i3replay 1.0.0\",\"loaded_config_file_name\":\"\",\"major\":1,\"minor\":0,\"patch\":0}";
     assert!(rt; bytes.as_slice() == text.as_bytes());
+    Ok(())
+}
+
+#[test]
+fn texts_have_their_bytes(rt: HostRuntime) -> Result<(), Fail> {
+    let alloc = rt.alloc();
+    let plain = Text::new(alloc, "a").map_err(|_| "no text")?;
+    let odd = Text::new(alloc, "b\"\\\n").map_err(|_| "no text")?;
+    let none = texts_json(alloc, &[]).map_err(|_| "no memory")?;
+    assert!(rt; none.as_slice() == b"[]".as_slice());
+    let both = texts_json(alloc, &[plain, odd]).map_err(|_| "no memory")?;
+    assert!(rt; both.as_slice() == b"[\"a\",\"b\\\"\\\\\\n\"]".as_slice());
     Ok(())
 }

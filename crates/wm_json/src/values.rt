@@ -2,11 +2,12 @@
 ghost use Rattle.std.specs.Prelude.{◌≡◌, false, IfOk};
 ghost use Rattle.serde_json.specs.View.{view};
 ghost use Rattle.serde_json.specs.Written.{has_float, compact_text};
+ghost use Rattle.wm_json.specs.Arrays.{texts_data, texts_text};
 ghost use Rattle.wm_json.specs.Replies.{success_data, success_text, error_data, parse_error_data, version_data, VERSION_TEXT};
 
 use serde_json::{Value, json};
 use std::alloc::{AllocError, Global};
-use wm_base::NoMemory;
+use wm_base::{NoMemory, Text};
 
 /// The object that says whether something was done, `{"success":true}` or `{"success":false}`.
 pub fn success_value(alloc: Global, b: bool) -> Result<Value, NoMemory>
@@ -44,4 +45,17 @@ pub fn version_value(alloc: Global) -> Result<Value, NoMemory>
         "minor": 0u64,
         "patch": 0u64
     })?)
+}
+
+/// The array of these texts.
+pub fn texts_value(alloc: Global, texts: &[Text]) -> Result<Value, NoMemory>
+    ensures value { IfOk result (λ v. view v ≡ texts_data texts.now) }
+    ensures text { IfOk result (λ v. compact_text (view v) ≡ texts_text texts.now) }
+    ensures whole { IfOk result (λ v. has_float (view v) ≡ false) }
+{
+    let mut values = Vec::with_capacity(alloc, texts.len())?;
+    for text in texts {
+        values.push(Value::String(String::from_str(alloc, text.as_str())?))?;
+    }
+    Ok(Value::Array(values))
 }

@@ -1,11 +1,11 @@
 -- When a plan is sound.
-use Rattle.std.specs.Prelude.{◌*◌, ◌≤◌, pos, List, [], ◌∷◌, codes}
+use Rattle.std.specs.Prelude.{◌≡◌, ◌*◌, ◌≤◌, pos, List, [], ◌∷◌, codes}
 use Rattle.wm_base.specs.declared.geometry.Rect.{Rect}
 use Rattle.wm_base.specs.declared.geometry.Edges.{Edges}
 use Rattle.wm_base.specs.declared.plan.Border.{Border}
 use Rattle.wm_base.specs.declared.plan.Border.TheVariants.{Normal, Pixel, Bare}
 use Rattle.wm_base.specs.declared.plan.OutputPlan.{OutputPlan}
-use Rattle.wm_tree.specs.Limits.{IsOutputRect}
+use Rattle.wm_tree.specs.Sound.{IsOutputRect}
 use Rattle.wm_layouts.specs.declared.plan.Plan.{Plan}
 
 -- an output's rectangle: sides of 1 to 16,384, an area of at most 33,554,432, and a place within the limits
@@ -50,3 +50,10 @@ default_outputs =
       reserved = record { top = 0; right = 0; bottom = 0; left = 0 };
     }
     ∷ []
+
+-- the standard plan, so far as a tree opens by it: its outputs, no borders and no gaps
+pub record IsStandard (p : Plan) : Type 0 where
+  pub outputs : p.outputs ≡ default_outputs
+  pub border : p.border ≡ Bare
+  pub inner : p.inner ≡ 0
+  pub outer : p.outer ≡ 0

@@ -1,6 +1,6 @@
 //! The plan with which a desk is started.
 ghost use Rattle.std.specs.Prelude.{◌≡◌, ◌↔◌, IsTrue, IfOk};
-ghost use Rattle.wm_layouts.specs.Plan.{IsSound, IsFitBorder, IsFitOutput, IsFitRect, default_outputs};
+ghost use Rattle.wm_layouts.specs.Plan.{IsSound, IsFitBorder, IsFitOutput, IsFitRect, IsStandard};
 
 use std::alloc::Global;
 use wm_base::{Border, Edges, List, NoMemory, OutputPlan, Rect, Str, Text};
@@ -28,7 +28,7 @@ pub struct Plan {
 impl Plan {
     /// The plan of one output DP-1 of 1000x800 at 0,0, with no borders, no gaps, no modes, no homes and no configuration.
     pub fn standard(alloc: Global) -> Result<Plan, NoMemory>
-        ensures outputs { IfOk result (λ plan. plan.outputs ≡ default_outputs) }
+        ensures standard { IfOk result (λ plan. IsStandard plan) }
         ensures sound { IfOk result (λ plan. IsSound plan) }
     {
         let Ok(name) = Text::new(alloc, "DP-1") else {

@@ -1,13 +1,14 @@
 -- A desk takes steps one after another, and what they tell is written in pieces.
 use Rattle.std.proofs.Common.{◌≡◌, ◌∙◌, refl, ap, ap₂, sym, subst, ℕ, zero, suc, ◌+◌, ◌-◌, get_or, ◌<◌, ◌≤◌, inl, inr, List, [], ◌∷◌, ◌++◌, Option, None, Some, Result, Ok, Err, length, take, drop, arith, length-append, append_assoc}
-use Rattle.std.specs.Prelude.{pos, OnErr, OnOk}
+use Rattle.std.specs.Prelude.{OnErr, OnOk}
 use Rattle.std.proofs.lemmas.List.{append-nil, drop_all, take_all, take-append-drop}
 use Rattle.wm_frames.specs.declared.message.Message.{Message}
-use Rattle.wm_layouts.specs.Plan.{default_outputs}
+use Rattle.wm_base.specs.declared.plan.Border.TheVariants.{Bare}
+use Rattle.wm_layouts.specs.Plan.{IsStandard, default_outputs}
 use Rattle.wm_tree.specs.TreeValue.{opening}
 use Rattle.wm_core.specs.DeskValue.{DeskValue, Stands}
 use Rattle.wm_criteria.specs.Building.{Tells}
-use Rattle.wm_core.specs.History.{History, first_rect, opening_of}
+use Rattle.wm_core.specs.History.{History, opening_of}
 use Rattle.wm_ports.specs.Told.{TakesAll, TakesPart}
 use Rattle.wm_tool.specs.declared.script.Line.{Line}
 use Rattle.wm_tool.specs.declared.script.Line.TheVariants as line
@@ -213,8 +214,8 @@ module _ (old now : Option (List ℕ)) (desk : DeskValue) (before later_refused 
           left = ap (λ n. drop n texts) moved ∙ (drop_more desk.steps (length steps) texts ∙ (ap (drop (length steps)) p.left ∙ drop_front steps ahead));
         }
 
-opens : (desk : DeskValue) → desk.plan.outputs ≡ default_outputs → start ≡ opening_of desk.plan
-opens desk plan = sym (ap (λ outputs. opening (first_rect (record { x = pos 0; y = pos 0; w = 0; h = 0 }) outputs)) plan)
+opens : (desk : DeskValue) → IsStandard desk.plan → start ≡ opening_of desk.plan
+opens desk plan = sym (ap (λ outputs. opening outputs desk.plan.border desk.plan.inner desk.plan.outer) plan.outputs ∙ (ap (λ border. opening default_outputs border desk.plan.inner desk.plan.outer) plan.border ∙ ap₂ (λ inner outer. opening default_outputs Bare inner outer) plan.inner plan.outer))
 
 run_same : (rs more : List Refused) (h : History) (text : List ℕ) → IsRising (suc (length h)) more → run_entry (rs ++ more) h text ≡ run_entry rs h text
 run_same rs more h text rising = rw (verdict_same (length h) rs more text rising) refl
@@ -283,7 +284,7 @@ module _ (old now : Option (List ℕ)) (desk : DeskValue) (before after_refused 
         stops_step old now desk before after_refused piece (after g) (told start g) (out_from (g ∷ others)) (out_from others) whole texts (line_step g) (line_texts others) count c1 c2 told_first t1 t2
         (line_longer g) first_line grown backs
 
-    pub plays_line : (next : DeskValue) (text : List ℕ) → desk.plan.outputs ≡ default_outputs
+    pub plays_line : (next : DeskValue) (text : List ℕ) → IsStandard desk.plan
         → (refusal_at desk.steps before ≡ None → Leads desk next (after g after_refused) (told (opening_of desk.plan) g after_refused) piece text)
         → next.steps ≡ desk.steps + length (line_step g) → Plays old now next after_refused text (out_from others) whole texts (line_texts others) count c2 told_first t2
     plays_line next text plan leads moved =
@@ -321,7 +322,7 @@ module _ (old now : Option (List ℕ)) (desk : DeskValue) (before after_refused 
         stops_step old now desk before after_refused piece (after_message m) (replied start m) (replies_from (m ∷ others)) (replies_from others) whole texts (message_step m) (message_texts others) count c1 c2 told_first t1 t2
         (by_text_longer (text_of_request (request_of m))) first_message grown backs
 
-    pub plays_message : (next : DeskValue) (text : List ℕ) → desk.plan.outputs ≡ default_outputs
+    pub plays_message : (next : DeskValue) (text : List ℕ) → IsStandard desk.plan
         → (refusal_at desk.steps before ≡ None → Leads desk next (after_message m after_refused) (replied (opening_of desk.plan) m after_refused) piece text)
         → next.steps ≡ desk.steps + length (message_step m) → Plays old now next after_refused text (replies_from others) whole texts (message_texts others) count c2 told_first t2
     plays_message next text plan leads moved =

@@ -1,6 +1,7 @@
 -- What the tool writes for a script.
-use Rattle.std.specs.Prelude.{ℕ, List, [], ◌∷◌, ◌++◌, length, Option, None, Some, Result, Ok, Err, codes, pos}
+use Rattle.std.specs.Prelude.{ℕ, List, [], ◌∷◌, ◌++◌, length, Option, None, Some, Result, Ok, Err, codes}
 use Rattle.std.specs.Fmt.{decimal}
+use Rattle.wm_base.specs.declared.plan.Border.TheVariants.{Bare}
 use Rattle.wm_base.specs.ErrorText.{word_of}
 use Rattle.wm_tree.specs.TreeValue.{TreeValue, opening}
 use Rattle.wm_core.specs.declared.step.Answer.{Answer}
@@ -9,7 +10,7 @@ use Rattle.wm_json.specs.Replies.{replies_text}
 use Rattle.wm_core.specs.Frame.{frame}
 use Rattle.wm_base.specs.declared.properties.Props.{Props}
 use Rattle.wm_core.specs.Act.{Act, Run, Map, Close}
-use Rattle.wm_core.specs.History.{Entry, History, answer, first_rect}
+use Rattle.wm_core.specs.History.{Entry, History, answer}
 use Rattle.wm_layouts.specs.Plan.{default_outputs}
 use Rattle.wm_core.specs.Text.{frame_text, new_line}
 use Rattle.wm_tool.specs.declared.script.Line.{Line}
@@ -29,7 +30,7 @@ answer_text (answers.Full limit) = codes "full " ++ (word_of limit ++ new_line)
 
 -- the opening tree of the standard plan
 abbrev pub start : TreeValue
-start = opening (first_rect (record { x = pos 0; y = pos 0; w = 0; h = 0 }) default_outputs)
+start = opening default_outputs Bare 0 0
 
 -- a step of caller 0
 abbrev pub entry_of : Act → Entry

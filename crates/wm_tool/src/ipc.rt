@@ -5,7 +5,7 @@ ghost use Rattle.std.specs.List.{AllByRecursion};
 ghost use Rattle.wm_frames.specs.Frame.{IsShort};
 ghost use Rattle.wm_core.specs.History.{answer, History, opening_of};
 ghost use Rattle.wm_json.specs.Replies.{replies_text};
-ghost use Rattle.wm_layouts.specs.Plan.{default_outputs};
+ghost use Rattle.wm_layouts.specs.Plan.{IsStandard};
 ghost use Rattle.wm_ports.specs.Told.{TakesAll, TakesPart};
 ghost use Rattle.wm_tool.specs.Ending.{HasStopped};
 ghost use Rattle.wm_tool.specs.Ipc.{after_message, framed, message_step, message_texts, plain_payload, replied, replies_from, replies_of, request_by};
@@ -71,7 +71,7 @@ fn answer_queue<B: Build, W: Sink>(
 ) -> Result<(), Stop>
     requires few { desk.old.steps + length decoder.old.queue ≤ 16777216 }
     requires short { AllByRecursion IsShort decoder.old.queue }
-    requires plan { desk.old.plan.outputs ≡ default_outputs }
+    requires plan { IsStandard desk.old.plan }
     requires empty { piece.old.items ≡ [] }
     ensures ok { (old : Option (List ℕ)) → (whole : List Refused → List ℕ) → (texts : List (Option (List ℕ))) → (count : ℕ) → (told : Option (List (List ℕ))) →
         Plays old (W.taken sink.old) desk.old refused.old.items [] (replies_from decoder.old.queue) whole texts (message_texts decoder.old.queue)

@@ -6,7 +6,7 @@ ghost use Rattle.wm_core.specs.Text.{frame_text};
 ghost use Rattle.wm_core.specs.History.{answer, History, opening_of};
 ghost use Rattle.wm_core.specs.Sizes.{IsFitStep};
 ghost use Rattle.wm_defs.specs.Counts.{Rose};
-ghost use Rattle.wm_layouts.specs.Plan.{default_outputs};
+ghost use Rattle.wm_layouts.specs.Plan.{IsStandard};
 ghost use Rattle.wm_ports.specs.Told.{TakesAll, TakesPart};
 ghost use Rattle.wm_tool.specs.Ending.{HasStopped};
 ghost use Rattle.wm_tool.specs.Output.{after, answer_text, entry_of, line_step, line_texts, no_props, out_from, told};
@@ -96,7 +96,7 @@ fn run_lines<B: Build, W: Sink>(
 ) -> Result<(), Stop>
     requires few { desk.old.steps + length lines.now ≤ 16777216 }
     requires fit { All IsFitLine lines.now }
-    requires plan { desk.old.plan.outputs ≡ default_outputs }
+    requires plan { IsStandard desk.old.plan }
     ensures ok { (old : Option (List ℕ)) → (whole : List Refused → List ℕ) → (texts : List (Option (List ℕ))) → (count : ℕ) → (told : Option (List (List ℕ))) →
         Plays old (W.taken sink.old) desk.old refused.old.items piece.old.items (out_from lines.now) whole texts (line_texts lines.now)
         count (B.refusals build.old) told (B.refused build.old) →

@@ -1,252 +1,242 @@
--- The focused node is there, and is the shown workspace or a container.
-use Rattle.std.proofs.Common.{◌≡◌, ◌≢◌, ℕ, ◌+◌, ◌≤◌, Bool, true, false, cond, ◌||◌, ◌⊎◌, inl, inr, ⊎_elim, None, Some, List, [], ◌∷◌, refl, ap, sym, ◌∙◌, subst, arith}
-use Rattle.std.proofs.lemmas.Bool.{eq-eqb, eqb-true}
+-- Looking for a node after another one was taken out or replaced.
+use Rattle.std.proofs.Common.{◌≡◌, ℕ, ◌+◌, ◌≤◌, Bool, true, false, cond, ◌||◌, Option, Some, refl, arith}
 use Rattle.wm_base.specs.declared.ids.ConId.{ConId}
 use Rattle.wm_tree.specs.declared.part.Part.{Part}
-use Rattle.wm_tree.specs.declared.part.NodeKind.{NodeKind}
-use Rattle.wm_tree.specs.declared.part.NodeKind.TheVariants.{Output, Space, Con}
-use Rattle.wm_tree.specs.declared.part.OutputPart.{OutputPart}
+use Rattle.wm_tree.specs.declared.spot.Spot.{Spot}
 use Rattle.wm_tree.specs.Forest.{Forest, end, con}
-use Rattle.wm_tree.specs.Look.{same, has, only, in_row, node_in, kind_of, output_kind, space_kind, con_kind}
-use Rattle.wm_tree.specs.Limits.{IsSound, tally}
-use Rattle.wm_tree.specs.Recency.{first_in}
-use Rattle.wm_tree.specs.Shape.{Level, outputs, spaces, containers, below, IsAt, ShowsOwn, IsShaped}
-use Rattle.wm_tree.specs.TreeValue.{TreeValue, shown, shown_space, focused, newcomer_place, named, IsPlace}
-use Rattle.wm_tree.specs.declared.place.Place.{Place}
-use Rattle.wm_tree.specs.declared.place.Place.TheVariants.{After, Last}
-use Rattle.wm_tree.proofs.ChangeLemmas.{counted}
+use Rattle.wm_tree.specs.Change.{at, in_place, replaced, without}
+use Rattle.wm_tree.specs.Counts.{but, row_length, row_with}
+use Rattle.wm_tree.specs.Look.{first_kids, first_part, has, in_row, only, same}
+use Rattle.wm_tree.specs.Sound.{Level, below, containers, tally}
+use Rattle.wm_tree.specs.Spot.{spot_in, spot_of, top}
+use Rattle.wm_tree.proofs.ChangeLemmas.{by_place}
+use Rattle.wm_tree.proofs.CountLemmas.{counted, tally-absent}
+use Rattle.wm_tree.proofs.ForestLemmas.{but_absent}
 
-pub same_self : (a b : ConId) → a ≡ b → same a b ≡ true
-same_self a b e = eq-eqb a.0 b.0 (ap (λ (x : ConId). x.0) e)
+pub none_of_four : (a k l r : Bool) → (a || k || l || r) ≡ false → (a ≡ false) × (k ≡ false) × (l ≡ false) × (r ≡ false)
+none_of_four false false false false h = (refl, refl, refl, refl)
+none_of_four false false false true h = cc
+none_of_four false false true r h = cc
+none_of_four false true l r h = cc
+none_of_four true k l r h = cc
 
-pub same_equal : (a b : ConId) → same a b ≡ true → a ≡ b
-same_equal a b h =
-    let of : ℕ → ConId = λ n. record { 0 = n } in
-    ap of (eqb-true a.0 b.0 h)
+-- ---- a node that is not in what is changed
 
--- ---- where a node occurs
+-- the node i is seen in the new row as in the old one
+pub record SeenAs (i : ConId) (s : Spot) (old new : Forest) : Type 0 where
+  pub there : has i new ≡ has i old
+  pub spot : spot_in s i new ≡ spot_in s i old
+  pub part : first_part (only i new) ≡ first_part (only i old)
 
--- the node with this part and these rows is in the forest, at any depth
-abbrev Occurs : Part → Forest → Forest → Forest → Type 0
-Occurs p k l end = ⊥
-Occurs p k l (con part kids floats rest) = ((p ≡ part) × (k ≡ kids) × (l ≡ floats)) ⊎ (Occurs p k l kids ⊎ (Occurs p k l floats ⊎ Occurs p k l rest))
+-- a change that leaves the rest of the row behind what has not the node i
+module _ {X : Type 0} (c i : ConId) (f : X → Part → Forest → Forest → Forest → Forest) (x : X)
+    (here : (s : Spot) (part : Part) (kids floats rest : Forest) → has i (con part kids floats end) ≡ false → SeenAs i s rest (f x part kids floats rest))
+  where
+    abbrev Seen : Level → Spot → Forest → Forest → Forest → Forest → Option Spot → Forest → Type 0
+    Seen l s whole old new found sp st = has i found ≡ false → SeenAs i s old new
 
-or_four : (a b c d : Bool) → (a ≡ true) ⊎ ((b ≡ true) ⊎ ((c ≡ true) ⊎ (d ≡ true))) → (a || b || c || d) ≡ true
-or_four true b c d h = refl
-or_four false true c d h = refl
-or_four false false true d h = refl
-or_four false false false d h = ⊎_elim (λ x. cc) (λ x. ⊎_elim (λ y. cc) (λ y. ⊎_elim (λ z. cc) (λ z. z) y) x) h
+    at_node : (l : Level) (s : Spot) (whole : Forest) (part : Part) (kids floats rest : Forest) → Seen l s whole (con part kids floats rest) (f x part kids floats rest) (con part kids floats end) (Some (spot_of s part)) whole
+    at_node l s whole part kids floats rest h =
+        let n = none_of_four (same part.id i) (has i kids) (has i floats) false h in
+        let e = here s part kids floats rest h in
+        record {
+          there = rw (n.0, n.1, n.2) e.there;
+          spot = rw (n.0, n.1, n.2) e.spot;
+          part = rw (n.0, n.1, n.2) e.part;
+        }
 
-four_or : (a b c d : Bool) → (a || b || c || d) ≡ true → (a ≡ true) ⊎ ((b ≡ true) ⊎ ((c ≡ true) ⊎ (d ≡ true)))
-four_or true b c d h = inl refl
-four_or false true c d h = inr (inl refl)
-four_or false false true d h = inr (inr (inl refl))
-four_or false false false d h = inr (inr (inr h))
+    pub seen : (l : Level) (s : Spot) (whole forest : Forest) → has i (only c forest) ≡ false → SeenAs i s forest (at c f x forest)
+    seen =
+        by_place c f x Seen
+        (λ l s whole h. record { there = refl; spot = refl; part = refl })
+        at_node
+        (λ l s whole part kids floats rest new found sp st ih h. let e = ih h in record { there = rw e.there refl; spot = rw (e.there, e.spot) refl; part = part_kids (same part.id i) (has i kids) part kids floats rest new e.there e.part })
+        (λ l s whole part kids floats rest new found sp st ih h. let e = ih h in record { there = rw e.there refl; spot = rw (e.there, e.spot) refl; part = part_floats (same part.id i) (has i kids) part kids floats rest new e.there e.part })
+        (λ l s whole part kids floats rest new found sp st ih h. let e = ih h in record { there = rw e.there refl; spot = rw e.spot refl; part = part_rest (same part.id i) (has i kids) (has i floats) part kids floats rest new e.part })
+      where
+        part_kids : (a k : Bool) (part : Part) (kids floats rest new : Forest) → has i new ≡ has i kids → first_part (only i new) ≡ first_part (only i kids)
+            → first_part (cond a (con part new floats end) (cond (has i new) (only i new) (cond (has i floats) (only i floats) (only i rest))))
+            ≡ first_part (cond a (con part kids floats end) (cond (has i kids) (only i kids) (cond (has i floats) (only i floats) (only i rest))))
+        part_kids true k part kids floats rest new t e = refl
+        part_kids false k part kids floats rest new t e = rw t (choose (has i kids))
+          where
+            choose : (b : Bool) → first_part (cond b (only i new) (cond (has i floats) (only i floats) (only i rest))) ≡ first_part (cond b (only i kids) (cond (has i floats) (only i floats) (only i rest)))
+            choose true = e
+            choose false = refl
 
--- a node that occurs is found by its id
-pub occurs_has : (p : Part) (k l f : Forest) → Occurs p k l f → has p.id f ≡ true
-occurs_has p k l end h = absurd h
-occurs_has p k l (con part kids floats rest) h =
-    or_four (same part.id p.id) (has p.id kids) (has p.id floats) (has p.id rest)
-    (⊎_elim (λ e. inl (same_self part.id p.id (ap (λ (q : Part). q.id) (sym e.0))))
-    (λ x. inr (⊎_elim (λ y. inl (occurs_has p k l kids y)) (λ y. inr (⊎_elim (λ z. inl (occurs_has p k l floats z)) (λ z. inr (occurs_has p k l rest z)) y)) x)) h)
+        part_floats : (a k : Bool) (part : Part) (kids floats rest new : Forest) → has i new ≡ has i floats → first_part (only i new) ≡ first_part (only i floats)
+            → first_part (cond a (con part kids new end) (cond k (only i kids) (cond (has i new) (only i new) (only i rest))))
+            ≡ first_part (cond a (con part kids floats end) (cond k (only i kids) (cond (has i floats) (only i floats) (only i rest))))
+        part_floats true k part kids floats rest new t e = refl
+        part_floats false true part kids floats rest new t e = refl
+        part_floats false false part kids floats rest new t e = rw t (choose (has i floats))
+          where
+            choose : (b : Bool) → first_part (cond b (only i new) (only i rest)) ≡ first_part (cond b (only i floats) (only i rest))
+            choose true = e
+            choose false = refl
 
-only_step : (a b c : Bool) (p : Part) (k l kids floats rest : Forest) (part : Part) (x y z w : ℕ)
-    → (a ≡ true → 1 ≤ w) → (b ≡ true → 1 ≤ x) → (c ≡ true → 1 ≤ y) → w + x + y + z ≤ 1
-    → ((a ≡ true) × (con part kids floats end ≡ con p k l end)) ⊎ (((b ≡ true) × (only p.id kids ≡ con p k l end)) ⊎ (((c ≡ true) × (only p.id floats ≡ con p k l end)) ⊎ ((1 ≤ z) × (only p.id rest ≡ con p k l end))))
-    → cond a (con part kids floats end) (cond b (only p.id kids) (cond c (only p.id floats) (only p.id rest))) ≡ con p k l end
-only_step true b c p k l kids floats rest part x y z w fa fb fc once h =
-    ⊎_elim (λ e. e.1) (λ e. ⊎_elim (λ d. absurd (omega (arith, fa refl, fb d.0))) (λ d. ⊎_elim (λ g. absurd (omega (arith, fa refl, fc g.0))) (λ g. absurd (omega (arith, fa refl, g.0))) d) e) h
-only_step false true c p k l kids floats rest part x y z w fa fb fc once h =
-    ⊎_elim (λ e. cc e.0) (λ e. ⊎_elim (λ d. d.1) (λ d. ⊎_elim (λ g. absurd (omega (arith, fb refl, fc g.0))) (λ g. absurd (omega (arith, fb refl, g.0))) d) e) h
-only_step false false true p k l kids floats rest part x y z w fa fb fc once h =
-    ⊎_elim (λ e. cc e.0) (λ e. ⊎_elim (λ d. cc d.0) (λ d. ⊎_elim (λ g. g.1) (λ g. absurd (omega (arith, fc refl, g.0))) d) e) h
-only_step false false false p k l kids floats rest part x y z w fa fb fc once h =
-    ⊎_elim (λ e. cc e.0) (λ e. ⊎_elim (λ d. cc d.0) (λ d. ⊎_elim (λ g. cc g.0) (λ g. g.1) d) e) h
+        part_rest : (a k l : Bool) (part : Part) (kids floats rest new : Forest) → first_part (only i new) ≡ first_part (only i rest)
+            → first_part (cond a (con part kids floats end) (cond k (only i kids) (cond l (only i floats) (only i new))))
+            ≡ first_part (cond a (con part kids floats end) (cond k (only i kids) (cond l (only i floats) (only i rest))))
+        part_rest true k l part kids floats rest new e = refl
+        part_rest false true l part kids floats rest new e = refl
+        part_rest false false true part kids floats rest new e = refl
+        part_rest false false false part kids floats rest new e = e
 
-one_here : (a : Bool) → a ≡ true → 1 ≤ cond a 1 0
-one_here true h = omega arith
-one_here false h = cc
+pub seen-without : (c i : ConId) (s : Spot) (f : Forest) → has i (only c f) ≡ false → SeenAs i s f (without c f)
+seen-without c i s f h = seen c i (λ row part kids floats rest. rest) end (λ s part kids floats rest n. record { there = refl; spot = refl; part = refl }) containers s f f h
 
--- where an id is there once, the node that occurs under it is the one found
-pub unique_only : (p : Part) (k l f : Forest) → Occurs p k l f → tally p.id f ≤ 1 → only p.id f ≡ con p k l end
-unique_only p k l end h once = absurd h
-unique_only p k l (con part kids floats rest) h once =
-    only_step (same part.id p.id) (has p.id kids) (has p.id floats) p k l kids floats rest part (tally p.id kids) (tally p.id floats) (tally p.id rest) (cond (same part.id p.id) 1 0)
-    (one_here (same part.id p.id)) (counted p.id kids) (counted p.id floats) once
-    (⊎_elim (λ e. inl (same_self part.id p.id (ap (λ (q : Part). q.id) (sym e.0)), (cc)))
-    (λ x. inr (⊎_elim (λ y. inl (occurs_has p k l kids y, unique_only p k l kids y (omega arith)))
-    (λ y. inr (⊎_elim (λ z. inl (occurs_has p k l floats z, unique_only p k l floats z (omega arith))) (λ z. inr (counted p.id rest (occurs_has p k l rest z), unique_only p k l rest z (omega arith))) y)) x)) h)
+-- in the place of a node, one that has not the node i either
+pub seen-replaced : (c i : ConId) (s : Spot) (new : Part) (below above behind f : Forest) → has i (con new below above end) ≡ false → has i (only c f) ≡ false → SeenAs i s f (replaced c (con new below above behind) f)
+seen-replaced c i s new below above behind f none h =
+    let n = none_of_four (same new.id i) (has i below) (has i above) false none in
+    seen c i in_place (con new below above behind) (λ s part kids floats rest m. record { there = rw (n.0, n.1, n.2) refl; spot = rw (n.0, n.1, n.2) refl; part = rw (n.0, n.1, n.2) refl }) containers s f f h
 
--- a node below one that occurs occurs too
-pub occurs_kids : (p q : Part) (k l m n f : Forest) → Occurs q m n f → Occurs p k l m → Occurs p k l f
-occurs_kids p q k l m n end h below = absurd h
-occurs_kids p q k l m n (con part kids floats rest) h below =
-    let In : Forest → Type 0 = λ z. Occurs p k l z in
-    ⊎_elim (λ e. inr (inl (subst In e.1 below)))
-    (λ x. inr (⊎_elim (λ y. inl (occurs_kids p q k l m n kids y below)) (λ y. inr (⊎_elim (λ z. inl (occurs_kids p q k l m n floats z below)) (λ z. inr (occurs_kids p q k l m n rest z below)) y)) x)) h
+-- ---- how many nodes a row has when a node was taken out
 
-pub occurs_floats : (p q : Part) (k l m n f : Forest) → Occurs q m n f → Occurs p k l n → Occurs p k l f
-occurs_floats p q k l m n end h below = absurd h
-occurs_floats p q k l m n (con part kids floats rest) h below =
-    let In : Forest → Type 0 = λ z. Occurs p k l z in
-    ⊎_elim (λ e. inr (inr (inl (subst In e.2 below))))
-    (λ x. inr (⊎_elim (λ y. inl (occurs_floats p q k l m n kids y below)) (λ y. inr (⊎_elim (λ z. inl (occurs_floats p q k l m n floats z below)) (λ z. inr (occurs_floats p q k l m n rest z below)) y)) x)) h
+module _ (c i : ConId) where
+  -- the new row is no longer than the old one without its node c
+  abbrev Shrinks : Forest → Forest → Type 0
+  Shrinks new old = row_length new ≤ row_length (but c old)
 
--- a node of the forest under this id
-pub record Found (i : ConId) (f : Forest) : Type 0 where
-  pub part : Part
-  pub kids : Forest
-  pub floats : Forest
-  pub occurs : Occurs part kids floats f
-  pub its_id : part.id ≡ i
+  has_row : (f : Forest) → in_row c f ≡ true → has c f ≡ true
+  has_row end h = cc
+  has_row (con part kids floats rest) h = step (same part.id c) (has c kids) (has c floats) (has_row rest) h
+    where
+      step : (a k l : Bool) → (in_row c rest ≡ true → has c rest ≡ true) → (a || in_row c rest) ≡ true → (a || k || l || has c rest) ≡ true
+      step true k l f h = refl
+      step false true l f h = refl
+      step false false true f h = refl
+      step false false false f h = f h
 
--- what is there under an id occurs
-pub find_node : (i : ConId) (f : Forest) → has i f ≡ true → Found i f
-find_node i end h = cc
-find_node i (con part kids floats rest) h =
-    ⊎_elim (λ e. record { part = part; kids = kids; floats = floats; occurs = inl (refl, refl, refl); its_id = same_equal part.id i e })
-    (λ x. ⊎_elim (λ e. let n = find_node i kids e in record { part = n.part; kids = n.kids; floats = n.floats; occurs = inr (inl n.occurs); its_id = n.its_id })
-    (λ y. ⊎_elim (λ e. let n = find_node i floats e in record { part = n.part; kids = n.kids; floats = n.floats; occurs = inr (inr (inl n.occurs)); its_id = n.its_id })
-    (λ e. let n = find_node i rest e in record { part = n.part; kids = n.kids; floats = n.floats; occurs = inr (inr (inr n.occurs)); its_id = n.its_id }) y) x)
-    (four_or (same part.id i) (has i kids) (has i floats) (has i rest) h)
+  -- a row without the node stays as it is
+  absent : (f : Forest) → tally c f ≡ 0 → Shrinks f f
+  absent f none = by_test (in_row c f) refl
+    where
+      by_test : (b : Bool) → in_row c f ≡ b → row_length f ≤ row_length (but c f)
+      by_test true e = absurd (omega (arith, none, counted c f (has_row f e)))
+      by_test false e = rw (but_absent c f e) (omega arith)
 
--- all nodes below a row of containers are containers
-pub containers_below : (p : Part) (k l f : Forest) → IsShaped containers f → Occurs p k l f → IsAt containers p.kind
-containers_below p k l end s h = absurd h
-containers_below p k l (con part kids floats rest) s h =
-    let At : Part → Type 0 = λ q. IsAt containers q.kind in
-    ⊎_elim (λ e. subst At (sym e.0) s.0)
-    (λ x. ⊎_elim (λ y. containers_below p k l kids s.2 y) (λ y. ⊎_elim (λ z. containers_below p k l floats s.3 z) (λ z. containers_below p k l rest s.4 z) y) x) h
+  row_step : (a k l : Bool) (part : Part) (kids floats rest kids' floats' rest' : Forest) → (a ≡ false → k ≡ true → Shrinks rest rest) → (a ≡ false → l ≡ true → Shrinks rest rest) → Shrinks rest' rest
+      → row_length (cond a rest (cond k (con part kids' floats rest) (cond l (con part kids floats' rest) (con part kids floats rest')))) ≤ row_length (cond a rest (con part kids floats (but c rest)))
+  row_step true k l part kids floats rest kids' floats' rest' p q r = omega arith
+  row_step false true l part kids floats rest kids' floats' rest' p q r = omega (arith, p refl refl)
+  row_step false false true part kids floats rest kids' floats' rest' p q r = omega (arith, q refl refl)
+  row_step false false false part kids floats rest kids' floats' rest' p q r = omega (arith, r)
 
--- ---- the node of a row
+  row_without : (f : Forest) → tally c f ≤ 1 → Shrinks (without c f) f
+  row_without end once = omega arith
+  row_without (con part kids floats rest) once =
+      row_step (same part.id c) (has c kids) (has c floats) part kids floats rest (without c kids) (without c floats) (without c rest)
+      (λ a k. absent rest (omega (arith, once, counted c kids k))) (λ a l. absent rest (omega (arith, once, counted c floats l))) (row_without rest (omega (arith, once)))
 
--- a node that stands in the row itself, and what the row is from there on
-record Stands (i : ConId) (l : Level) (f : Forest) : Type 0 where
-  pub part : Part
-  pub kids : Forest
-  pub floats : Forest
-  pub rest : Forest
-  pub from : node_in i f ≡ con part kids floats rest
-  pub occurs : Occurs part kids floats f
-  pub its_id : part.id ≡ i
-  pub shaped : IsShaped l (con part kids floats rest)
+  choose4 : (P : Forest → Forest → Type 0) (a k l : Bool) (x y z w x' y' z' w' : Forest) → P x x' → P y y' → P z z' → P w w' → P (cond a x (cond k y (cond l z w))) (cond a x' (cond k y' (cond l z' w')))
+  choose4 P true k l x y z w x' y' z' w' p q r s = p
+  choose4 P false true l x y z w x' y' z' w' p q r s = q
+  choose4 P false false true x y z w x' y' z' w' p q r s = r
+  choose4 P false false false x y z w x' y' z' w' p q r s = s
 
-stands_step : (i : ConId) (l : Level) (b : Bool) (part : Part) (kids floats rest : Forest) → same part.id i ≡ b → IsShaped l (con part kids floats rest) → (in_row i rest ≡ true → Stands i l rest) → (b || in_row i rest) ≡ true
-    → Stands i l (con part kids floats rest)
-stands_step i l true part kids floats rest e s f h =
-    record { part = part; kids = kids; floats = floats; rest = rest; from = rw e refl; occurs = inl (refl, refl, refl); its_id = same_equal part.id i e; shaped = s }
-stands_step i l false part kids floats rest e s f h =
-    let n = f h in
-    record { part = n.part; kids = n.kids; floats = n.floats; rest = n.rest; from = rw e n.from; occurs = inr (inr (inr n.occurs)); its_id = n.its_id; shaped = n.shaped }
+  -- ---- the children of a node
 
-stands : (i : ConId) (l : Level) (f : Forest) → IsShaped l f → in_row i f ≡ true → Stands i l f
-stands i l end s h = cc
-stands i l (con part kids floats rest) s h = stands_step i l (same part.id i) part kids floats rest refl s (stands i l rest s.4) h
+  abbrev KidsShrink : Forest → Forest → Type 0
+  KidsShrink new old = Shrinks (first_kids new) (first_kids old)
 
--- ---- the focused node
+  tally_choose : (n : ℕ) (a k l : Bool) (x y z w : Forest) → tally c (first_kids x) ≤ n → tally c (first_kids y) ≤ n → tally c (first_kids z) ≤ n → tally c (first_kids w) ≤ n → tally c (first_kids (cond a x (cond k y (cond l z w)))) ≤ n
+  tally_choose n true k l x y z w p q r s = p
+  tally_choose n false true l x y z w p q r s = q
+  tally_choose n false false true x y z w p q r s = r
+  tally_choose n false false false x y z w p q r s = s
 
-first_step : (f : Forest) (d id : ConId) (b : Bool) (first : ConId) → has id f ≡ b → (first ≡ d) ⊎ (has first f ≡ true) → (cond b id first ≡ d) ⊎ (has (cond b id first) f ≡ true)
-first_step f d id true first e h = inr e
-first_step f d id false first e h = h
+  kids_within : (f : Forest) → tally c (first_kids (only i f)) ≤ tally c f
+  kids_within end = omega arith
+  kids_within (con part kids floats rest) =
+      tally_choose (tally c (con part kids floats rest)) (same part.id i) (has i kids) (has i floats) (con part kids floats end) (only i kids) (only i floats) (only i rest)
+      (omega arith) (omega (arith, kids_within kids)) (omega (arith, kids_within floats)) (omega (arith, kids_within rest))
 
--- the first of the ids is the default, or is held by the forest
-first_in_cases : (f : Forest) (d : ConId) (ids : List ConId) → (first_in f d ids ≡ d) ⊎ (has (first_in f d ids) f ≡ true)
-first_in_cases f d [] = inl refl
-first_in_cases f d (id ∷ ids) = first_step f d id (has id f) (first_in f d ids) refl (first_in_cases f d ids)
+  kids_absent : (f : Forest) → tally c f ≡ 0 → KidsShrink (only i f) (only i f)
+  kids_absent f none = absent (first_kids (only i f)) (omega (arith, none, kids_within f))
 
-is_output : (kind : NodeKind) → IsAt outputs kind → (o : OutputPart) × (output_kind kind ≡ Some o) × ((kids : Forest) → ShowsOwn kind kids → in_row o.shown kids ≡ true)
-is_output (Output o) at = (o, refl, λ kids h. h)
-is_output (Space s) at = absurd at
-is_output (Con c) at = absurd at
+  abbrev NotIn : Forest → Type 0
+  NotIn f = has i (only c f) ≡ false
 
-is_space : (kind : NodeKind) → IsAt spaces kind → space_kind kind ≢ None
-is_space (Output o) at = absurd at
-is_space (Space s) at = λ e. cc
-is_space (Con c) at = absurd at
+  there_without : (f : Forest) → NotIn f → has i (without c f) ≡ has i f
+  there_without f h = (seen-without c i top f h).there
 
-is_con : (kind : NodeKind) → IsAt containers kind → con_kind kind ≢ None
-is_con (Output o) at = absurd at
-is_con (Space s) at = absurd at
-is_con (Con c) at = λ e. cc
+  kids_step : (a k l : Bool) (part : Part) (kids floats rest : Forest) → same part.id c ≡ a → has c kids ≡ k → has c floats ≡ l → tally c (con part kids floats rest) ≤ 1
+      → (NotIn kids → KidsShrink (only i (without c kids)) (only i kids)) → (NotIn floats → KidsShrink (only i (without c floats)) (only i floats)) → (NotIn rest → KidsShrink (only i (without c rest)) (only i rest))
+      → has i (cond a (con part kids floats end) (cond k (only c kids) (cond l (only c floats) (only c rest)))) ≡ false
+      → KidsShrink (only i (cond a rest (cond k (con part (without c kids) floats rest) (cond l (con part kids (without c floats) rest) (con part kids floats (without c rest)))))) (only i (con part kids floats rest))
+  kids_step true k l part kids floats rest ea ek el once p q r h =
+      let n = none_of_four (same part.id i) (has i kids) (has i floats) false h in
+      let counts : tally c (con part kids floats rest) ≡ 1 + tally c kids + tally c floats + tally c rest = rw ea refl in
+      rw (n.0, n.1, n.2) (kids_absent rest (omega (arith, once, counts)))
+  kids_step false true l part kids floats rest ea ek el once p q r h =
+      let some = counted c kids ek in
+      rw (there_without kids h)
+      (choose4 KidsShrink (same part.id i) (has i kids) (has i floats) (con part (without c kids) floats end) (only i (without c kids)) (only i floats) (only i rest) (con part kids floats end) (only i kids) (only i floats) (only i rest)
+      (row_without kids (omega (arith, once))) (p h) (kids_absent floats (omega (arith, once, some))) (kids_absent rest (omega (arith, once, some))))
+  kids_step false false true part kids floats rest ea ek el once p q r h =
+      let some = counted c floats el in
+      rw (there_without floats h)
+      (choose4 KidsShrink (same part.id i) (has i kids) (has i floats) (con part kids (without c floats) end) (only i kids) (only i (without c floats)) (only i rest) (con part kids floats end) (only i kids) (only i floats) (only i rest)
+      (absent kids (omega (arith, once, some))) (kids_absent kids (omega (arith, once, some))) (q h) (kids_absent rest (omega (arith, once, some))))
+  kids_step false false false part kids floats rest ea ek el once p q r h =
+      choose4 KidsShrink (same part.id i) (has i kids) (has i floats) (con part kids floats end) (only i kids) (only i floats) (only i (without c rest)) (con part kids floats end) (only i kids) (only i floats) (only i rest)
+      (absent kids (tally-absent c kids ek)) (kids_absent kids (tally-absent c kids ek)) (kids_absent floats (tally-absent c floats el)) (r h)
 
--- the workspace that the current output shows, and where it is
-record ShownSpace (t : TreeValue) : Type 0 where
-  pub part : Part
-  pub kids : Forest
-  pub floats : Forest
-  pub occurs : Occurs part kids floats t.outputs
-  pub its_id : part.id ≡ shown t
-  pub at : IsAt spaces part.kind
-  pub kids_shaped : IsShaped containers kids
-  pub floats_shaped : IsShaped containers floats
-  pub alone : shown_space t ≡ con part kids floats end
+  -- the children of a node that is not taken out
+  pub kids-without : (f : Forest) → tally c f ≤ 1 → NotIn f → KidsShrink (only i (without c f)) (only i f)
+  kids-without end once h = omega arith
+  kids-without (con part kids floats rest) once h =
+      kids_step (same part.id c) (has c kids) (has c floats) part kids floats rest refl refl refl once
+      (kids-without kids (omega (arith, once))) (kids-without floats (omega (arith, once))) (kids-without rest (omega (arith, once))) h
 
-shown_is : (t : TreeValue) → IsSound t.outputs t.current t.next_id → ShownSpace t
-shown_is t s =
-    let cur = stands t.current outputs t.outputs s.shaped s.current_there in
-    let o = is_output cur.part.kind cur.shaped.0 in
-    let shown_id : shown t ≡ o.0.shown = rw (cur.from, o.1) refl in
-    let sp = stands o.0.shown spaces cur.kids cur.shaped.2 (o.2 cur.kids cur.shaped.1) in
-    record {
-      part = sp.part;
-      kids = sp.kids;
-      floats = sp.floats;
-      occurs = occurs_kids sp.part cur.part sp.kids sp.floats cur.kids cur.floats t.outputs cur.occurs sp.occurs;
-      its_id = sp.its_id ∙ sym shown_id;
-      at = sp.shaped.0;
-      kids_shaped = sp.shaped.2;
-      floats_shaped = sp.shaped.3;
-      alone = rw (shown_id, cur.from, sp.from) refl;
-    }
+  -- ---- the row in which a node stands
 
--- what is held by the shown workspace is it, or a container of the tree
-held : (t : TreeValue) (w : ShownSpace t) (i : ConId) → has i (con w.part w.kids w.floats end) ≡ true → (i ≡ shown t) ⊎ ((n : Found i t.outputs) × IsAt containers n.part.kind)
-held t w i h =
-    ⊎_elim (λ e. inl (sym (same_equal w.part.id i e) ∙ w.its_id))
-    (λ x. inr (⊎_elim (λ e.
-    let n = find_node i w.kids e in
-    (record { part = n.part; kids = n.kids; floats = n.floats; occurs = occurs_kids n.part w.part n.kids n.floats w.kids w.floats t.outputs w.occurs n.occurs; its_id = n.its_id }, containers_below n.part n.kids n.floats w.kids w.kids_shaped n.occurs))
-    (λ y. ⊎_elim (λ e.
-    let n = find_node i w.floats e in
-    (record { part = n.part; kids = n.kids; floats = n.floats; occurs = occurs_floats n.part w.part n.kids n.floats w.kids w.floats t.outputs w.occurs n.occurs; its_id = n.its_id }, containers_below n.part n.kids n.floats w.floats w.floats_shaped n.occurs))
-    (λ e. cc) y) x)) (four_or (same w.part.id i) (has i w.kids) (has i w.floats) false h)
+  row_none : (f whole : Forest) → tally c whole ≡ 0 → tally c f ≡ 0 → tally c (row_with i whole f) ≡ 0
+  row_none end whole w n = refl
+  row_none (con part kids floats rest) whole w n =
+      choose4 (λ x y. tally c x ≡ 0) (same part.id i) (has i kids) (has i floats) whole (row_with i kids kids) (row_with i floats floats) (row_with i whole rest) end end end end
+      w (row_none kids kids (omega (arith, n)) (omega (arith, n))) (row_none floats floats (omega (arith, n)) (omega (arith, n))) (row_none rest whole w (omega (arith, n)))
 
--- the focused node is the shown workspace, or a container of the tree
-pub focused_cases : (t : TreeValue) → IsSound t.outputs t.current t.next_id → (focused t ≡ shown t) ⊎ ((n : Found (focused t) t.outputs) × IsAt containers n.part.kind)
-focused_cases t s =
-    let w = shown_is t s in
-    let In : Forest → Type 0 = λ z. has (focused t) z ≡ true in
-    ⊎_elim (λ e. inl e) (λ h. held t w (focused t) (subst In w.alone h)) (first_in_cases (shown_space t) (shown t) t.recency)
+  -- where the node c is not among these, and the whole row shrinks
+  row_same : (f whole whole' : Forest) → tally c f ≡ 0 → Shrinks whole' whole → Shrinks (row_with i whole' f) (row_with i whole f)
+  row_same end whole whole' n h = omega arith
+  row_same (con part kids floats rest) whole whole' n h =
+      choose4 Shrinks (same part.id i) (has i kids) (has i floats) whole' (row_with i kids kids) (row_with i floats floats) (row_with i whole' rest) whole (row_with i kids kids) (row_with i floats floats) (row_with i whole rest)
+      h (absent (row_with i kids kids) (row_none kids kids (omega (arith, n)) (omega (arith, n)))) (absent (row_with i floats floats) (row_none floats floats (omega (arith, n)) (omega (arith, n)))) (row_same rest whole whole' (omega (arith, n)) h)
 
--- what a place says of its node, and that the node is there
-abbrev IsThere : TreeValue → Place → Type 0
-IsThere t at = (has (named at) t.outputs ≡ true) × IsPlace t at
+  with_step : (a k l : Bool) (part : Part) (kids floats rest whole whole' : Forest) → same part.id c ≡ a → has c kids ≡ k → has c floats ≡ l → tally c (con part kids floats rest) ≤ 1 → Shrinks whole' whole
+      → (NotIn kids → Shrinks (row_with i (without c kids) (without c kids)) (row_with i kids kids)) → (NotIn floats → Shrinks (row_with i (without c floats) (without c floats)) (row_with i floats floats))
+      → (NotIn rest → Shrinks (row_with i whole' (without c rest)) (row_with i whole rest))
+      → has i (cond a (con part kids floats end) (cond k (only c kids) (cond l (only c floats) (only c rest)))) ≡ false
+      → Shrinks (row_with i whole' (cond a rest (cond k (con part (without c kids) floats rest) (cond l (con part kids (without c floats) rest) (con part kids floats (without c rest)))))) (row_with i whole (con part kids floats rest))
+  with_step true k l part kids floats rest whole whole' ea ek el once w p q r h =
+      let n = none_of_four (same part.id i) (has i kids) (has i floats) false h in
+      let counts : tally c (con part kids floats rest) ≡ 1 + tally c kids + tally c floats + tally c rest = rw ea refl in
+      rw (n.0, n.1, n.2) (row_same rest whole whole' (omega (arith, once, counts)) w)
+  with_step false true l part kids floats rest whole whole' ea ek el once w p q r h =
+      let some = counted c kids ek in
+      rw (there_without kids h)
+      (choose4 Shrinks (same part.id i) (has i kids) (has i floats) whole' (row_with i (without c kids) (without c kids)) (row_with i floats floats) (row_with i whole' rest) whole (row_with i kids kids) (row_with i floats floats) (row_with i whole rest)
+      w (p h) (row_same floats floats floats (omega (arith, once, some)) (absent floats (omega (arith, once, some)))) (row_same rest whole whole' (omega (arith, once, some)) w))
+  with_step false false true part kids floats rest whole whole' ea ek el once w p q r h =
+      let some = counted c floats el in
+      rw (there_without floats h)
+      (choose4 Shrinks (same part.id i) (has i kids) (has i floats) whole' (row_with i kids kids) (row_with i (without c floats) (without c floats)) (row_with i whole' rest) whole (row_with i kids kids) (row_with i floats floats) (row_with i whole rest)
+      w (row_same kids kids kids (omega (arith, once, some)) (absent kids (omega (arith, once, some)))) (q h) (row_same rest whole whole' (omega (arith, once, some)) w))
+  with_step false false false part kids floats rest whole whole' ea ek el once w p q r h =
+      choose4 Shrinks (same part.id i) (has i kids) (has i floats) whole' (row_with i kids kids) (row_with i floats floats) (row_with i whole' (without c rest)) whole (row_with i kids kids) (row_with i floats floats) (row_with i whole rest)
+      w (row_same kids kids kids (tally-absent c kids ek) (absent kids (tally-absent c kids ek))) (row_same floats floats floats (tally-absent c floats el) (absent floats (tally-absent c floats el))) (r h)
 
-last_there : (t : TreeValue) → IsSound t.outputs t.current t.next_id → IsThere t (Last (shown t))
-last_there t s =
-    let w = shown_is t s in
-    let Has : ConId → Type 0 = λ i. has i t.outputs ≡ true in
-    let Kind : ConId → Type 0 = λ i. kind_of space_kind i t.outputs ≢ None in (
-      subst Has w.its_id (occurs_has w.part w.kids w.floats t.outputs w.occurs),
-      λ h. subst Kind w.its_id (rw (unique_only w.part w.kids w.floats t.outputs w.occurs (s.once w.part.id)) (is_space w.part.kind w.at)),
-    )
+  with_whole : (f whole whole' : Forest) → tally c f ≤ 1 → Shrinks whole' whole → NotIn f → Shrinks (row_with i whole' (without c f)) (row_with i whole f)
+  with_whole end whole whole' once w h = omega arith
+  with_whole (con part kids floats rest) whole whole' once w h =
+      with_step (same part.id c) (has c kids) (has c floats) part kids floats rest whole whole' refl refl refl once w
+      (with_whole kids kids (without c kids) (omega (arith, once)) (row_without kids (omega (arith, once))))
+      (with_whole floats floats (without c floats) (omega (arith, once)) (row_without floats (omega (arith, once))))
+      (with_whole rest whole whole' (omega (arith, once)) w) h
 
-after_there : (t : TreeValue) (i : ConId) → IsSound t.outputs t.current t.next_id → (n : Found i t.outputs) → IsAt containers n.part.kind → IsThere t (After i)
-after_there t i s n at =
-    let Has : ConId → Type 0 = λ i. has i t.outputs ≡ true in
-    let Kind : ConId → Type 0 = λ i. kind_of con_kind i t.outputs ≢ None in (
-      subst Has n.its_id (occurs_has n.part n.kids n.floats t.outputs n.occurs),
-      λ h. subst Kind n.its_id (rw (unique_only n.part n.kids n.floats t.outputs n.occurs (s.once n.part.id)) (is_con n.part.kind at)),
-    )
-
-place_step : (t : TreeValue) (b : Bool) → same (focused t) (shown t) ≡ b → IsSound t.outputs t.current t.next_id → IsThere t (cond b (Last (focused t)) (After (focused t)))
-place_step t true e s =
-    let There : ConId → Type 0 = λ i. IsThere t (Last i) in
-    subst There (sym (same_equal (focused t) (shown t) e)) (last_there t s)
-place_step t false e s =
-    ⊎_elim (λ same_id. let h = same_self (focused t) (shown t) same_id in let bad : true ≡ false = cc in cc) (λ n. after_there t (focused t) s n.0 n.1) (focused_cases t s)
-
--- a new window's place is in the tree
-pub place_there : (t : TreeValue) → IsSound t.outputs t.current t.next_id → IsThere t (newcomer_place t)
-place_there t s = place_step t (same (focused t) (shown t)) refl s
+  -- the row in which a node stands that is not taken out
+  pub row-without : (f : Forest) → tally c f ≤ 1 → NotIn f → Shrinks (row_with i (without c f) (without c f)) (row_with i f f)
+  row-without f once h = with_whole f f (without c f) once (row_without f once) h

@@ -1,6 +1,6 @@
 -- Lemmas on the order of recency.
 use Rattle.std.proofs.Common.{◌≡◌, ℕ, zero, suc, ◌+◌, ◌<◌, Bool, true, false, List, [], ◌∷◌, ◌++◌, Some, None, length, take, drop, length-take, ◌-◌, refl, ap, arith, add-one}
-use Rattle.std.proofs.lemmas.Bool.{eqb-true}
+use Rattle.std.proofs.lemmas.Bool.{eq-eqb, eqb-true}
 use Rattle.wm_base.specs.declared.ids.ConId.{ConId}
 use Rattle.wm_tree.specs.Look.{same}
 use Rattle.wm_tree.specs.Recency.{place_from, lists, removed, raised}
@@ -10,6 +10,9 @@ pub same_is : (a b : ConId) → same a b ≡ true → a ≡ b
 same_is a b h =
     let of : ℕ → ConId = λ n. record { 0 = n } in
     ap of (eqb-true a.0 b.0 h)
+
+pub same_self : (a b : ConId) → a ≡ b → same a b ≡ true
+same_self a b e = eq-eqb a.0 b.0 (ap (λ (x : ConId). x.0) e)
 
 -- c stands at place k of the list, and nowhere before it
 pub record IsPlacedAt (c : ConId) (ids : List ConId) (k : ℕ) : Type 0 where

@@ -1,9 +1,9 @@
 -- Looking in a forest: depth first, the first node found.
-use Rattle.std.specs.Prelude.{ℕ, ◌+◌, ◌/◌, Bool, false, ◌==◌, ◌||◌, if◌then◌else◌, Option, None, Some}
+use Rattle.std.specs.Prelude.{ℕ, ◌-◌, Bool, false, ◌==◌, ◌||◌, if◌then◌else◌, List, [], Option, None, Some}
 use Rattle.wm_base.specs.declared.ids.ConId.{ConId}
 use Rattle.wm_tree.specs.declared.part.Part.{Part}
 use Rattle.wm_tree.specs.declared.part.NodeKind.{NodeKind}
-use Rattle.wm_tree.specs.declared.part.NodeKind.TheVariants.{Output, Space, Con}
+use Rattle.wm_tree.specs.declared.part.NodeKind.TheVariants.{Root, Output, Space, Con}
 use Rattle.wm_tree.specs.declared.part.OutputPart.{OutputPart}
 use Rattle.wm_tree.specs.declared.part.SpacePart.{SpacePart}
 use Rattle.wm_tree.specs.declared.part.ConPart.{ConPart}
@@ -59,19 +59,27 @@ abbrev pub node_in : ConId → Forest → Forest
 node_in c end = end
 node_in c (con part kids floats rest) = if same part.id c then con part kids floats rest else node_in c rest
 
+-- the ids of a row's nodes
+abbrev pub nth_id : ℕ → Forest → Option ConId
+nth_id n end = None
+nth_id n (con part kids floats rest) = if n == 0 then Some part.id else nth_id (n - 1) rest
+
 -- ---- what a node is
 
 abbrev pub output_kind : NodeKind → Option OutputPart
+output_kind (Root c) = None
 output_kind (Output o) = Some o
 output_kind (Space s) = None
 output_kind (Con c) = None
 
 abbrev pub space_kind : NodeKind → Option SpacePart
+space_kind (Root c) = None
 space_kind (Output o) = None
 space_kind (Space s) = Some s
 space_kind (Con c) = None
 
 abbrev pub con_kind : NodeKind → Option ConPart
+con_kind (Root c) = None
 con_kind (Output o) = None
 con_kind (Space s) = None
 con_kind (Con c) = Some c
@@ -84,41 +92,7 @@ kind_by of (Some part) = of part.kind
 abbrev pub kind_of : {A : Type 0} → (NodeKind → Option A) → ConId → Forest → Option A
 kind_of of c f = kind_by of (first_part (only c f))
 
--- the node that holds c in its row of children or floating windows; `above` holds the row itself
-abbrev pub parent_in : ConId → ConId → Forest → Option ConId
-parent_in above c end = None
-parent_in above c (con part kids floats rest) =
-    if same part.id c then Some above
-    else if has c kids then parent_in part.id c kids
-    else if has c floats then parent_in part.id c floats
-    else parent_in above c rest
-
--- ---- rows
-
--- the row in which the node c stands; `whole` is the row that the forest ends. Nothing where it is not there
-abbrev pub row_with : ConId → Forest → Forest → Forest
-row_with c whole end = end
-row_with c whole (con part kids floats rest) =
-    if same part.id c then whole
-    else if has c kids then row_with c kids kids
-    else if has c floats then row_with c floats floats
-    else row_with c whole rest
-
-abbrev pub row_length : Forest → ℕ
-row_length end = 0
-row_length (con part kids floats rest) = 1 + row_length rest
-
--- the share of a node; only containers have one
-abbrev pub share_of : NodeKind → ℕ
-share_of (Output o) = 0
-share_of (Space s) = 0
-share_of (Con c) = c.share
-
-abbrev pub share_sum : Forest → ℕ
-share_sum end = 0
-share_sum (con part kids floats rest) = share_of part.kind + share_sum rest
-
--- the share of a newcomer in a row: the mean of its siblings' shares, rounded down, or 65,536 in an empty row
-abbrev pub newcomer_share : Forest → ℕ
-newcomer_share end = 65536
-newcomer_share (con part kids floats rest) = share_sum (con part kids floats rest) / row_length (con part kids floats rest)
+-- the first node's marks
+abbrev pub first_marks : Forest → List (List ℕ)
+first_marks end = []
+first_marks (con part kids floats rest) = part.marks

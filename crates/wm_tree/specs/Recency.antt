@@ -23,11 +23,19 @@ removed c (id ∷ ids) = if same id c then ids else id ∷ removed c ids
 abbrev pub raised : ConId → List ConId → List ConId
 raised c ids = if lists c ids then c ∷ removed c ids else ids
 
--- the first of the ids that the forest holds, or d
-abbrev pub first_in : Forest → ConId → List ConId → ConId
-first_in forest d [] = d
-first_in forest d (id ∷ ids) = if has id forest then id else first_in forest d ids
+-- the first of the ids that the forest holds
+abbrev pub first_held : Forest → List ConId → Option ConId
+first_held forest [] = None
+first_held forest (id ∷ ids) = if has id forest then Some id else first_held forest ids
 
 -- the ids that the forest does not hold
 abbrev pub outside : Forest → List ConId → List ConId
 outside forest ids = filter (λ id. not (has id forest)) ids
+
+-- the ids that the forest holds
+abbrev pub inside : Forest → List ConId → List ConId
+inside forest ids = filter (λ id. has id forest) ids
+
+-- the ids without any that is c
+abbrev pub without_id : ConId → List ConId → List ConId
+without_id c ids = filter (λ id. not (same id c)) ids

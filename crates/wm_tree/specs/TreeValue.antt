@@ -1,72 +1,116 @@
--- The value of a tree: its nested nodes, the order of recency, the current output and the next id.
-use Rattle.std.specs.Prelude.{◌≡◌, ◌≢◌, ℕ, ◌+◌, nat_le, nat_lt, true, false, if◌then◌else◌, List, [], ◌∷◌, ◌++◌, Option, None, Some, refl}
-use Rattle.std.specs.Coded.{Coded, code_by, coded×, coded_ℕ, coded_list}
+-- The value of a tree, its opening, and what is seen in it.
+use Rattle.std.specs.Prelude.{Bool, true, false, ◌&&◌, ℕ, ◌+◌, ◌*◌, List, [], ◌∷◌, length, Option, None, Some, option_and_then, refl, if◌then◌else◌}
+use Rattle.std.specs.Coded.{Coded, code_by, coded×, coded_ℕ, coded_list, coded_option}
 use Rattle.wm_base.specs.contracts.ids.ConId as con_id
-use Rattle.wm_base.specs.declared.geometry.Rect.{Rect}
-use Rattle.wm_base.specs.declared.errors.Limit.{Limit}
-use Rattle.wm_base.specs.declared.errors.Limit.TheVariants.{Children, Ids}
+use Rattle.wm_base.specs.contracts.plan.Border as border_of
 use Rattle.wm_base.specs.declared.ids.ConId.{ConId}
-use Rattle.wm_base.specs.declared.plan.Layout.{Layout}
+use Rattle.wm_base.specs.declared.plan.Border.{Border}
 use Rattle.wm_base.specs.declared.plan.Layout.TheVariants.{SplitH}
+use Rattle.wm_base.specs.declared.plan.OutputPlan.{OutputPlan}
 use Rattle.wm_tree.specs.declared.part.Part.{Part}
-use Rattle.wm_tree.specs.declared.part.NodeKind.TheVariants.{Output, Space, Con}
-use Rattle.wm_tree.specs.declared.part.OutputPart.{OutputPart}
-use Rattle.wm_tree.specs.declared.part.ConKind.TheVariants.{Window}
+use Rattle.wm_tree.specs.declared.part.NodeKind.{NodeKind}
+use Rattle.wm_tree.specs.declared.part.NodeKind.TheVariants.{Root, Output, Space, Con}
 use Rattle.wm_tree.specs.declared.place.Place.{Place}
 use Rattle.wm_tree.specs.declared.place.Place.TheVariants.{After, Last}
-use Rattle.wm_tree.specs.declared.place.NewCon.{NewCon}
-use Rattle.wm_tree.specs.declared.place.NewCon.TheVariants as new
-use Rattle.wm_tree.specs.declared.place.TreeRefusal.{TreeRefusal}
-use Rattle.wm_tree.specs.declared.place.TreeRefusal.TheVariants as refusals
+use Rattle.wm_tree.specs.declared.spot.Spot.{Spot}
 use Rattle.wm_tree.specs.Forest.{Forest, end, con}
 use Rattle.wm_tree.specs.ForestCode.{forest_code}
-use Rattle.wm_tree.specs.Look.{same, has, only, node_in, first_alone, first_kids, first_part, kind_by, kind_of, output_kind, space_kind, con_kind, parent_in, row_length, row_with, newcomer_share}
-use Rattle.wm_tree.specs.Change.{without, put_after, put_last, with_layout}
-use Rattle.wm_tree.specs.Recency.{raised, first_in, outside}
+use Rattle.wm_tree.specs.Change.{shown_of}
+use Rattle.wm_tree.specs.Look.{has, only, node_in, first_alone, first_kids, first_part, kind_by, same}
+use Rattle.wm_tree.specs.Recency.{first_held}
+use Rattle.wm_tree.specs.Spot.{spot_in, top}
 
 pub record TreeValue : Type 0 where
-  -- the row of outputs, each over its workspaces
-  pub outputs : Forest
+  -- the root: its children are the outputs, and its second row is the scratchpad
+  pub nodes : Forest
   -- the ids of all workspaces and containers, the most recent first
   pub recency : List ConId
-  -- the current output
-  pub current : ConId
+  -- the urgent windows in the order they became so
+  pub urgent : List ConId
+  -- the name of the previous workspace
+  pub previous : Option (List ℕ)
   -- the id that the next node gets
   pub next_id : ℕ
+  -- what new containers and workspaces get: a border, and inner and outer gaps
+  pub border : Border
+  pub inner : ℕ
+  pub outer : ℕ
 
 abbrev pub id : ℕ → ConId
 id n = record { 0 = n }
 
--- the node that holds the outputs
+-- the node that holds the outputs and the scratchpad
 abbrev pub root : ConId
 root = id 1
 
--- the opening tree: one output with this rectangle, which shows one empty workspace
-abbrev pub opening : Rect → TreeValue
-opening rect = record {
-  outputs =
-      con (record { id = id 2; kind = Output (record { rect = rect; shown = id 3 }) })
-      (con (record { id = id 3; kind = Space (record { layout = SplitH }) }) end end end)
-      end end;
-  recency = id 3 ∷ [];
-  current = id 2;
-  next_id = 4;
+-- ---- the opening tree
+
+-- the name of workspace k of at most eight: its digit
+abbrev pub digit : ℕ → List ℕ
+digit k = (48 + k) ∷ []
+
+abbrev pub space_part : ConId → List ℕ → ℕ → ℕ → Part
+space_part c name inner outer = record { id = c; kind = Space (record { name = name; layout = SplitH; last_split = SplitH; inner = inner; outer = outer }); marks = [] }
+
+abbrev pub output_part : ConId → OutputPlan → ConId → Part
+output_part c plan shown = record { id = c; kind = Output (record { name = plan.name; rect = plan.rect; reserved = plan.reserved; shown = shown }); marks = [] }
+
+-- outputs of these plans: output k has the id k + 1 and shows its workspace, which has the id `last` + k and is named k
+abbrev pub opening_outputs : ℕ → ℕ → ℕ → ℕ → List OutputPlan → Forest
+opening_outputs k last inner outer [] = end
+opening_outputs k last inner outer (plan ∷ plans) =
+    con (output_part (id (k + 1)) plan (id (last + k)))
+    (con (space_part (id (last + k)) (digit k) inner outer) end end end)
+    end (opening_outputs (k + 1) last inner outer plans)
+
+-- as many ids as there are plans, from n on
+abbrev pub ids_from : ℕ → List OutputPlan → List ConId
+ids_from n [] = []
+ids_from n (plan ∷ plans) = id n ∷ ids_from (n + 1) plans
+
+abbrev pub root_part : Part
+root_part = record { id = root; kind = Root (id 2); marks = [] }
+
+-- the opening tree of these outputs: root 1, then an id for each output, then one for each workspace
+abbrev pub opening : List OutputPlan → Border → ℕ → ℕ → TreeValue
+opening plans border inner outer = record {
+  nodes = con root_part (opening_outputs 1 (1 + length plans) inner outer plans) end end;
+  recency = ids_from (2 + length plans) plans;
+  urgent = [];
+  previous = None;
+  next_id = 2 + 2 * length plans;
+  border = border;
+  inner = inner;
+  outer = outer;
 }
 
 -- ---- looking
 
--- the workspace that an output shows, or `other` where it is no output
-abbrev pub shown_of : ConId → Option OutputPart → ConId
-shown_of other None = other
-shown_of other (Some part) = part.shown
+-- the current output, or the root where the forest has none
+abbrev pub current_of : NodeKind → ConId
+current_of (Root c) = c
+current_of (Output o) = root
+current_of (Space s) = root
+current_of (Con c) = root
+
+abbrev pub current_in : Option Part → ConId
+current_in None = root
+current_in (Some part) = current_of part.kind
+
+abbrev pub current : TreeValue → ConId
+current t = current_in (first_part t.nodes)
 
 -- the row of outputs from the current one on
 abbrev pub current_row : TreeValue → Forest
-current_row t = node_in t.current t.outputs
+current_row t = node_in (current t) (first_kids t.nodes)
+
+abbrev pub or_id : Option ConId → ConId → ConId
+or_id None d = d
+or_id (Some c) d = c
 
 -- the workspace that the current output shows
 abbrev pub shown : TreeValue → ConId
-shown t = shown_of t.current (kind_by output_kind (first_part (current_row t)))
+shown t = or_id (kind_by shown_of (first_part (current_row t))) (current t)
 
 -- that workspace with what is below it, alone
 abbrev pub shown_space : TreeValue → Forest
@@ -74,73 +118,113 @@ shown_space t = first_alone (node_in (shown t) (first_kids (current_row t)))
 
 -- the most recent node within the workspace that the current output shows, itself included
 abbrev pub focused : TreeValue → ConId
-focused t = first_in (shown_space t) (shown t) t.recency
+focused t = or_id (first_held (shown_space t) t.recency) (shown t)
 
--- where a new window goes: last into a focused workspace, else after the focused container
-abbrev pub newcomer_place : TreeValue → Place
-newcomer_place t = if same (focused t) (shown t) then Last (focused t) else After (focused t)
+-- where the node c stands
+abbrev pub spot : TreeValue → ConId → Option Spot
+spot t c = spot_in top c t.nodes
 
+-- the node that holds c among its children or floating windows; a window in the scratchpad has none
 abbrev pub parent : TreeValue → ConId → Option ConId
-parent t c = parent_in root c t.outputs
+parent t c = option_and_then (λ (s : Spot). s.holder) (spot t c)
 
--- ---- changing
+abbrev pub workspace_of : TreeValue → ConId → Option ConId
+workspace_of t c = option_and_then (λ (s : Spot). s.space) (spot t c)
 
--- the node that a place names
-abbrev pub named : Place → ConId
-named (After c) = c
-named (Last c) = c
+-- ---- the children, floating windows and marks of a node
 
--- the children among which a newcomer stands
-abbrev pub siblings : TreeValue → Place → Forest
-siblings t (After c) = row_with c t.outputs t.outputs
-siblings t (Last c) = first_kids (only c t.outputs)
+-- a workspace's or container's row of children; those of other nodes are not tiled
+abbrev pub tiled_by : NodeKind → Forest → Forest
+tiled_by (Root c) kids = end
+tiled_by (Output o) kids = end
+tiled_by (Space s) kids = kids
+tiled_by (Con c) kids = kids
 
--- the place is beside a container or in a workspace, where its node is there
-abbrev pub IsPlace : TreeValue → Place → Type 0
-IsPlace t (After c) = has c t.outputs ≡ true → kind_of con_kind c t.outputs ≢ None
-IsPlace t (Last c) = has c t.outputs ≡ true → kind_of space_kind c t.outputs ≢ None
+abbrev pub tiled_kids : Forest → Forest
+tiled_kids end = end
+tiled_kids (con part kids floats rest) = tiled_by part.kind kids
 
--- the first limit that a newcomer would pass: 256 children, ids up to 4,000,000,000
-abbrev pub passed_limit : TreeValue → Place → Option Limit
-passed_limit t at =
-    if nat_le 256 (row_length (siblings t at)) then Some Children
-    else if nat_lt 4000000000 t.next_id then Some Ids
-    else None
+abbrev pub floats_by : NodeKind → Forest → Forest
+floats_by (Root c) floats = end
+floats_by (Output o) floats = end
+floats_by (Space s) floats = floats
+floats_by (Con c) floats = end
 
-abbrev pub new_part : ConId → ℕ → NewCon → Part
-new_part c share (new.Window owner) = record { id = c; kind = Con (record { share = share; kind = Window owner }) }
+-- a workspace's floating windows; other nodes have none
+abbrev pub floating_row : Forest → Forest
+floating_row end = end
+floating_row (con part kids floats rest) = floats_by part.kind floats
 
-abbrev pub put : Place → Forest → Forest → Forest
-put (After c) row forest = put_after c row forest
-put (Last c) row forest = put_last c row forest
+-- the node of a row that holds c, or is it
+abbrev pub row_holder : ConId → Forest → Option ConId
+row_holder c end = None
+row_holder c (con part kids floats rest) = if has c (con part kids floats end) then Some part.id else row_holder c rest
 
--- a newcomer at the place, under the next id, the least recent of all
-abbrev pub attached : Place → NewCon → TreeValue → TreeValue
-attached at newcomer t = record t {
-  outputs = put at (con (new_part (id t.next_id) (newcomer_share (siblings t at)) newcomer) end end end) t.outputs;
-  recency = t.recency ++ id t.next_id ∷ [];
-  next_id = t.next_id + 1;
-}
+-- the child of a row whose subtree holds the first of the ids that any has
+abbrev pub focused_in : List ConId → Forest → Option ConId
+focused_in ids row = option_and_then (λ c. row_holder c row) (first_held row ids)
 
--- the tree without the node c and what is below it
-abbrev pub detached : ConId → TreeValue → TreeValue
-detached c t = record t { outputs = without c t.outputs; recency = outside (only c t.outputs) t.recency }
+-- the tiled child of c that is the most recent, by itself or what is below it
+abbrev pub focused_child : TreeValue → ConId → Option ConId
+focused_child t c = focused_in t.recency (tiled_kids (only c t.nodes))
 
-abbrev pub with_space_layout : ConId → Layout → TreeValue → TreeValue
-with_space_layout c layout t = record t { outputs = with_layout c layout t.outputs }
+abbrev pub follow : ConId → (ConId → ConId) → Option ConId → ConId
+follow d f None = d
+follow d f (Some c) = f c
 
-abbrev pub with_raised : ConId → TreeValue → TreeValue
-with_raised c t = record t { recency = raised c t.recency }
+-- from the node of a row that holds c on, by the focused child until there is none
+abbrev pub leaf_at : List ConId → Forest → ConId → ConId
+leaf_at ids end c = c
+leaf_at ids (con part kids floats rest) c =
+    if has c (con part kids floats end)
+    then follow part.id (leaf_at ids kids) (first_held kids ids)
+    else leaf_at ids rest c
 
--- why putting a newcomer at a place was refused
-abbrev pub IsAttachCause : TreeValue → Place → TreeRefusal → Type 0
-IsAttachCause t at (refusals.Missing c) = (c ≡ named at) × (has c t.outputs ≡ false)
-IsAttachCause t at (refusals.Full limit) = (has (named at) t.outputs ≡ true) × (passed_limit t at ≡ Some limit)
-IsAttachCause t at refusals.NoMemory = (has (named at) t.outputs ≡ true) × (passed_limit t at ≡ None)
+abbrev pub leaf_of : List ConId → Forest → Option ConId
+leaf_of ids end = None
+leaf_of ids (con part kids floats rest) = Some (follow part.id (leaf_at ids kids) (first_held (tiled_by part.kind kids) ids))
+
+-- the node that is reached from c by the focused child until there is none
+abbrev pub leaf : TreeValue → ConId → Option ConId
+leaf t c = leaf_of t.recency (only c t.nodes)
+
+-- ---- where a new window goes
+
+abbrev pub is_con_kind : NodeKind → Bool
+is_con_kind (Root c) = false
+is_con_kind (Output o) = false
+is_con_kind (Space s) = false
+is_con_kind (Con c) = true
+
+abbrev pub is_con : Option Part → Bool
+is_con None = false
+is_con (Some part) = is_con_kind part.kind
+
+abbrev pub is_tiled_spot : Option Spot → Bool
+is_tiled_spot None = false
+is_tiled_spot (Some s) = s.tiled
+
+-- c is a tiled container
+abbrev pub is_tiled_con : TreeValue → ConId → Bool
+is_tiled_con t c = is_con (first_part (only c t.nodes)) && is_tiled_spot (spot t c)
+
+-- last into a focused workspace; after the focused container where that is tiled; after the leaf of the workspace
+-- where a floating window is focused, or last in it where nothing is tiled
+abbrev pub newcomer_place : TreeValue → Place
+newcomer_place t =
+    if same (focused t) (shown t) then Last (shown t)
+    else if is_tiled_con t (focused t) then After (focused t)
+    else if is_tiled_con t (or_id (leaf t (shown t)) (shown t)) then After (or_id (leaf t (shown t)) (shown t))
+    else Last (shown t)
 
 -- ---- how the logic stores it
 
+abbrev ids : Coded (List ConId)
+ids = coded_list con_id.the_row.coded
+
 abbrev pub tree_code : Coded TreeValue
 tree_code =
-    code_by ((Forest × List ConId) × (ConId × ℕ)) (coded× (coded× forest_code (coded_list con_id.the_row.coded)) (coded× con_id.the_row.coded coded_ℕ))
-    (λ t. ((t.outputs, t.recency), (t.current, t.next_id))) (λ p. record { outputs = p.0.0; recency = p.0.1; current = p.1.0; next_id = p.1.1 }) (λ _. refl)
+    code_by (((Forest × List ConId) × (List ConId × Option (List ℕ))) × ((ℕ × Border) × (ℕ × ℕ)))
+    (coded× (coded× (coded× forest_code ids) (coded× ids (coded_option (coded_list coded_ℕ)))) (coded× (coded× coded_ℕ border_of.the_row.coded) (coded× coded_ℕ coded_ℕ)))
+    (λ t. (((t.nodes, t.recency), (t.urgent, t.previous)), ((t.next_id, t.border), (t.inner, t.outer))))
+    (λ p. record { nodes = p.0.0.0; recency = p.0.0.1; urgent = p.0.1.0; previous = p.0.1.1; next_id = p.1.0.0; border = p.1.0.1; inner = p.1.1.0; outer = p.1.1.1 }) (λ _. refl)

@@ -1,43 +1,55 @@
 //! Putting a container into the tree.
-ghost use Rattle.std.specs.Prelude.{◌≡◌, ◌≢◌, false, true, Err, None, IfOk, IfErr, OnOk, OnErr, IfSome, MatchOption};
-ghost use Rattle.wm_tree.specs.Look.{has, newcomer_share, same};
-ghost use Rattle.wm_tree.specs.TreeValue.{attached, id, named, passed_limit, siblings, IsAttachCause, IsPlace};
+ghost use Rattle.std.specs.Prelude.{◌≡◌, ◌≢◌, ◌≤◌, false, true, Err, None, IfOk, IfErr, OnOk, OnErr, IfSome, MatchOption};
+ghost use Rattle.wm_tree.specs.Counts.{newcomer_share, row_length};
+ghost use Rattle.wm_tree.specs.Look.{first_part, has, only, same};
+ghost use Rattle.wm_tree.specs.Place.{IsPlace, named, passed_limit, put, room_at, room_by, room_under, row_room, share_at, siblings};
+ghost use Rattle.wm_tree.specs.Sound.{IsSound};
+ghost use Rattle.wm_tree.specs.Spot.{spot_in};
+ghost use Rattle.wm_tree.specs.TreeValue.{id};
+ghost use Rattle.wm_base.specs.declared.ids.ConId.{ConId};
+ghost use Rattle.wm_tree.specs.Words.{attached, IsAttachCause};
 ghost use Rattle.wm_tree.specs.declared.place.TreeRefusal.TheVariants.{Full, Missing};
 ghost use Rattle.wm_tree.specs.declared.place.TreeRefusal.TheVariants as refusals;
 
-use crate::place::{NewCon, Place, TreeRefusal};
+use crate::place::{NewCon, Place, Put, TreeRefusal};
 use crate::row::Row;
+use crate::spot::{MAX_DEPTH, Spot, TOP, room_below};
 use crate::tree::Tree;
-use std::alloc::AllocError;
 use wm_base::{ConId, Limit};
 
+/// How many containers a tree has at most.
+pub(crate) const MAX_CONTAINERS: usize = 4_096;
+
 /// How many tiled children a container has at most.
-const MAX_CHILDREN: usize = 256;
+pub(crate) const MAX_CHILDREN: usize = 256;
 
 /// The greatest id that is given.
-const MAX_ID: u32 = 4_000_000_000;
+pub(crate) const MAX_ID: u32 = 4_000_000_000;
 
 impl Tree {
     /// Puts a container at a place, under the next id and the least recent of all, and gives its id.
+    #[tactic(auto, using(crate::proofs::ForestLemmas::at_same))]
     pub fn attach(&mut self, at: Place, new: NewCon) -> Result<ConId, TreeRefusal>
-        requires { IsPlace self.old at }
         ensures ok { OnOk result (self.new ≡ attached at new self.old) }
         ensures id { IfOk result (λ new_id. new_id ≡ id self.old.next_id) }
-        ensures room { OnOk result (passed_limit self.old at ≡ None) }
-        ensures one_new { OnOk result ((v : ConId) → has v self.new.outputs ≡ true → same (id self.old.next_id) v ≡ false → has v self.old.outputs ≡ true) }
+        ensures room { OnOk result (passed_limit at self.old.nodes self.old.next_id ≡ None) }
         ensures err { OnErr result (self.new ≡ self.old) }
+        ensures sound { IsPlace at self.old.nodes → IsSound self.old → IsSound self.new }
+        ensures one_new { OnOk result ((v : ConId) → has v self.new.nodes ≡ true →
+            same (id self.old.next_id) v ≡ false → has v self.old.nodes ≡ true) }
 
         // A missing node is reported before a limit, and a limit before want of memory.
-        ensures missing { has (named at) self.old.outputs ≡ false → result ≡ Err (Missing (named at)) }
-        ensures full { has (named at) self.old.outputs ≡ true →
-            IfSome (passed_limit self.old at) (λ limit. result ≡ Err (Full limit)) }
+        ensures missing { has (named at) self.old.nodes ≡ false → result ≡ Err (Missing (named at)) }
+        ensures full { has (named at) self.old.nodes ≡ true →
+            IfSome (passed_limit at self.old.nodes self.old.next_id) (λ limit. result ≡ Err (Full limit)) }
         ensures cause { IfErr result (IsAttachCause self.old at) }
     {
         let share = self.share_at(at)?;
         self.recency.reserve(1)?;
         let id = ConId(self.next_id);
-        let row = Row::of(self.alloc, new.part(id, share))?;
-        self.outputs.put(at, row);
+        let part = new.part(self.alloc, id, share, self.border, at.rect())?;
+        let row = Row::of(self.alloc, part)?;
+        self.nodes.put(at, row);
         self.recency.push_reserved(id);
         self.next_id += 1;
         Ok(id)
@@ -45,43 +57,108 @@ impl Tree {
 
     /// The share of a newcomer at this place, where it is there and no limit is passed.
     fn share_at(&self, at: Place) -> Result<u32, TreeRefusal>
-        ensures share { IfOk result (λ share. share ≡ newcomer_share (siblings self.now at)) }
-        ensures ok { OnOk result ((has (named at) self.now.outputs ≡ true) × (passed_limit self.now at ≡ None)) }
+        ensures share { IfOk result (λ share. share ≡ share_at at self.now.nodes) }
+        ensures ok { OnOk result ((has (named at) self.now.nodes ≡ true) × (passed_limit at self.now.nodes self.now.next_id ≡ None)) }
+        ensures ids { OnOk result (self.now.next_id ≤ 4000000000) }
         ensures cause { IfErr result (λ e. (e ≢ TreeRefusal.NoMemory) × IsAttachCause self.now at e) }
     {
-        let Some(siblings) = self.siblings(at) else {
+        let Some(siblings) = self.nodes.siblings(at) else {
             return Err(TreeRefusal::Missing(at.named()));
         };
-        if siblings.len_up_to(MAX_CHILDREN) == MAX_CHILDREN {
-            return Err(TreeRefusal::Full {
-                limit: Limit::Children,
-            });
+        if self.nodes.cons_up_to(MAX_CONTAINERS) == MAX_CONTAINERS {
+            return Err(full(Limit::Containers));
+        }
+        if at.tiles() && siblings.len_up_to(MAX_CHILDREN) == MAX_CHILDREN {
+            return Err(full(Limit::Children));
+        }
+        if self.nodes.room_at(at) == 0 {
+            return Err(full(Limit::Depth));
         }
         if self.next_id > MAX_ID {
-            return Err(TreeRefusal::Full { limit: Limit::Ids });
+            return Err(full(Limit::Ids));
         }
-        Ok(siblings.newcomer_share())
+        Ok(if at.tiles() {
+            siblings.newcomer_share()
+        } else {
+            0
+        })
+    }
+}
+
+/// The refusal of a change that would pass this limit.
+pub(crate) fn full(limit: Limit) -> TreeRefusal
+    ensures { result ≡ Full limit }
+{
+    TreeRefusal::Full { limit }
+}
+
+impl Row {
+    /// Puts the nodes of a row at a place, where its node is here.
+    pub(crate) fn put(&mut self, at: Place, row: Row)
+        ensures { self.new ≡ put at row self.old }
+    {
+        self.change(at.named(), Put { at, row });
     }
 
-    /// The row in which a newcomer at this place stands. `None` exactly where the node is missing.
-    fn siblings(&self, at: Place) -> Option<&Row>
-        ensures { MatchOption result (has (named at) self.now.outputs ≡ false)
-            (λ row. (has (named at) self.now.outputs ≡ true) × (row.now ≡ siblings self.now at)) }
+    /// The row in which a newcomer at this place stands. `None` exactly where its node is not here.
+    pub(crate) fn siblings(&self, at: Place) -> Option<&Row>
+        ensures { MatchOption result (has (named at) self.now ≡ false)
+            (λ row. (has (named at) self.now ≡ true) × (row.now ≡ siblings at self.now)) }
     {
         match at {
-            Place::After(con) => self.outputs.row_with(&self.outputs, con),
-            Place::Last(con) => match self.outputs.find(con) {
+            Place::After(con) | Place::Before(con) => self.row_with(self, con),
+            Place::First(con) | Place::Last(con) => match self.find(con) {
                 Some(cell) => Some(&cell.kids),
+                None => None,
+            },
+            Place::Float(..) | Place::Scratchpad(_) => match self.find(at.named()) {
+                Some(cell) => Some(&cell.floats),
                 None => None,
             },
         }
     }
-}
 
-impl From<AllocError> for TreeRefusal {
-    ghost from_gives = { λ _ e. e ≡ refusals.NoMemory };
+    /// How many levels the row of a newcomer at this place may have.
+    pub(crate) fn room_at(&self, at: Place) -> u32
+        ensures { result ≡ room_at at self.now }
+    {
+        match at {
+            Place::After(con) | Place::Before(con) => self.row_room(con),
+            Place::First(con) | Place::Last(con) => self.room_under(TOP, con).unwrap_or(0),
+            Place::Float(..) | Place::Scratchpad(_) => MAX_DEPTH,
+        }
+    }
 
-    fn from(_error: AllocError) -> TreeRefusal {
-        TreeRefusal::NoMemory
+    /// How many levels there may be below the node; `row` tells where this row stands. `None` exactly where the node
+    /// is not here.
+    fn room_under(&self, row: Spot, id: ConId) -> Option<u32>
+        ensures { MatchOption result
+            ((has id self.now ≡ false) × (room_under (room_by (spot_in row id self.now)) (first_part (only id self.now)) ≡ 0))
+            (λ room. (has id self.now ≡ true) × (room ≡ room_under (room_by (spot_in row id self.now)) (first_part (only id self.now)))) }
+    {
+        let cell = match &self.first {
+            None => return None,
+            Some(cell) => cell,
+        };
+        if cell.part.id == id {
+            return Some(room_below(row.room, &cell.part.kind));
+        }
+        if let Some(room) = cell.kids.room_under(row.below(true, &cell.part), id) {
+            return Some(room);
+        }
+        if let Some(room) = cell.floats.room_under(row.below(false, &cell.part), id) {
+            return Some(room);
+        }
+        cell.rest.room_under(row, id)
+    }
+
+    /// How many levels the row of the node may have.
+    pub(crate) fn row_room(&self, con: ConId) -> u32
+        ensures { result ≡ row_room con self.now }
+    {
+        match self.spot(TOP, con) {
+            Some(spot) => spot.room,
+            None => 0,
+        }
     }
 }

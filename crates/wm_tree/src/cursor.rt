@@ -1,12 +1,16 @@
 //! A walk over the nodes of a tree, row by row.
 ghost use Rattle.std.specs.Prelude.{◌≡◌, ◌≤◌};
 ghost use Rattle.std.specs.Option.{option_copied};
-ghost use Rattle.wm_tree.specs.Limits.{IsWithinLimits};
-ghost use Rattle.wm_tree.specs.Look.{first_part, first_kids, rest_of, row_length, share_sum};
+ghost use Rattle.wm_tree.specs.Counts.{row_length, share_sum};
+ghost use Rattle.wm_tree.specs.Look.{first_part, first_kids, first_floats, rest_of};
+ghost use Rattle.wm_tree.specs.TreeValue.{focused_in};
+ghost use Rattle.wm_tree.specs.Sound.{Level, IsSoundRow, containers};
+ghost use Rattle.std.specs.Prelude.{Bool, true, ℕ};
 
 use crate::part::Part;
 use crate::row::Row;
 use std::marker::Model;
+use wm_base::ConId;
 
 /// A row of nodes of a tree, from one of them on. Contracts see it as that row.
 #[derive(Drop)]
@@ -54,6 +58,17 @@ impl<'a> Cursor<'a> {
         }
     }
 
+    /// The row of the first node's floating windows, or the scratchpad at the root.
+    pub fn floats(&self) -> Cursor<'a>
+        ensures { result ≡ first_floats self.now }
+    {
+        let row = self.row;
+        match &row.first {
+            None => Cursor { row },
+            Some(cell) => Cursor { row: &cell.floats },
+        }
+    }
+
     /// The row behind the first node.
     pub fn rest(&self) -> Cursor<'a>
         ensures { result ≡ rest_of self.now }
@@ -65,12 +80,19 @@ impl<'a> Cursor<'a> {
         }
     }
 
+    /// The row's node that is the first by recency, by itself or what is below it.
+    pub(crate) fn focused(&self, recency: &[ConId]) -> Option<ConId>
+        ensures { result ≡ focused_in recency.now self.now }
+    {
+        let row = self.row;
+        row.focused(recency)
+    }
+
     /// The sum of the shares of the row's nodes.
     pub fn share_sum(&self) -> u64
-        requires few { row_length self.now ≤ 256 }
-        requires within { IsWithinLimits self.now }
+        requires { row_length self.now ≤ 256 }
         ensures sum { result ≡ share_sum self.now }
-        ensures small { result ≤ 268435456 }
+        ensures small { (room : ℕ) → IsSoundRow containers true room self.now → result ≤ 268435456 }
     {
         let row = self.row;
         row.share_sum()

@@ -3,16 +3,34 @@
 
 mod attach;
 mod change;
+mod copy;
+mod count;
 mod cursor;
+mod edit;
+mod kind;
+mod lists;
+mod look;
+mod marks;
+mod moving;
+mod newcomer;
 mod part;
 mod place;
 mod recency;
 mod row;
+mod sets;
+mod spot;
+mod start;
 #[cfg(test)]
 mod tests;
+#[cfg(test)]
+mod tests_parts;
 mod tree;
+mod words;
 
+pub use copy::copy_props;
 pub use cursor::Cursor;
-pub use part::{ConKind, ConPart, NodeKind, OutputPart, Part, SpacePart};
+pub use part::{
+    ConKind, ConPart, ConState, NodeKind, OutputPart, Part, SpacePart, Swallow, SwallowKey,
+};
 pub use place::{NewCon, Place, TreeRefusal};
 pub use tree::Tree;

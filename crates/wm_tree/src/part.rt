@@ -1,80 +1,93 @@
 //! The parts of the tree's nodes: what an output, a workspace or a container says of itself.
-ghost use Rattle.std.specs.Prelude.{◌≡◌};
-ghost use Rattle.std.specs.Option.{option_map};
-ghost use Rattle.wm_tree.specs.Look.{output_kind, share_of};
-ghost use Rattle.wm_tree.specs.Change.{laid_out};
+use wm_base::{Border, ConId, Edges, Layout, List, Props, Rect, Size, Text};
 
-use wm_base::{ConId, Layout, Rect};
-
-/// A node's id, and what kind of node it is.
-#[derive(Clone, Copy, Debug, PartialEq, Eq)]
+/// A node's id, what kind of node it is, and its marks in the order they were added. Only containers have marks.
+#[derive(Debug, Drop)]
 pub struct Part {
     pub id: ConId,
     pub kind: NodeKind,
+    pub marks: List<Text>,
 }
 
-/// An output, a workspace, or a container.
-#[derive(Clone, Copy, Debug, PartialEq, Eq)]
+/// The root with the current output, an output, a workspace, or a container.
+#[derive(Debug, Drop)]
 pub enum NodeKind {
+    Root { current: ConId },
     Output(OutputPart),
     Space(SpacePart),
     Con(ConPart),
 }
 
-/// An output: its rectangle in pixels, and the workspace that it shows.
-#[derive(Clone, Copy, Debug, PartialEq, Eq)]
+/// An output: its name, its rectangle in pixels, what bars reserve along its sides, and the workspace that it shows.
+#[derive(Debug, Drop)]
 pub struct OutputPart {
+    pub name: Text,
     pub rect: Rect,
+    pub reserved: Edges,
     pub shown: ConId,
 }
 
-/// A workspace and its layout.
-#[derive(Clone, Copy, Debug, PartialEq, Eq)]
+/// A workspace: its name, its layout, the last of the two split layouts that it had, and its gaps in pixels.
+#[derive(Debug, Drop)]
 pub struct SpacePart {
+    pub name: Text,
     pub layout: Layout,
+    pub last_split: Layout,
+    pub inner: u32,
+    pub outer: u32,
 }
 
-/// A container: its share of its parent's area among its siblings' shares, and its kind.
+/// What a container's state is: its border, whether it is sticky, fullscreen, and flagged for the scratchpad, and
+/// its outer rectangle, or the earlier one of a window that floated.
 #[derive(Clone, Copy, Debug, PartialEq, Eq)]
+pub struct ConState {
+    pub border: Border,
+    pub sticky: bool,
+    pub fullscreen: bool,
+    pub flagged: bool,
+    pub rect: Option<Rect>,
+}
+
+/// A container: its state, its share of its parent's area among its siblings' shares (0 where it is not tiled), the
+/// format of its title, and its kind.
+#[derive(Debug, Drop)]
 pub struct ConPart {
+    pub state: ConState,
     pub share: u32,
+    pub title_format: Text,
     pub kind: ConKind,
 }
 
-/// A window of the caller with this number.
-#[derive(Clone, Copy, Debug, PartialEq, Eq)]
+/// A split, a window of the caller with the number `owner`, or a placeholder for a window.
+#[derive(Debug, Drop)]
 pub enum ConKind {
-    Window { owner: u32 },
+    Split {
+        layout: Layout,
+        last_split: Layout,
+    },
+    Window {
+        props: Props,
+        owner: u32,
+        natural: Size,
+    },
+    Placeholder {
+        props: Props,
+        swallows: List<Swallow>,
+    },
 }
 
-impl NodeKind {
-    /// The node's share among its siblings. Only containers have one.
-    pub fn share(&self) -> u32
-        ensures { result ≡ share_of self.now }
-    {
-        match self {
-            NodeKind::Con(con) => con.share,
-            NodeKind::Output(_) | NodeKind::Space(_) => 0,
-        }
-    }
+/// What a placeholder's window looks like: patterns that all match.
+#[derive(Debug, Drop)]
+pub struct Swallow {
+    pub keys: List<(SwallowKey, Text)>,
+}
 
-    /// A workspace with another layout. Other nodes stay as they are.
-    pub fn laid_out(self, layout: Layout) -> NodeKind
-        ensures { result ≡ laid_out layout self }
-    {
-        match self {
-            NodeKind::Space(_) => NodeKind::Space(SpacePart { layout }),
-            NodeKind::Output(_) | NodeKind::Con(_) => self,
-        }
-    }
-
-    /// The workspace that an output shows. `None` exactly where this is no output.
-    pub fn shown(&self) -> Option<ConId>
-        ensures { result ≡ option_map (λ o. o.shown) (output_kind self.now) }
-    {
-        match self {
-            NodeKind::Output(output) => Some(output.shown),
-            NodeKind::Space(_) | NodeKind::Con(_) => None,
-        }
-    }
+/// The property that a pattern is held against.
+#[derive(Clone, Copy, Debug, PartialEq, Eq)]
+pub enum SwallowKey {
+    Class,
+    Instance,
+    Role,
+    Title,
+    Machine,
 }

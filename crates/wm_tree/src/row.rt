@@ -1,16 +1,14 @@
 //! Rows of cells: the plain body of the tree's nested value.
 ghost use Rattle.std.specs.Prelude.{◌≡◌, ◌-◌, ◌*◌, ◌≤◌, ◌^◌, false, true, if◌then◌else◌, IfOk, MatchOption, is_some, min};
 ghost use Rattle.wm_tree.specs.Forest.{end, con};
-ghost use Rattle.wm_tree.specs.Look.{same, has, node_in, only, parent_in, newcomer_share, row_length, row_with, share_sum, first_alone, rest_of};
+ghost use Rattle.wm_tree.specs.Counts.{row_with};
+ghost use Rattle.wm_tree.specs.Look.{same, has, only};
 ghost use Rattle.wm_tree.specs.Row.{alone, row_of};
 
 use crate::part::Part;
 use std::alloc::{AllocError, Global};
 use std::marker::Model;
 use wm_base::ConId;
-
-/// The share of the first node in a row.
-const FIRST_SHARE: u32 = 65_536;
 
 /// A row of nodes, from its first cell on.
 #[cycle(row)]
@@ -49,6 +47,13 @@ impl Model for Row {
 }
 
 impl Cell {
+    /// The cell on the heap.
+    pub fn boxed(self, alloc: Global) -> Result<Box<Cell>, AllocError>
+        ensures { IfOk result (λ cell. cell.value ≡ self) }
+    {
+        Ok(Box::new(alloc, self)?)
+    }
+
     /// Whether the node is this one, or is below it at any depth.
     pub fn holds(&self, id: ConId) -> bool
         ensures { result ≡ has id (alone self.now) }
@@ -112,21 +117,6 @@ impl Row {
         cell.rest.find(id)
     }
 
-    /// The cell of the node in this row itself. `None` exactly where it is not in the row.
-    pub fn node(&self, id: ConId) -> Option<&Cell>
-        ensures { MatchOption result (node_in id self.now ≡ end)
-            (λ cell. node_in id self.now ≡ row_of cell.now) }
-    {
-        let mut row = self;
-        while let Some(cell) = &row.first {
-            if cell.part.id == id {
-                return Some(cell);
-            }
-            row = &cell.rest;
-        }
-        None
-    }
-
     /// The row in which the node stands; `whole` is the row that this one ends.
     pub fn row_with<'a>(&'a self, whole: &'a Row, id: ConId) -> Option<&'a Row>
         ensures { MatchOption result (has id self.now ≡ false)
@@ -146,80 +136,5 @@ impl Row {
             return Some(row);
         }
         cell.rest.row_with(whole, id)
-    }
-
-    /// The node that holds this one; `above` holds the row itself.
-    pub fn parent(&self, above: ConId, id: ConId) -> Option<ConId>
-        ensures value { result ≡ parent_in above id self.now }
-        ensures found { is_some result ≡ has id self.now }
-    {
-        let cell = match &self.first {
-            None => return None,
-            Some(cell) => cell,
-        };
-        if cell.part.id == id {
-            return Some(above);
-        }
-        if let Some(parent) = cell.kids.parent(cell.part.id, id) {
-            return Some(parent);
-        }
-        if let Some(parent) = cell.floats.parent(cell.part.id, id) {
-            return Some(parent);
-        }
-        cell.rest.parent(above, id)
-    }
-
-    /// How many nodes the row has, but no more than are counted here: `most`.
-    pub fn len_up_to(&self, most: usize) -> usize
-        ensures { result ≡ min most (row_length self.now) }
-    {
-        match &self.first {
-            None => 0,
-            Some(_) if most == 0 => 0,
-            Some(cell) => 1 + cell.rest.len_up_to(most - 1),
-        }
-    }
-
-    /// The sum of the shares of the row's nodes.
-    pub fn share_sum(&self) -> u64
-        requires { row_length self.now ≤ 2 ^ 32 }
-        ensures sum { result ≡ share_sum self.now }
-        ensures bound { result ≤ row_length self.now * (2 ^ 32 - 1) }
-    {
-        match &self.first {
-            None => 0,
-            Some(cell) => u64::from(cell.part.kind.share()) + cell.rest.share_sum(),
-        }
-    }
-
-    /// The share that a newcomer to the row gets: the mean of its nodes' shares, or 65,536 in an empty row.
-    pub fn newcomer_share(&self) -> u32
-        requires { row_length self.now ≤ 256 }
-        ensures { result ≡ newcomer_share self.now }
-    {
-        let count = self.len_up_to(256);
-        if count == 0 {
-            FIRST_SHARE
-        } else {
-            (self.share_sum() / count as u64) as u32
-        }
-    }
-
-    /// An equal row.
-    pub fn copy(&self, alloc: Global) -> Result<Row, AllocError>
-        ensures { IfOk result (λ row. row ≡ self.now) }
-    {
-        let cell = match &self.first {
-            None => return Ok(Row::new()),
-            Some(cell) => cell,
-        };
-        let copy = Cell {
-            part: cell.part,
-            kids: cell.kids.copy(alloc)?,
-            floats: cell.floats.copy(alloc)?,
-            rest: cell.rest.copy(alloc)?,
-        };
-        let copy = Box::new(alloc, copy)?;
-        Ok(Row { first: Some(copy) })
     }
 }

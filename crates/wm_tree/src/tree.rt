@@ -1,34 +1,38 @@
-//! The tree: the nodes, the order of recency, the current output and the next id.
-ghost use Rattle.std.specs.Prelude.{◌≡◌, ◌≢◌, false, true, Err, None, IfOk, IfErr, OnOk, OnErr, IsOk, IfSome, OnSome, MatchOption};
+//! The tree: its nodes, the order of recency, the urgent windows, the next id, and what new nodes get.
+ghost use Rattle.std.specs.Prelude.{◌≡◌, ◌≤◌, ◌<◌, ◌+◌, ◌*◌, ◌∷◌, [], IfOk, IfSome, MatchOption, OnSome, true, length, slice_get};
 ghost use Rattle.std.specs.Option.{option_copied};
-ghost use Rattle.wm_tree.specs.Limits.{IsOutputRect, IsWithinLimits};
-ghost use Rattle.wm_tree.specs.Forest.{end};
-ghost use Rattle.wm_tree.specs.Row.{alone};
-ghost use Rattle.wm_tree.specs.Look.{con_kind, has, kind_of, newcomer_share, output_kind, same, space_kind};
-ghost use Rattle.wm_tree.specs.TreeValue.{attached, detached, focused, id, named, opening, parent, passed_limit, newcomer_place, shown, shown_space, with_raised, with_space_layout, siblings, IsAttachCause, IsPlace};
-ghost use Rattle.wm_tree.specs.declared.place.TreeRefusal.TheVariants.{Full, Missing};
-ghost use Rattle.wm_tree.specs.declared.place.TreeRefusal.TheVariants as refusals;
+ghost use Rattle.wm_tree.specs.Forest.{Forest, end, con};
+ghost use Rattle.wm_tree.specs.Holding.{is_held};
+ghost use Rattle.wm_tree.specs.Look.{node_in, con_kind, first_floats, first_kids, first_marks, has, kind_of, nth_id, only, output_kind, space_kind};
+ghost use Rattle.wm_tree.specs.Row.{alone, row_of};
+ghost use Rattle.wm_tree.specs.Sound.{IsSound};
+ghost use Rattle.wm_tree.specs.TreeValue.{current, current_of, current_in, floating_row, focused, focused_child, focused_in, floats_by, leaf, parent, shown, shown_space, spot, tiled_by, tiled_kids, workspace_of};
 
 use crate::cursor::Cursor;
-use crate::part::{ConPart, NodeKind, OutputPart, Part, SpacePart};
-use crate::place::{NewCon, Place, TreeRefusal};
+use crate::part::{ConPart, NodeKind, OutputPart, SpacePart};
 use crate::recency;
 use crate::row::{Cell, Row};
-use std::alloc::{AllocError, Global};
+use crate::spot::{Spot, TOP};
+use std::alloc::Global;
 use std::marker::Model;
-use wm_base::{ConId, Layout, Limit, NoMemory, Rect};
+use wm_base::{Border, ConId, NoMemory, Text};
 
-/// The id of the node that holds the outputs.
-const ROOT: ConId = ConId(1);
+/// The id of the node that holds the outputs and the scratchpad.
+pub(crate) const ROOT: ConId = ConId(1);
 
 /// The container tree of a desktop.
 #[derive(Drop)]
 pub struct Tree {
     pub(crate) alloc: Global,
-    pub(crate) outputs: Row,
+    pub(crate) nodes: Row,
     pub(crate) recency: Vec<ConId>,
-    pub(crate) current: ConId,
+    pub(crate) urgent: Vec<ConId>,
+    pub(crate) previous: Option<Text>,
     pub(crate) next_id: u32,
+    pub(crate) border: Border,
+    pub(crate) inner: u32,
+    pub(crate) outer: u32,
+    pub(crate) spare: Box<Cell>,
 }
 
 impl Model for Tree {
@@ -38,160 +42,220 @@ impl Model for Tree {
 
     ghost coded = { tree_code };
 
-    ghost view = { λ t. record { outputs = t.outputs; recency = t.recency.items; current = t.current; next_id = t.next_id } };
+    ghost view = { λ t. record { nodes = t.nodes; recency = t.recency.items; urgent = t.urgent.items; previous = t.previous; next_id = t.next_id; border = t.border; inner = t.inner; outer = t.outer } };
+}
 
-    ghost use Rattle.wm_tree.specs.Limits.{IsSound};
-
-    ghost invariant = { λ t. IsSound t.outputs t.current t.next_id };
+impl NodeKind {
+    /// The root's current output; other nodes have none, and the root stands for it.
+    fn current(&self) -> ConId
+        ensures { result ≡ current_of self.now }
+    {
+        match self {
+            NodeKind::Root { current } => *current,
+            NodeKind::Output(_) | NodeKind::Space(_) | NodeKind::Con(_) => ROOT,
+        }
+    }
 }
 
 impl Tree {
-    /// The opening tree of one output with this rectangle: root 1, output 2, and the workspace 3 that it shows.
-    pub fn start(alloc: Global, rect: Rect) -> Result<Tree, NoMemory>
-        requires { IsOutputRect rect }
-        ensures { IfOk result (λ tree. tree ≡ opening rect) }
-    {
-        let output = OutputPart {
-            rect,
-            shown: ConId(3),
-        };
-        let space = SpacePart {
-            layout: Layout::SplitH,
-        };
-        let mut outputs = Row::of(
-            alloc,
-            Part {
-                id: ConId(2),
-                kind: NodeKind::Output(output),
-            },
-        )?;
-        let mut spaces = Row::of(
-            alloc,
-            Part {
-                id: ConId(3),
-                kind: NodeKind::Space(space),
-            },
-        )?;
-        outputs.put_last(ConId(2), &mut spaces);
-        let mut recency = Vec::new(alloc);
-        recency.push(ConId(3))?;
-        Ok(Tree {
-            alloc,
-            outputs,
-            recency,
-            current: ConId(2),
-            next_id: 4,
-        })
-    }
-
     /// An equal tree.
     pub fn copy(&self) -> Result<Tree, NoMemory>
         ensures { IfOk result (λ tree. tree ≡ self.now) }
     {
-        let outputs = self.outputs.copy(self.alloc)?;
-        let recency = Vec::from_slice(self.alloc, &self.recency)?;
+        let previous = match &self.previous {
+            None => None,
+            Some(name) => Some(name.clone()?),
+        };
         Ok(Tree {
             alloc: self.alloc,
-            outputs,
-            recency,
-            current: self.current,
+            nodes: self.nodes.copy(self.alloc)?,
+            recency: Vec::from_slice(self.alloc, &self.recency)?,
+            urgent: Vec::from_slice(self.alloc, &self.urgent)?,
+            previous,
             next_id: self.next_id,
+            border: self.border,
+            inner: self.inner,
+            outer: self.outer,
+            spare: Box::new(self.alloc, Cell::hole(self.alloc))?,
         })
     }
 
     /// The output with this id. `None` exactly where the id names no output.
-    pub fn output(&self, id: ConId) -> Option<&OutputPart>
-        ensures { option_copied result ≡ kind_of output_kind id self.now.outputs }
+    pub fn output(&self, con: ConId) -> Option<&OutputPart>
+        ensures { option_copied result ≡ kind_of output_kind con self.now.nodes }
     {
-        match self.outputs.find(id)?.part.kind {
+        match self.nodes.find(con)?.part.kind {
             NodeKind::Output(ref part) => Some(part),
-            NodeKind::Space(_) | NodeKind::Con(_) => None,
+            NodeKind::Root { .. } | NodeKind::Space(_) | NodeKind::Con(_) => None,
         }
     }
 
     /// The workspace with this id. `None` exactly where the id names no workspace.
-    pub fn space(&self, id: ConId) -> Option<&SpacePart>
-        ensures { option_copied result ≡ kind_of space_kind id self.now.outputs }
+    pub fn space(&self, con: ConId) -> Option<&SpacePart>
+        ensures { option_copied result ≡ kind_of space_kind con self.now.nodes }
     {
-        match self.outputs.find(id)?.part.kind {
+        match self.nodes.find(con)?.part.kind {
             NodeKind::Space(ref part) => Some(part),
-            NodeKind::Output(_) | NodeKind::Con(_) => None,
+            NodeKind::Root { .. } | NodeKind::Output(_) | NodeKind::Con(_) => None,
         }
     }
 
     /// The container with this id. `None` exactly where the id names no container.
-    pub fn container(&self, id: ConId) -> Option<&ConPart>
-        ensures part { option_copied result ≡ kind_of con_kind id self.now.outputs }
-        ensures there { OnSome result (has id self.now.outputs ≡ true) }
+    pub fn container(&self, con: ConId) -> Option<&ConPart>
+        ensures part { option_copied result ≡ kind_of con_kind con self.now.nodes }
+        ensures there { OnSome result (has con self.now.nodes ≡ true) }
     {
-        match self.outputs.find(id)?.part.kind {
+        match self.nodes.find(con)?.part.kind {
             NodeKind::Con(ref part) => Some(part),
-            NodeKind::Output(_) | NodeKind::Space(_) => None,
+            NodeKind::Root { .. } | NodeKind::Output(_) | NodeKind::Space(_) => None,
         }
     }
 
-    /// The node that holds this one. `None` exactly where the id is not in the tree below its root.
-    pub fn parent(&self, id: ConId) -> Option<ConId>
-        ensures { result ≡ parent self.now id }
+    /// The child with this number, from 0: an output of the root, a workspace of an output, else a tiled child.
+    pub fn child(&self, con: ConId, i: u32) -> Option<ConId>
+        ensures { result ≡ nth_id i (first_kids (only con self.now.nodes)) }
     {
-        self.outputs.parent(ROOT, id)
+        self.nodes.find(con)?.kids.nth(i)
     }
 
-    /// The row of outputs.
-    pub fn outputs(&self) -> Cursor<'_>
-        ensures value { result ≡ self.now.outputs }
-        ensures within { IsWithinLimits self.now.outputs }
+    /// The floating window of a workspace with this number, from 0.
+    pub fn floating(&self, w: ConId, i: u32) -> Option<ConId>
+        ensures { result ≡ nth_id i (floating_row (only w self.now.nodes)) }
     {
-        Cursor::at(&self.outputs)
+        let cell = self.nodes.find(w)?;
+        match cell.part.kind {
+            NodeKind::Space(_) => cell.floats.nth(i),
+            NodeKind::Root { .. } | NodeKind::Output(_) | NodeKind::Con(_) => None,
+        }
     }
 
-    /// The next id that a node gets.
+    /// The window in the scratchpad with this number, from 0.
+    pub fn scratchpad(&self, i: u32) -> Option<ConId>
+        ensures { result ≡ nth_id i (first_floats self.now.nodes) }
+    {
+        match &self.nodes.first {
+            None => None,
+            Some(root) => root.floats.nth(i),
+        }
+    }
+
+    /// The id with this number, from 0, in the list by recency.
+    pub fn recent(&self, i: u32) -> Option<ConId>
+        ensures { result ≡ slice_get self.now.recency i }
+    {
+        self.recency.get(i as usize).copied()
+    }
+
+    /// The urgent window with this number, from 0, in the order they became so.
+    pub fn urgent(&self, i: u32) -> Option<ConId>
+        ensures { result ≡ slice_get self.now.urgent i }
+    {
+        self.urgent.get(i as usize).copied()
+    }
+
+    /// The node's mark with this number, from 0, in the order they were added.
+    pub fn mark(&self, con: ConId, i: u32) -> Option<&Text>
+        ensures { option_copied result ≡ slice_get (first_marks (only con self.now.nodes)) i }
+    {
+        let cell = self.nodes.find(con)?;
+        cell.part.marks.items().get(i as usize)
+    }
+
+    /// The current output.
+    pub fn current(&self) -> ConId
+        ensures { result ≡ current self.now }
+    {
+        match &self.nodes.first {
+            None => ROOT,
+            Some(root) => root.part.kind.current(),
+        }
+    }
+
+    /// The name of the previous workspace.
+    pub fn previous(&self) -> Option<&Text>
+        ensures { option_copied result ≡ self.now.previous }
+    {
+        self.previous.as_ref()
+    }
+
+    /// The id that the next node gets.
     pub fn next_id(&self) -> u32
         ensures { result ≡ self.now.next_id }
     {
         self.next_id
     }
 
-    /// The workspace that the current output shows.
-    pub fn shown(&self) -> ConId
-        ensures { result ≡ shown self.now }
+    /// The row of the root: its children are the outputs.
+    pub fn nodes(&self) -> Cursor<'_>
+        ensures { result ≡ self.now.nodes }
     {
-        match self.outputs.node(self.current) {
-            Some(cell) => cell.part.kind.shown().unwrap_or(self.current),
-            None => self.current,
+        Cursor::at(&self.nodes)
+    }
+
+    /// The border of new containers, and the inner and outer gap of new workspaces.
+    pub fn defaults(&self) -> (Border, u32, u32)
+        ensures { result ≡ (self.now.border, self.now.inner, self.now.outer) }
+    {
+        (self.border, self.inner, self.outer)
+    }
+
+    /// Where the node stands. `None` exactly where the id is not in the tree.
+    pub(crate) fn spot(&self, con: ConId) -> Option<Spot>
+        ensures { result ≡ spot self.now con }
+    {
+        self.nodes.spot(TOP, con)
+    }
+
+    /// The node that holds this one among its children or floating windows. Nothing holds the root, nor the windows
+    /// in the scratchpad.
+    pub fn parent(&self, con: ConId) -> Option<ConId>
+        ensures value { result ≡ parent self.now con }
+        ensures holds { IsSound self.now → IfSome result (λ p. is_held con p self.now.nodes ≡ true) }
+    {
+        self.spot(con)?.holder
+    }
+
+    /// The workspace of the node; a workspace's own is itself. `None` for other nodes, and in the scratchpad.
+    pub fn workspace_of(&self, con: ConId) -> Option<ConId>
+        ensures { result ≡ workspace_of self.now con }
+    {
+        self.spot(con)?.space
+    }
+
+    /// The tiled child of the node that is the most recent, by itself or what is below it.
+    pub fn focused_child(&self, con: ConId) -> Option<ConId>
+        ensures { result ≡ focused_child self.now con }
+    {
+        let cell = self.nodes.find(con)?;
+        match cell.part.kind {
+            NodeKind::Space(_) | NodeKind::Con(_) => cell.kids.focused(&self.recency),
+            NodeKind::Root { .. } | NodeKind::Output(_) => None,
         }
     }
 
-    /// The focused container: the most recent node within the workspace that the current output shows,
-    /// the workspace included.
-    #[tactic(auto, using(crate::proofs::ForestLemmas::first_in_end))]
-    pub fn focused(&self) -> ConId
-        ensures { result ≡ focused self.now }
+    /// The node of the row that is the most recent, by itself or what is below it.
+    pub fn focused_in(&self, row: &Cursor<'_>) -> Option<ConId>
+        ensures { result ≡ focused_in self.now.recency row.now }
     {
-        match self.shown_space() {
-            Some(space) => recency::first_in(&self.recency, space, self.shown()),
-            None => self.shown(),
-        }
+        row.focused(&self.recency)
     }
 
-    /// Where a new window goes: last into a focused workspace, else after the focused container.
-    pub fn newcomer_place(&self) -> Place
-        ensures place { result ≡ newcomer_place self.now }
-        ensures there { has (named result) self.now.outputs ≡ true }
-        ensures fit { IsPlace self.now result }
+    /// The node that is reached from this one by the focused child until there is none.
+    pub fn leaf(&self, con: ConId) -> Option<ConId>
+        ensures value { result ≡ leaf self.now con }
+        ensures ends { IsSound self.now → IfSome result (λ d. tiled_kids (only d self.now.nodes) ≡ end) }
     {
-        let _sound = &self.outputs;
-        self.place_of_newcomer()
+        self.leaf_from(con)
     }
 
-    fn place_of_newcomer(&self) -> Place
-        ensures { result ≡ newcomer_place self.now }
+    /// The cell of the output in the row of outputs.
+    fn output_cell(&self, output: ConId) -> Option<&Cell>
+        ensures { MatchOption result (node_in output (first_kids self.now.nodes) ≡ end)
+            (λ cell. node_in output (first_kids self.now.nodes) ≡ row_of cell.now) }
     {
-        let focused = self.focused();
-        if focused == self.shown() {
-            Place::Last(focused)
-        } else {
-            Place::After(focused)
+        match &self.nodes.first {
+            None => None,
+            Some(root) => root.kids.node(output),
         }
     }
 
@@ -200,38 +264,29 @@ impl Tree {
         ensures { MatchOption result (shown_space self.now ≡ end)
             (λ cell. shown_space self.now ≡ alone cell.now) }
     {
-        self.outputs.node(self.current)?.kids.node(self.shown())
+        self.output_cell(self.current())?.kids.node(self.shown())
     }
 
-    /// Puts the container first in the order of recency.
-    pub fn raise(&mut self, id: ConId)
-        ensures { self.new ≡ with_raised id self.old }
+    /// The workspace that the current output shows.
+    pub fn shown(&self) -> ConId
+        ensures { result ≡ shown self.now }
     {
-        recency::raise(&mut self.recency, id);
+        let current = self.current();
+        match self.output_cell(current) {
+            Some(cell) => cell.part.kind.shown().unwrap_or(current),
+            None => current,
+        }
     }
 
-    /// Gives the workspace another layout.
-    pub fn set_layout(&mut self, id: ConId, layout: Layout)
-        ensures tree { self.new ≡ with_space_layout id layout self.old }
-        ensures none_new { (v : ConId) → has v self.new.outputs ≡ true → has v self.old.outputs ≡ true }
+    /// The focused node: the most recent one within the workspace that the current output shows, itself included.
+    #[tactic(auto, using(crate::proofs::ForestLemmas::first_held_end))]
+    pub fn focused(&self) -> ConId
+        ensures value { result ≡ focused self.now }
+        ensures there { IsSound self.now → has result self.now.nodes ≡ true }
     {
-        self.outputs.set_layout(id, layout);
-    }
-
-    /// Takes the container out with all that is below it. The id, where it is there, is that of a container.
-    #[tactic(auto, using(crate::proofs::ForestLemmas::at_absent, crate::proofs::ForestLemmas::outside_end, crate::proofs::ForestLemmas::only_absent))]
-    pub fn detach(&mut self, id: ConId) -> Result<(), TreeRefusal>
-        requires { has id self.old.outputs ≡ true → kind_of con_kind id self.old.outputs ≢ None }
-        ensures missing { has id self.old.outputs ≡ false → result ≡ Err (Missing id) }
-        ensures there { has id self.old.outputs ≡ true → IsOk result }
-        ensures tree { self.new ≡ detached id self.old }
-        ensures gone { has id self.new.outputs ≡ false }
-        ensures none_new { (v : ConId) → has v self.new.outputs ≡ true → has v self.old.outputs ≡ true }
-    {
-        let Some(gone) = self.outputs.take_out(id) else {
-            return Err(TreeRefusal::Missing(id));
-        };
-        recency::remove_all(&mut self.recency, &gone);
-        Ok(())
+        match self.shown_space() {
+            Some(space) => recency::first_below(&self.recency, space).unwrap_or(self.shown()),
+            None => self.shown(),
+        }
     }
 }

@@ -1,5 +1,5 @@
-use Rattle.wm_core.proofs.RowLemmas.{within-node_in, within-first_kids}
+use Rattle.wm_core.proofs.TreeLemmas.{output_spaces}
 use Rattle.wm_core.proofs.arrange.arrange.Goals as goal
 
-pub place_space-requires-clause-within : goal.place_space-requires-clause-within
-place_space-requires-clause-within c = rw (c.row_from-space.ensures, c.kids.ensures) (within-node_in _ _ (within-first_kids _ c.loop-part.invariant.within))
+pub place_space-requires-clause-sound : goal.place_space-requires-clause-sound
+place_space-requires-clause-sound c = rw (c.row_from-space.ensures, c.kids.ensures) (output_spaces _ _ c.loop-part.invariant.sound)

@@ -1,4 +1,5 @@
-use Rattle.std.proofs.Common.{◌∙◌, [], ap, arith, length, refl, subst}
+use Rattle.std.proofs.Common.{[], ap, arith, length, refl, sym, subst}
+use Rattle.wm_layouts.specs.Plan.{IsStandard}
 use Rattle.std.specs.List.{AllByRecursion}
 use Rattle.wm_frames.specs.Frame.{IsShort}
 use Rattle.wm_core.specs.History.{opening_of}
@@ -36,7 +37,7 @@ loop-message-preserved g c =
     let kept = c.loop-message.invariant in
     record {
       few = omega (arith, kept.few, c.in_ok-answer_message.ensures.steps, one_text (text_of_request (request_of c.in-Some.message)), ap length c.in-Some.ensures.queue);
-      plan = ap (λ p. p.outputs) c.in_ok-answer_message.ensures.plan ∙ kept.plan;
+      plan = subst IsStandard (sym c.in_ok-answer_message.ensures.plan) kept.plan;
       short = (subst (AllByRecursion IsShort) c.in-Some.ensures.queue kept.short).1;
       empty = c.clear.ensures.items;
       plays = λ old whole texts count told p.

@@ -1,7 +1,7 @@
 use Rattle.std.proofs.Common.{◌≡◌, ℕ, ◌+◌, ◌≤◌, List, [], Option, length}
 use Rattle.std.specs.List.{AllByRecursion}
 use Rattle.wm_frames.specs.Frame.{IsShort}
-use Rattle.wm_layouts.specs.Plan.{default_outputs}
+use Rattle.wm_layouts.specs.Plan.{IsStandard}
 use Rattle.wm_tool.specs.declared.status.Refused.{Refused}
 use Rattle.wm_tool.specs.Ipc.{message_texts, replies_from}
 use Rattle.wm_tool.specs.Running.{Plays}
@@ -11,7 +11,7 @@ use Rattle.wm_tool.proofs.ipc.answer_queue.Given as goal
 abbrev pub invariant-loop-message : goal.invariant-loop-message
 invariant-loop-message g l = record {
   few : l.desk.steps + length l.decoder.queue ≤ 16777216;
-  plan : l.desk.plan.outputs ≡ default_outputs;
+  plan : IsStandard l.desk.plan;
   short : AllByRecursion IsShort l.decoder.queue;
   empty : l.piece.items ≡ [];
   plays : (old : Option (List ℕ)) (whole : List Refused → List ℕ) (texts : List (Option (List ℕ))) (count : ℕ) (told : Option (List (List ℕ)))

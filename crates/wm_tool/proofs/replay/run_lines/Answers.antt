@@ -1,4 +1,5 @@
-use Rattle.std.proofs.Common.{◌∙◌, ◌-◌, ap, arith, drop, length, subst, take}
+use Rattle.std.proofs.Common.{◌-◌, arith, drop, length, sym, subst, take}
+use Rattle.wm_layouts.specs.Plan.{IsStandard}
 use Rattle.std.proofs.lemmas.List.Elements.{All-take, All-drop}
 use Rattle.wm_tool.specs.Output.{line_texts, out_from}
 use Rattle.wm_tool.specs.Running.{Plays}
@@ -33,7 +34,7 @@ loop-rest-preserved g c =
     record {
       few = omega (arith, kept.few, c.in_ok-run_line.ensures.steps, one_step c.line-item.result, c.in-len1-up.len_at_least);
       fit = All-take IsFitLine _ _ (All-drop IsFitLine 1 c.loop-rest.rest.now kept.fit);
-      plan = ap (λ p. p.outputs) c.in_ok-run_line.ensures.plan ∙ kept.plan;
+      plan = subst IsStandard (sym c.in_ok-run_line.ensures.plan) kept.plan;
       plays = λ old whole texts count told p.
           writes old now (g.W.Sink.taken c.write_long.new.sink) c.run_line.new.desk c.run_line.new.refused.items c.run_line.new.piece.items (out_from (take (length c.loop-rest.rest.now - 1) (drop 1 c.loop-rest.rest.now))) whole texts (line_texts (take (length c.loop-rest.rest.now - 1) (drop 1 c.loop-rest.rest.now))) count (g.B.Build.refusals c.run_line.new.build) told (g.B.Build.refused c.run_line.new.build)
           (plays_line old now desk c.loop-rest.refused.items c.run_line.new.refused.items c.loop-rest.piece.items whole texts count (g.B.Build.refusals c.loop-rest.build) (g.B.Build.refusals c.run_line.new.build) told (g.B.Build.refused c.loop-rest.build) (g.B.Build.refused c.run_line.new.build)

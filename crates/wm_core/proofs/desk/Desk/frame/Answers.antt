@@ -7,4 +7,4 @@ pub returns : goal.returns
 returns c = λ history s.
     let i = c.self.inside in
     let d : DeskValue = record { plan = i.plan; steps = i.steps; tree = i.tree; buffers = i.buffers.entries; number = i.number; prefix = i.prefix; parts = i.parts.items } in
-    rw (c.of.ensures, c.in_ok-quads.ensures, c.deref.ensures.value, ← c.self.view_is) (sym (stands_frame d history (rw (← c.self.view_is) at s) c.self.invariant.0))
+    rw (c.of.ensures, c.in_ok-quads.ensures, c.deref.ensures.value, ← c.self.view_is) (sym (stands_frame d history (rw (← c.self.view_is) at s) c.self.invariant.0 c.self.invariant.2))

@@ -1,8 +1,10 @@
-use Rattle.wm_tree.proofs.SoundLemmas.{sound-with_layout, has-with_layout}
+use Rattle.std.proofs.Common.{rules}
+use Rattle.wm_tree.specs.declared.kind.KindEdit.TheVariants as edits
+use Rattle.wm_tree.specs.Words.{edited}
+use Rattle.wm_tree.proofs.EditLemmas.{fits_layout}
+use Rattle.wm_tree.proofs.SoundLemmas.{as_is, sound-edited}
 use Rattle.wm_tree.proofs.tree.Tree.set_layout.Goals as goal
 
-pub invariant_of-self : goal.invariant_of-self
-invariant_of-self c = rw c.set_layout.ensures.set (sound-with_layout _ _ _ _ _ c.self.invariant)
-
-pub returns-clause-none_new : goal.returns-clause-none_new
-returns-clause-none_new c = λ v h. rw (← c.self.view_is) (has-with_layout _ _ _ v (rw c.set_layout.ensures.set at h))
+pub returns-clause-sound : goal.returns-clause-sound
+returns-clause-sound c =
+    λ s. as_is (edited c.args.con (edits.Layout c.args.l) c.args.self.now) _ (search rules) (sound-edited c.args.con (edits.Layout c.args.l) c.args.self.now (fits_layout c.args.l _ _) s)

@@ -1,0 +1,127 @@
+-- Commands let ids rise, and none that is gone comes back.
+use Rattle.std.proofs.Common.{◌≡◌, ℕ, ◌+◌, ◌≤◌, ◌<◌, Bool, true, false, cond, ◌&&◌, eqb, not, List, [], ◌∷◌, ◌++◌, filter, Option, None, Some, refl, subst, sym, arith}
+use Rattle.wm_base.specs.declared.errors.Refusal.{Refusal}
+use Rattle.wm_base.specs.declared.geometry.Dir.{Dir}
+use Rattle.wm_base.specs.declared.ids.ConId.{ConId}
+use Rattle.wm_base.specs.declared.plan.Layout.{Layout}
+use Rattle.wm_criteria.specs.declared.verdict.Verdict.{Verdict}
+use Rattle.wm_focus.specs.Parents.{raised_some}
+use Rattle.wm_focus.specs.Marks.{given_mark, is_marked, mark_tree, unmark_all, unmark_one, unmark_tree}
+use Rattle.wm_focus.specs.Swaps.{exchanged_with, moved_after}
+use Rattle.wm_focus.specs.Splits.{gives_layout, laid_as, split_as}
+use Rattle.wm_grammar.specs.declared.batch.Group.{Group}
+use Rattle.wm_grammar.specs.declared.command.Command.{Command}
+use Rattle.wm_grammar.specs.declared.command.Command.TheVariants as commands
+use Rattle.wm_tree.specs.Ids.{IdsRise}
+use Rattle.wm_tree.specs.declared.place.Place.TheVariants.{After}
+use Rattle.wm_tree.specs.Move.{exchanged, moved, unmarked, with_marks, wrapped}
+use Rattle.wm_tree.specs.TreeValue.{TreeValue, id}
+use Rattle.wm_tree.specs.Words.{settled, with_raised}
+use Rattle.wm_tree.proofs.IdLemmas.{ids_raised, ids_refl, ids_settled, ids_trans, ids_wrapped}
+use Rattle.wm_apply.specs.declared.rows.How.{How}
+use Rattle.wm_apply.specs.declared.targets.Targets.{Targets}
+use Rattle.wm_apply.specs.Batches.{Outcome, command_done, commands_done, group_done, groups_done, groups_of, outcome, targets}
+use Rattle.wm_apply.specs.Commands.{Course, course, course_tree, on, refused}
+use Rattle.wm_apply.specs.Rows.{row_refusal, row_tree, unmark_subject}
+use Rattle.wm_apply.specs.Subjects.{each_tree, is_there, one_tree, unless_refused}
+
+-- ---- the commands
+
+ids_raised_some : (c : Option ConId) (t : TreeValue) → IdsRise t (raised_some c t)
+ids_raised_some None t = ids_refl t
+ids_raised_some (Some c) t = ids_raised c t
+
+ids_laid : (c : ConId) (layout : Layout) (t : TreeValue) → IdsRise t (laid_as c layout t)
+ids_laid c layout t = record { next = omega arith; known = λ v below. omega arith }
+
+ids_split : (c : ConId) (layout : Layout) (t : TreeValue) → IdsRise t (split_as c layout t)
+ids_split c layout t = step (gives_layout t c)
+  where
+    step : (b : Bool) → IdsRise t (cond b (laid_as c layout t) (wrapped c layout t))
+    step true = ids_laid c layout t
+    step false = ids_wrapped c layout t
+
+ids_same : (t new : TreeValue) → new.next_id ≡ t.next_id → new.recency ≡ t.recency → IdsRise t new
+ids_same t new e h = record { next = omega (arith, e); known = λ v below. rw h (omega arith) }
+
+ids_exchanged : (c : ConId) (o : Option ConId) (t : TreeValue) → IdsRise t (exchanged_with c o t)
+ids_exchanged c None t = ids_refl t
+ids_exchanged c (Some o) t = ids_same t (exchanged c o t) refl refl
+
+ids_moved_after : (c : ConId) (m : Option ConId) (t : TreeValue) → IdsRise t (moved_after c m t)
+ids_moved_after c None t = ids_refl t
+ids_moved_after c (Some m) t = ids_same t (moved c (After m) t) refl refl
+
+ids_unmark_one : (c : ConId) (n : Option (List ℕ)) (t : TreeValue) → IdsRise t (unmark_one c n t)
+ids_unmark_one c None t = ids_same t (with_marks c [] t) refl refl
+ids_unmark_one c (Some n) t = ids_same t (unmarked c n t) refl refl
+
+ids_unmark_all : (n : Option (List ℕ)) (t : TreeValue) → IdsRise t (unmark_all n t)
+ids_unmark_all None t = ids_same t (unmark_all None t) refl refl
+ids_unmark_all (Some n) t = ids_same t (unmark_all (Some n) t) refl refl
+
+ids_unmark : (c : Option ConId) (n : Option (List ℕ)) (t : TreeValue) → IdsRise t (unmark_tree c n t)
+ids_unmark None n t = ids_unmark_all n t
+ids_unmark (Some c) n t = ids_unmark_one c n t
+
+ids_mark : (c : ConId) (n : List ℕ) (add toggle : Bool) (t : TreeValue) → IdsRise t (mark_tree c n add toggle t)
+ids_mark c n add toggle t = step (toggle && is_marked c n t)
+  where
+    step : (b : Bool) → IdsRise t (cond b (unmarked c n t) (given_mark c n add t))
+    step true = ids_same t (unmarked c n t) refl refl
+    step false = ids_same t (given_mark c n add t) refl refl
+
+pub ids_row : (how : How) (command : Command) (c : ConId) (t : TreeValue) → IdsRise t (row_tree how command c t)
+ids_row how (commands.Split arg) c t = ids_split c _ t
+ids_row how (commands.SetLayout arg) c t = ids_laid c _ t
+ids_row how (commands.CycleLayout cycle) c t = ids_laid c _ t
+ids_row how commands.Focus c t = ids_raised c t
+ids_row how (commands.FocusDir d) c t = ids_raised_some _ t
+ids_row how commands.FocusParent c t = ids_raised_some _ t
+ids_row how commands.FocusChild c t = ids_raised_some _ t
+ids_row how (commands.MoveToMark name) c t = ids_moved_after c _ t
+ids_row how (commands.Swap arg) c t = ids_exchanged c _ t
+ids_row how (commands.Mark add toggle name) c t = ids_mark c name add toggle t
+ids_row how (commands.Unmark name) c t = ids_unmark (unmark_subject how c) name t
+ids_row how other c t = ids_refl t
+
+-- ---- subjects, commands and groups
+
+ids_unless : (r : Option Refusal) (t new : TreeValue) → IdsRise t new → IdsRise t (unless_refused r t new)
+ids_unless None t new h = h
+ids_unless (Some e) t new h = ids_refl t
+
+ids_one : (how : How) (command : Command) (c : ConId) (t : TreeValue) → IdsRise t (one_tree how command c t)
+ids_one how command c t = step (is_there c t)
+  where
+    after : TreeValue
+    after = settled (row_tree how command c t)
+
+    step : (b : Bool) → IdsRise t (cond b (unless_refused (row_refusal how command c t) t after) t)
+    step true = ids_unless (row_refusal how command c t) t after (ids_trans t (row_tree how command c t) after (ids_row how command c t) (ids_settled (row_tree how command c t)))
+    step false = ids_refl t
+
+ids_each : (how : How) (command : Command) (cs : List ConId) (t : TreeValue) → IdsRise t (each_tree how command cs t)
+ids_each how command [] t = ids_refl t
+ids_each how command (c ∷ cs) t = ids_trans t (one_tree how command c t) (each_tree how command (c ∷ cs) t) (ids_one how command c t) (ids_each how command cs (one_tree how command c t))
+
+ids_course : (c : Course) (command : Command) (t : TreeValue) → IdsRise t (course_tree c command t)
+ids_course (refused e) command t = ids_refl t
+ids_course (on how cs) command t = ids_each how command cs t
+
+ids_commands : (found : Targets) (cs : List Command) (o : Outcome) → IdsRise o.tree (commands_done found cs o).tree
+ids_commands found [] o = ids_refl o.tree
+ids_commands found (c ∷ cs) o =
+    ids_trans o.tree (command_done found c o).tree (commands_done found (c ∷ cs) o).tree (ids_course (course found c o.tree) c o.tree) (ids_commands found cs (command_done found c o))
+
+ids_groups : (subject : Option ConId) (gs : List Group) (o : Outcome) → IdsRise o.tree (groups_done subject gs o).tree
+ids_groups subject [] o = ids_refl o.tree
+ids_groups subject (g ∷ gs) o =
+    ids_trans o.tree (group_done subject g o).tree (groups_done subject (g ∷ gs) o).tree (ids_commands (targets g.criteria subject o.tree) g.commands o) (ids_groups subject gs (group_done subject g o))
+
+pub ids_outcome : (verdict : Verdict) (subject : Option ConId) (t : TreeValue) → IdsRise t (outcome verdict subject t).tree
+ids_outcome verdict subject t = ids_groups subject (groups_of verdict) (record { tree = t; replies = []; exit = false })
+
+-- a tree that a text leaves
+pub ids_left : (verdict : Verdict) (subject : Option ConId) (t new : TreeValue) → new ≡ (outcome verdict subject t).tree → IdsRise t new
+ids_left verdict subject t new e = subst (IdsRise t) (sym e) (ids_outcome verdict subject t)

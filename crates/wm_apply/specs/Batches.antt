@@ -1,0 +1,69 @@
+-- What the groups of a text do to a tree, one after another, and what they are answered.
+use Rattle.std.specs.Prelude.{Bool, false, ◌||◌, List, [], ◌∷◌, ◌++◌, Option, None, Some, refl}
+use Rattle.std.specs.Coded.{Coded, code_by, coded×, coded_list, coded_bool}
+use Rattle.wm_base.specs.declared.ids.ConId.{ConId}
+use Rattle.wm_criteria.specs.declared.verdict.Verdict.{Verdict}
+use Rattle.wm_criteria.specs.declared.verdict.Verdict.TheVariants.{Ready, Bad, PatternRefused}
+use Rattle.wm_criteria.specs.Gathered.{matching}
+use Rattle.wm_grammar.specs.declared.batch.Criteria.{Criteria}
+use Rattle.wm_grammar.specs.declared.batch.Group.{Group}
+use Rattle.wm_grammar.specs.declared.command.Command.{Command}
+use Rattle.wm_tree.specs.TreeValue.{TreeValue, tree_code}
+use Rattle.wm_apply.specs.contracts.applied.CommandReply as reply
+use Rattle.wm_apply.specs.declared.applied.CommandReply.{CommandReply}
+use Rattle.wm_apply.specs.declared.targets.Targets.{Targets}
+use Rattle.wm_apply.specs.declared.targets.Targets.TheVariants.{Matched, Handed, Focused}
+use Rattle.wm_apply.specs.Commands.{command_reply, command_tree, is_exit}
+
+-- what commands have done so far
+pub record Outcome : Type 0 where
+  pub tree : TreeValue
+  pub replies : List CommandReply
+  pub exit : Bool
+
+abbrev pub alone : Option ConId → Targets
+alone None = Focused
+alone (Some c) = Handed c
+
+-- on what the commands of a group act: the containers that match its criteria now, by rising id, or else the subject
+-- that was handed in, or the focused container
+abbrev pub targets : Option Criteria → Option ConId → TreeValue → Targets
+targets None subject t = alone subject
+targets (Some criteria) subject t = Matched (matching t criteria.keys)
+
+abbrev pub command_done : Targets → Command → Outcome → Outcome
+command_done targets command o = record {
+  tree = command_tree targets command o.tree;
+  replies = o.replies ++ command_reply targets command o.tree ∷ [];
+  exit = o.exit || is_exit command;
+}
+
+abbrev pub commands_done : Targets → List Command → Outcome → Outcome
+commands_done targets [] o = o
+commands_done targets (c ∷ cs) o = commands_done targets cs (command_done targets c o)
+
+abbrev pub group_done : Option ConId → Group → Outcome → Outcome
+group_done subject g o = commands_done (targets g.criteria subject o.tree) g.commands o
+
+abbrev pub groups_done : Option ConId → List Group → Outcome → Outcome
+groups_done subject [] o = o
+groups_done subject (g ∷ gs) o = groups_done subject gs (group_done subject g o)
+
+-- the groups of a text that reads
+abbrev pub groups_of : Verdict → List Group
+groups_of (Ready batch) = batch.groups
+groups_of (Bad at) = []
+groups_of (PatternRefused n) = []
+
+-- what a text that reads does to a tree
+abbrev pub outcome : Verdict → Option ConId → TreeValue → Outcome
+outcome verdict subject t = groups_done subject (groups_of verdict) (record { tree = t; replies = []; exit = false })
+
+-- ---- how the logic stores it
+
+abbrev pub outcome_code : Coded Outcome
+outcome_code =
+    code_by (TreeValue × (List CommandReply × Bool))
+    (coded× tree_code (coded× (coded_list reply.the_row.coded) coded_bool))
+    (λ o. (o.tree, (o.replies, o.exit)))
+    (λ p. record { tree = p.0; replies = p.1.0; exit = p.1.1 }) (λ _. refl)

@@ -1,0 +1,4 @@
+pub mod Batches
+pub mod Commands
+pub mod Rows
+pub mod Subjects

@@ -1,0 +1,131 @@
+//! One command of a group.
+ghost use Rattle.std.specs.Prelude.{◌≡◌, length, IfOk, OnOk};
+ghost use Rattle.wm_apply.specs.Commands.{command_reply, command_tree, is_built, is_exit, course_reply, course_tree, is_mark, matched_course, runs_once, still_there, subject, targets_course};
+ghost use Rattle.wm_apply.specs.declared.targets.Targets.TheVariants as targets;
+ghost use Rattle.wm_tree.specs.Sound.{IsSound};
+
+use crate::applied::CommandReply;
+use crate::rows::How;
+use crate::subjects::{is_there, run_each};
+use crate::targets::Targets;
+use wm_base::{ConId, ErrorText, NoMemory};
+use wm_grammar::Command;
+use wm_tree::Tree;
+
+/// Whether the command is built.
+fn is_built(command: &Command) -> bool
+    ensures { result ≡ is_built command.now }
+{
+    match command {
+        Command::Split(_) | Command::SetLayout(_) | Command::CycleLayout(_) => true,
+        Command::Focus | Command::FocusDir(_) | Command::FocusParent | Command::FocusChild => true,
+        Command::MoveDir(..) | Command::MoveToMark(_) | Command::Swap(_) => true,
+        Command::Mark { .. } | Command::Unmark(_) => true,
+        Command::Nop | Command::Idle | Command::Exit => true,
+        _ => false,
+    }
+}
+
+/// Whether the command runs once, whatever the criteria, and has no subject.
+fn runs_once(command: &Command) -> bool
+    ensures { result ≡ runs_once command.now }
+{
+    matches!(command, Command::Nop | Command::Idle | Command::Exit)
+}
+
+fn is_mark(command: &Command) -> bool
+    ensures { result ≡ is_mark command.now }
+{
+    matches!(command, Command::Mark { .. })
+}
+
+/// Whether the command stops the desk.
+pub fn is_exit(command: &Command) -> bool
+    ensures { result ≡ is_exit command.now }
+{
+    matches!(command, Command::Exit)
+}
+
+/// How many of the containers are still there.
+fn count_there(t: &Tree, cons: &[ConId]) -> usize
+    ensures { result ≡ length (still_there cons.now t.now) }
+{
+    let mut there = 0;
+    let mut rest = cons;
+    while let [con, after @ ..] = rest {
+        if is_there(t, *con) {
+            there += 1;
+        }
+        rest = after;
+    }
+    there
+}
+
+/// The subject that was handed in, or the focused container where it is gone.
+fn subject(t: &Tree, con: ConId) -> ConId
+    ensures { result ≡ subject con t.now }
+{
+    if is_there(t, con) { con } else { t.focused() }
+}
+
+/// Runs one command on what its group acts on.
+pub fn run_command(
+    t: &mut Tree,
+    targets: &Targets,
+    command: &Command,
+) -> Result<CommandReply, NoMemory>
+    requires { IsSound t.old }
+    ensures tree { OnOk result (t.new ≡ command_tree targets.now command.now t.old) }
+    ensures reply { IfOk result (λ r. r ≡ command_reply targets.now command.now t.old) }
+    ensures sound { IsSound t.new }
+{
+    if !is_built(command) {
+        return Ok(CommandReply::Error(ErrorText::NotBuilt));
+    }
+    if runs_once(command) {
+        return Ok(CommandReply::Done);
+    }
+    match targets {
+        Targets::Matched(cons) => run_matched(t, command, cons.items()),
+        Targets::Handed(con) => run_handed(t, command, *con),
+        Targets::Focused => run_focused(t, command),
+    }
+}
+
+/// Runs a command on the containers that criteria matched.
+fn run_matched(t: &mut Tree, command: &Command, cons: &[ConId]) -> Result<CommandReply, NoMemory>
+    requires { IsSound t.old }
+    ensures tree { OnOk result (t.new ≡ course_tree (matched_course command.now cons.now t.old) command.now t.old) }
+    ensures reply { IfOk result (λ r. r ≡ course_reply (matched_course command.now cons.now t.old) command.now t.old) }
+    ensures sound { IsSound t.new }
+{
+    if cons.is_empty() {
+        return Ok(CommandReply::Error(ErrorText::NoMatch));
+    }
+    if is_mark(command) && count_there(t, cons) >= 2 {
+        return Ok(CommandReply::Error(ErrorText::ManyMatch));
+    }
+    run_each(t, How::Matched, command, cons)
+}
+
+/// Runs a command on the subject that was handed in.
+fn run_handed(t: &mut Tree, command: &Command, con: ConId) -> Result<CommandReply, NoMemory>
+    requires { IsSound t.old }
+    ensures tree { OnOk result (t.new ≡ course_tree (targets_course (targets.Handed con) command.now t.old) command.now t.old) }
+    ensures reply { IfOk result (λ r. r ≡ course_reply (targets_course (targets.Handed con) command.now t.old) command.now t.old) }
+    ensures sound { IsSound t.new }
+{
+    let con = subject(t, con);
+    run_each(t, How::Handed, command, &[con])
+}
+
+/// Runs a command on the focused container.
+fn run_focused(t: &mut Tree, command: &Command) -> Result<CommandReply, NoMemory>
+    requires { IsSound t.old }
+    ensures tree { OnOk result (t.new ≡ course_tree (targets_course targets.Focused command.now t.old) command.now t.old) }
+    ensures reply { IfOk result (λ r. r ≡ course_reply (targets_course targets.Focused command.now t.old) command.now t.old) }
+    ensures sound { IsSound t.new }
+{
+    let con = t.focused();
+    run_each(t, How::Focused, command, &[con])
+}

@@ -1,0 +1,12 @@
+//! Running a text that reads: its groups of commands, each on the containers that its criteria match or on the focused one.
+#![tactic(auto)]
+
+mod applied;
+mod batches;
+mod commands;
+mod rows;
+mod subjects;
+mod targets;
+
+pub use applied::{Applied, CommandReply};
+pub use batches::{apply, run};

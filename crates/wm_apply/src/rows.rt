@@ -1,0 +1,77 @@
+//! One command on one subject: a case for each command that is built.
+ghost use Rattle.std.specs.Prelude.{◌≡◌, None, OnOk, OnErr, IfErr};
+ghost use Rattle.wm_apply.specs.Rows.{focus_refusal, row_refusal, row_tree, unmark_subject};
+ghost use Rattle.wm_focus.specs.Refusing.{IsCause};
+ghost use Rattle.wm_focus.specs.Subject.{IsSubject};
+ghost use Rattle.wm_tree.specs.Sound.{IsSound};
+ghost use Rattle.wm_tree.specs.Words.{with_raised};
+
+use wm_base::{ConId, ErrorText, Refusal};
+use wm_focus::{
+    cycle_layout, focus_child, focus_dir, focus_parent, mark, move_to_mark, set_layout, split,
+    swap, unmark,
+};
+use wm_grammar::Command;
+use wm_tree::Tree;
+
+/// How a command came to its subject: criteria matched it, it was handed in, or it is the focused one.
+#[derive(Clone, Copy, Debug, PartialEq, Eq)]
+pub enum How {
+    Matched,
+    Handed,
+    Focused,
+}
+
+/// Does a command to one subject. The tree is not settled.
+pub fn run_row(t: &mut Tree, how: How, command: &Command, con: ConId) -> Result<(), Refusal>
+    requires { IsSubject t.old con }
+    ensures tree { OnOk result (t.new ≡ row_tree how command.now con t.old) }
+    ensures fine { OnOk result (row_refusal how command.now con t.old ≡ None) }
+    ensures err { OnErr result (t.new ≡ t.old) }
+    ensures cause { IfErr result (IsCause (row_refusal how command.now con t.old)) }
+    ensures sound { IsSound t.new }
+{
+    match command {
+        Command::Split(arg) => split(t, con, *arg),
+        Command::SetLayout(arg) => set_layout(t, con, *arg),
+        Command::CycleLayout(cycle) => cycle_layout(t, con, *cycle),
+        Command::Focus => focus(t, how, con),
+        Command::FocusDir(dir) => focus_dir(t, con, *dir),
+        Command::FocusParent => focus_parent(t, con),
+        Command::FocusChild => focus_child(t, con),
+        Command::MoveToMark(name) => move_to_mark(t, con, name),
+        Command::Swap(arg) => swap(t, con, arg),
+        Command::Mark { add, toggle, name } => mark(t, con, name, *add, *toggle),
+        Command::Unmark(name) => unmark(t, how.unmark_subject(con), name.as_ref()),
+        _ => Err(Refusal::NoTarget(ErrorText::NotBuilt)),
+    }
+}
+
+/// Focuses a container that criteria matched or that was handed in.
+fn focus(t: &mut Tree, how: How, con: ConId) -> Result<(), Refusal>
+    ensures tree { OnOk result (t.new ≡ with_raised con t.old) }
+    ensures fine { OnOk result (focus_refusal how ≡ None) }
+    ensures err { OnErr result (t.new ≡ t.old) }
+    ensures cause { IfErr result (IsCause (focus_refusal how)) }
+    ensures sound { IsSound t.old → IsSound t.new }
+{
+    match how {
+        How::Matched | How::Handed => {
+            t.raise(con);
+            Ok(())
+        }
+        How::Focused => Err(Refusal::NoTarget(ErrorText::NoCriteria)),
+    }
+}
+
+impl How {
+    /// From which container `unmark` takes marks; none for all.
+    fn unmark_subject(self, con: ConId) -> Option<ConId>
+        ensures { result ≡ unmark_subject self con }
+    {
+        match self {
+            How::Matched => Some(con),
+            How::Handed | How::Focused => None,
+        }
+    }
+}

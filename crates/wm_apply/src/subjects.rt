@@ -1,0 +1,85 @@
+//! One command on its subjects, one after another.
+ghost use Rattle.std.specs.Prelude.{◌≡◌, ◌∷◌, [], true, IfOk, OnOk};
+ghost use Rattle.wm_apply.specs.Subjects.{each_error, each_tree, error_of, full_text, is_there, one_error, one_tree, or_error, reply_of};
+ghost use Rattle.wm_focus.specs.Subject.{IsSubject};
+ghost use Rattle.wm_tree.specs.Sound.{IsSound};
+
+use crate::applied::CommandReply;
+use crate::rows::{How, run_row};
+use wm_base::{ConId, ErrorText, Limit, NoMemory, Refusal};
+use wm_grammar::Command;
+use wm_tree::Tree;
+
+/// The text of a limit that a command would pass.
+fn full_text(limit: Limit) -> ErrorText
+    ensures { result ≡ full_text limit }
+{
+    match limit {
+        Limit::Containers => ErrorText::FullContainers,
+        Limit::Outputs => ErrorText::NoOutput,
+        Limit::Workspaces => ErrorText::FullWorkspaces,
+        Limit::Children => ErrorText::FullChildren,
+        Limit::Depth => ErrorText::FullDepth,
+        Limit::Marks => ErrorText::FullMarks,
+        Limit::Ids => ErrorText::FullIds,
+    }
+}
+
+/// Whether this is a workspace or a container of the tree.
+pub fn is_there(t: &Tree, con: ConId) -> bool
+    ensures { result ≡ is_there con t.now }
+{
+    t.container(con).is_some() || t.space(con).is_some()
+}
+
+/// Does a command to one subject, and settles the tree. Gives the error of a subject that refuses; one that is gone is
+/// passed over.
+fn run_one(
+    t: &mut Tree,
+    how: How,
+    command: &Command,
+    con: ConId,
+) -> Result<Option<ErrorText>, NoMemory>
+    requires { IsSound t.old }
+    ensures tree { OnOk result (t.new ≡ one_tree how command.now con t.old) }
+    ensures error { IfOk result (λ e. e ≡ one_error how command.now con t.old) }
+    ensures sound { IsSound t.new }
+{
+    if !is_there(t, con) {
+        return Ok(None);
+    }
+    match run_row(t, how, command, con) {
+        Ok(()) => {
+            t.settle();
+            Ok(None)
+        }
+        Err(Refusal::NoTarget(text)) => Ok(Some(text)),
+        Err(Refusal::Full { limit }) => Ok(Some(full_text(limit))),
+        Err(Refusal::NameTaken) => Ok(Some(ErrorText::NameTaken)),
+        Err(Refusal::NoMemory) => Err(NoMemory),
+    }
+}
+
+/// Does a command to each of the subjects that is still there. Gives the first error.
+pub fn run_each(
+    t: &mut Tree,
+    how: How,
+    command: &Command,
+    cons: &[ConId],
+) -> Result<CommandReply, NoMemory>
+    requires { IsSound t.old }
+    ensures tree { OnOk result (t.new ≡ each_tree how command.now cons.now t.old) }
+    ensures reply { IfOk result (λ r. r ≡ reply_of (each_error how command.now cons.now t.old)) }
+    ensures sound { IsSound t.new }
+{
+    let mut first = None;
+    let mut rest = cons;
+    while let [con, after @ ..] = rest {
+        first = first.or(run_one(t, how, command, *con)?);
+        rest = after;
+    }
+    Ok(match first {
+        None => CommandReply::Done,
+        Some(error) => CommandReply::Error(error),
+    })
+}

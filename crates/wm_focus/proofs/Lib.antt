@@ -1,0 +1,12 @@
+pub mod AllLemmas
+pub mod BearerLemmas
+pub mod GiveLemmas
+pub mod LawLemmas
+pub mod MarkForests
+pub mod MarkLists
+pub mod OnlyLemmas
+pub mod RungLemmas
+pub mod SplitLemmas
+pub mod SubjectLemmas
+pub mod SwapLemmas
+pub mod WithinLemmas

@@ -1,0 +1,5 @@
+use Rattle.wm_tree.specs.Forest.{node_count}
+use Rattle.wm_focus.proofs.bearers.+bearer.Given as goal
+
+abbrev pub decreases-bearer : goal.decreases-bearer
+decreases-bearer l = node_count l.row

@@ -1,0 +1,124 @@
+-- The nodes that hold a container, from the nearest upwards, and what is looked for at them in a direction.
+use Rattle.std.specs.Prelude.{Bool, true, false, if◌then◌else◌, List, [], ◌∷◌, ◌++◌, Option, None, Some}
+use Rattle.std.specs.Option.{option_or}
+use Rattle.wm_base.specs.declared.geometry.Axis.{Axis}
+use Rattle.wm_base.specs.declared.geometry.Axis.TheVariants as axes
+use Rattle.wm_base.specs.declared.geometry.Dir.{Dir}
+use Rattle.wm_base.specs.declared.geometry.Dir.TheVariants.{Left, Right, Up, Down}
+use Rattle.wm_base.specs.declared.ids.ConId.{ConId}
+use Rattle.wm_base.specs.declared.plan.Layout.{Layout}
+use Rattle.wm_base.specs.declared.plan.Layout.TheVariants.{SplitH, SplitV, Stacked, Tabbed}
+use Rattle.wm_focus.specs.declared.rungs.Aim.{Aim}
+use Rattle.wm_focus.specs.declared.rungs.Aim.TheVariants.{Around, Beside, Out}
+use Rattle.wm_tree.specs.declared.part.ConKind.{ConKind}
+use Rattle.wm_tree.specs.declared.part.ConKind.TheVariants.{Split, Window, Placeholder}
+use Rattle.wm_tree.specs.declared.part.NodeKind.{NodeKind}
+use Rattle.wm_tree.specs.declared.part.NodeKind.TheVariants.{Root, Output, Space, Con}
+use Rattle.wm_tree.specs.Change.{is_end, is_id}
+use Rattle.wm_tree.specs.Forest.{Forest, end, con}
+use Rattle.wm_tree.specs.Look.{has, rest_of, same}
+use Rattle.wm_tree.specs.TreeValue.{or_id, row_holder}
+
+-- ---- axes
+
+-- the axis along which a layout puts its children
+abbrev pub axis_of : Layout → Axis
+axis_of SplitH = axes.Across
+axis_of SplitV = axes.Down
+axis_of Tabbed = axes.Across
+axis_of Stacked = axes.Down
+
+abbrev pub dir_axis : Dir → Axis
+dir_axis Left = axes.Across
+dir_axis Right = axes.Across
+dir_axis Up = axes.Down
+dir_axis Down = axes.Down
+
+abbrev pub same_axis : Axis → Axis → Bool
+same_axis axes.Across axes.Across = true
+same_axis axes.Across axes.Down = false
+same_axis axes.Down axes.Across = false
+same_axis axes.Down axes.Down = true
+
+-- the direction is towards the end of a row: right or down
+abbrev pub is_forward : Dir → Bool
+is_forward Left = false
+is_forward Right = true
+is_forward Up = false
+is_forward Down = true
+
+abbrev pub runs_con : Dir → ConKind → Bool
+runs_con d (Split layout last) = same_axis (axis_of layout) (dir_axis d)
+runs_con d (Window props owner natural) = false
+runs_con d (Placeholder props swallows) = false
+
+-- a workspace or split puts its children along the axis of the direction
+abbrev pub runs : Dir → NodeKind → Bool
+runs d (Root c) = false
+runs d (Output o) = false
+runs d (Space s) = same_axis (axis_of s.layout) (dir_axis d)
+runs d (Con c) = runs_con d c.kind
+
+-- ---- rows
+
+abbrev pub first_id : Forest → Option ConId
+first_id end = None
+first_id (con part kids floats rest) = Some part.id
+
+abbrev pub last_id : Forest → Option ConId
+last_id end = None
+last_id (con part kids floats rest) = option_or (last_id rest) (Some part.id)
+
+-- the node after c in the row
+abbrev pub after : ConId → Forest → Option ConId
+after c end = None
+after c (con part kids floats rest) = if same part.id c then first_id rest else after c rest
+
+-- the node before c in the row
+abbrev pub before : ConId → Forest → Option ConId
+before c end = None
+before c (con part kids floats rest) = if is_id c (first_id rest) then Some part.id else before c rest
+
+-- the neighbour of c on that side
+abbrev pub neighbour : Dir → ConId → Forest → Option ConId
+neighbour d c row = if is_forward d then after c row else before c row
+
+-- the node at the other end than that of the direction, in a row of two or more
+abbrev pub far_end : Dir → Forest → Option ConId
+far_end d row = if is_end (rest_of row) then None else if is_forward d then first_id row else last_id row
+
+-- ---- the nodes above
+
+-- a node that holds a container: what it is, its children, and which of them is the container or holds it
+pub record Rung : Type 0 where
+  pub kind : NodeKind
+  pub row : Forest
+  pub child : ConId
+
+abbrev pub rung : NodeKind → Forest → ConId → Rung
+rung kind row child = record { kind = kind; row = row; child = child }
+
+-- the nodes that hold c as a child or below one, the nearest first
+abbrev pub rungs : ConId → Forest → List Rung
+rungs c end = []
+rungs c (con part kids floats rest) =
+    if same part.id c then []
+    else if has c kids then rungs c kids ++ rung part.kind kids (or_id (row_holder c kids) c) ∷ []
+    else if has c floats then rungs c floats
+    else rungs c rest
+
+-- what is looked for at a node along the axis of the direction: the neighbour of the child on that side, the child at
+-- the other end, or the child itself
+abbrev pub aimed : Aim → Dir → Rung → Option ConId
+aimed Beside d r = if runs d r.kind then neighbour d r.child r.row else None
+aimed Around d r = if runs d r.kind then far_end d r.row else None
+aimed Out d r = if runs d r.kind then Some r.child else None
+
+-- what is found at the first of the nodes that has it
+abbrev pub first_aimed : Aim → Dir → List Rung → Option ConId
+first_aimed aim d [] = None
+first_aimed aim d (r ∷ rs) = option_or (aimed aim d r) (first_aimed aim d rs)
+
+-- what is found at the nearest node above c that has it
+abbrev pub nearest : Aim → Dir → ConId → Forest → Option ConId
+nearest aim d c forest = first_aimed aim d (rungs c forest)

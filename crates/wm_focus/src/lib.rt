@@ -1,0 +1,31 @@
+//! Commands on the tree that focus, move, mark and lay out: each does one command to one subject.
+#![tactic(auto)]
+
+mod bearers;
+mod direction;
+mod giving;
+mod laws;
+mod marks;
+mod parents;
+mod refusing;
+mod rungs;
+mod splits;
+mod subject;
+mod swaps;
+#[cfg(test)]
+mod tests;
+#[cfg(test)]
+mod tests_directions;
+#[cfg(test)]
+mod tests_marks;
+#[cfg(test)]
+mod tests_swaps;
+mod within;
+
+pub use direction::focus_dir;
+pub use laws::{marked_is_found, none_is_left, one_has_a_mark};
+pub use marks::{mark, marked, unmark};
+pub use parents::{focus_child, focus_parent};
+pub use splits::{cycle_layout, set_layout, split};
+pub use subject::is_subject;
+pub use swaps::{move_to_mark, swap};

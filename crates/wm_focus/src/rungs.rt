@@ -1,0 +1,185 @@
+//! Climbing from a container along the nodes that hold it.
+ghost use Rattle.std.specs.Prelude.{◌≡◌};
+ghost use Rattle.wm_focus.specs.Rungs.{after, aimed, axis_of, before, dir_axis, far_end, first_id, is_forward, last_id, nearest, neighbour, rung, runs, runs_con};
+ghost use Rattle.wm_focus.specs.Walks.{held};
+
+use wm_base::{Axis, ConId, Dir, Layout};
+use wm_tree::{ConKind, Cursor, NodeKind};
+
+/// What is looked for at a node along the axis of a direction: the neighbour on that side of the child that holds a
+/// container, the child at the other end, or that child itself.
+#[derive(Clone, Copy, Debug, PartialEq, Eq)]
+pub enum Aim {
+    Beside,
+    Around,
+    Out,
+}
+
+/// A row's node that is a container or holds it, and what is found at the nearest node above the container.
+#[derive(Clone, Copy, Debug, PartialEq, Eq)]
+pub struct Held {
+    pub child: ConId,
+    pub found: Option<ConId>,
+}
+
+/// What is found at the nearest node above the container that has it.
+pub(crate) fn nearest(row: Cursor<'_>, con: ConId, aim: Aim, d: Dir) -> Option<ConId>
+    ensures { result ≡ nearest aim d con row.entry }
+{
+    climb(row, con, aim, d)?.found
+}
+
+/// The node of the row that is the container or holds it, with what is found below. `None` exactly where the container
+/// is not here.
+fn climb(row: Cursor<'_>, con: ConId, aim: Aim, d: Dir) -> Option<Held>
+    ensures { result ≡ held aim d con row.entry }
+{
+    let part = row.part()?;
+    if part.id == con {
+        return Some(Held {
+            child: con,
+            found: None,
+        });
+    }
+    let kids = row.kids();
+    if let Some(below) = climb(row.kids(), con, aim, d) {
+        let found = below.found.or(aimed(aim, d, &part.kind, kids, below.child));
+        return Some(Held {
+            child: part.id,
+            found,
+        });
+    }
+    if let Some(below) = climb(row.floats(), con, aim, d) {
+        return Some(Held {
+            child: part.id,
+            found: below.found,
+        });
+    }
+    climb(row.rest(), con, aim, d)
+}
+
+/// What is found at a node of this kind with these children, one of which holds the container.
+fn aimed(aim: Aim, d: Dir, kind: &NodeKind, row: Cursor<'_>, child: ConId) -> Option<ConId>
+    ensures { result ≡ aimed aim d (rung kind.now row.entry child) }
+{
+    if !runs(d, kind) {
+        return None;
+    }
+    match aim {
+        Aim::Beside => neighbour(d, child, row),
+        Aim::Around => far_end(d, row),
+        Aim::Out => Some(child),
+    }
+}
+
+/// Whether a workspace or split puts its children along the axis of the direction.
+pub(crate) fn runs(d: Dir, kind: &NodeKind) -> bool
+    ensures { result ≡ runs d kind.now }
+{
+    match kind {
+        NodeKind::Root { .. } | NodeKind::Output(_) => false,
+        NodeKind::Space(space) => axis(space.layout) == dir_axis(d),
+        NodeKind::Con(con) => runs_con(d, &con.kind),
+    }
+}
+
+/// Whether it is a split along the axis of the direction.
+pub(crate) fn runs_con(d: Dir, kind: &ConKind) -> bool
+    ensures { result ≡ runs_con d kind.now }
+{
+    match kind {
+        ConKind::Split { layout, .. } => axis(*layout) == dir_axis(d),
+        ConKind::Window { .. } | ConKind::Placeholder { .. } => false,
+    }
+}
+
+/// The axis along which a layout puts its children.
+fn axis(layout: Layout) -> Axis
+    ensures { result ≡ axis_of layout }
+{
+    match layout {
+        Layout::SplitH | Layout::Tabbed => Axis::Across,
+        Layout::SplitV | Layout::Stacked => Axis::Down,
+    }
+}
+
+fn dir_axis(d: Dir) -> Axis
+    ensures { result ≡ dir_axis d }
+{
+    match d {
+        Dir::Left | Dir::Right => Axis::Across,
+        Dir::Up | Dir::Down => Axis::Down,
+    }
+}
+
+/// Whether the direction is towards the end of a row.
+pub(crate) fn is_forward(d: Dir) -> bool
+    ensures { result ≡ is_forward d }
+{
+    match d {
+        Dir::Left | Dir::Up => false,
+        Dir::Right | Dir::Down => true,
+    }
+}
+
+/// The node's neighbour in the row on that side.
+fn neighbour(d: Dir, con: ConId, row: Cursor<'_>) -> Option<ConId>
+    ensures { result ≡ neighbour d con row.entry }
+{
+    if is_forward(d) {
+        after(row, con)
+    } else {
+        before(row, con)
+    }
+}
+
+/// The node at the other end than that of the direction, in a row of two or more.
+fn far_end(d: Dir, row: Cursor<'_>) -> Option<ConId>
+    ensures { result ≡ far_end d row.entry }
+{
+    row.rest().part()?;
+    if is_forward(d) {
+        first_id(&row)
+    } else {
+        last_id(row)
+    }
+}
+
+fn first_id(row: &Cursor<'_>) -> Option<ConId>
+    ensures { result ≡ first_id row.now }
+{
+    Some(row.part()?.id)
+}
+
+fn last_id(row: Cursor<'_>) -> Option<ConId>
+    ensures { result ≡ last_id row.entry }
+{
+    let part = row.part()?;
+    last_id(row.rest()).or(Some(part.id))
+}
+
+/// The node after this one in the row.
+fn after(row: Cursor<'_>, con: ConId) -> Option<ConId>
+    ensures { result ≡ after con row.entry }
+{
+    let part = row.part()?;
+    let rest = row.rest();
+    if part.id == con {
+        first_id(&rest)
+    } else {
+        after(rest, con)
+    }
+}
+
+/// The node before this one in the row.
+fn before(row: Cursor<'_>, con: ConId) -> Option<ConId>
+    ensures { result ≡ before con row.entry }
+{
+    let part = row.part()?;
+    let rest = row.rest();
+    if first_id(&rest) == Some(con) {
+        Some(part.id)
+    } else {
+        before(rest, con)
+    }
+}

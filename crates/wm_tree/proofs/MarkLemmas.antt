@@ -1,0 +1,144 @@
+-- Other marks of a container keep what holds of every tree.
+use Rattle.std.proofs.Common.{◌≡◌, ℕ, suc, ◌+◌, ◌≤◌, ◌<◌, Bool, true, false, cond, leb, ◌||◌, not, inl, List, [], ◌∷◌, ◌++◌, length, refl, ap, sym, ◌∙◌, subst, arith}
+use Rattle.std.proofs.lemmas.Bool.Decides.{nat_tests}
+use Rattle.std.specs.Str.{bytes_eq}
+use Rattle.wm_base.specs.declared.ids.ConId.{ConId}
+use Rattle.wm_tree.specs.declared.part.Part.{Part}
+use Rattle.wm_tree.specs.declared.part.NodeKind.{NodeKind}
+use Rattle.wm_tree.specs.declared.part.NodeKind.TheVariants.{Root, Output, Space, Con}
+use Rattle.wm_tree.specs.declared.spot.Spot.{Spot}
+use Rattle.wm_tree.specs.Forest.{Forest, end, con}
+use Rattle.wm_tree.specs.Change.{at, nobody}
+use Rattle.wm_tree.specs.Counts.{con_of, mark_count, row_with}
+use Rattle.wm_tree.specs.Look.{first_marks, only}
+use Rattle.wm_tree.specs.Move.{is_full_of_marks, marked, marks_in, marks_word, other_marks, unmark_word, unmarked}
+use Rattle.wm_tree.specs.Sound.{Level, roots, outputs, spaces, containers, IsNode, IsSound, IsSoundRow, one_of, rank_of}
+use Rattle.wm_tree.specs.Spot.{top}
+use Rattle.wm_tree.specs.TreeValue.{TreeValue, root}
+use Rattle.wm_tree.proofs.ChangeLemmas.{by_change}
+use Rattle.wm_tree.proofs.CountLemmas.{count-same}
+use Rattle.wm_tree.proofs.PutLemmas.{Here, IsConFirst, con_level}
+use Rattle.wm_tree.proofs.RowLemmas.{same_row, behind_row, Grows, keeps_by, node_keeps}
+
+other_shorter : (n : List ℕ) (marks : List (List ℕ)) → length (other_marks n marks) ≤ length marks
+other_shorter n [] = omega arith
+other_shorter n (m ∷ ms) = step (not (bytes_eq m n)) (other_shorter n ms)
+  where
+    step : (b : Bool) → length (other_marks n ms) ≤ length ms → length (cond b (m ∷ other_marks n ms) (other_marks n ms)) ≤ suc (length ms)
+    step true h = omega (arith, h)
+    step false h = omega (arith, h)
+
+con_marks : (tiled : Bool) (room : ℕ) (id : ConId) (kind : NodeKind) (old new : List (List ℕ)) (kids : Forest) → length new ≤ 32 → IsNode containers tiled room id kind old kids → IsNode containers tiled room id kind new kids
+con_marks tiled room id (Root c) old new kids few h = absurd h
+con_marks tiled room id (Output o) old new kids few h = absurd h
+con_marks tiled room id (Space w) old new kids few h = absurd h
+con_marks tiled room id (Con c) old new kids few h = (h.0, h.1, few, h.3)
+
+unmarked_node : (n : List ℕ) (l : Level) (tiled : Bool) (room : ℕ) (id : ConId) (kind : NodeKind) (marks : List (List ℕ)) (kids : Forest) → IsNode l tiled room id kind marks kids → IsNode l tiled room id kind (other_marks n marks) kids
+unmarked_node n roots tiled room id (Root c) marks kids h = (h.0, h.1, ap (other_marks n) h.2)
+unmarked_node n roots tiled room id (Output o) marks kids h = absurd h
+unmarked_node n roots tiled room id (Space w) marks kids h = absurd h
+unmarked_node n roots tiled room id (Con c) marks kids h = absurd h
+unmarked_node n outputs tiled room id (Root c) marks kids h = absurd h
+unmarked_node n outputs tiled room id (Output o) marks kids h = (h.0, h.1, ap (other_marks n) h.2)
+unmarked_node n outputs tiled room id (Space w) marks kids h = absurd h
+unmarked_node n outputs tiled room id (Con c) marks kids h = absurd h
+unmarked_node n spaces tiled room id (Root c) marks kids h = absurd h
+unmarked_node n spaces tiled room id (Output o) marks kids h = absurd h
+unmarked_node n spaces tiled room id (Space w) marks kids h = ap (other_marks n) h
+unmarked_node n spaces tiled room id (Con c) marks kids h = absurd h
+unmarked_node n containers tiled room id (Root c) marks kids h = absurd h
+unmarked_node n containers tiled room id (Output o) marks kids h = absurd h
+unmarked_node n containers tiled room id (Space w) marks kids h = absurd h
+unmarked_node n containers tiled room id (Con c) marks kids h = (h.0, h.1, omega (arith, other_shorter n marks, h.2), h.3)
+
+shaped-marks : (c : ConId) (marks : List (List ℕ)) (l : Level) (s : Spot) (forest : Forest) → IsConFirst (only c forest) → length marks ≤ 32 → IsSoundRow l s.tiled s.room forest
+    → Grows 0 l s.tiled s.room forest forest (at c marks_word marks forest) (row_with c forest forest)
+shaped-marks c marks l s forest ok few p = keeps_by IsNode node_keeps c marks_word marks 0 (λ found sp st. IsConFirst found) (λ found sp st h. inl refl) here l s forest forest ok p
+  where
+    here : (l : Level) (s : Spot) (whole : Forest) (part : Part) (kids floats rest : Forest) → IsConFirst (con part kids floats end) → Here 0 l s (con part kids floats rest) (con (record part { marks = marks }) kids floats rest)
+    here l s whole part kids floats rest ok p =
+        let At : Level → Type 0 = λ l. Here 0 l s (con part kids floats rest) (con (record part { marks = marks }) kids floats rest) in
+        subst At (con_level l s.tiled s.room part.id part.kind part.marks kids ok p.0)
+        (λ q. ((con_marks s.tiled s.room part.id part.kind part.marks marks kids few q.0, q.1, q.2, q.3, q.4), tt, omega arith)) p
+
+shaped-unmarked : (c : ConId) (n : List ℕ) (l : Level) (s : Spot) (forest : Forest) → IsSoundRow l s.tiled s.room forest
+    → Grows 0 l s.tiled s.room forest forest (at c unmark_word n forest) (row_with c forest forest)
+shaped-unmarked c n l s forest p = keeps_by IsNode node_keeps c unmark_word n 0 (λ found sp st. Unit {0}) (λ found sp st h. inl refl) here l s forest forest tt p
+  where
+    here : (l : Level) (s : Spot) (whole : Forest) (part : Part) (kids floats rest : Forest) → Unit {0} → Here 0 l s (con part kids floats rest) (con (record part { marks = other_marks n part.marks }) kids floats rest)
+    here l s whole part kids floats rest ok p =
+        ((unmarked_node n l s.tiled s.room part.id part.kind part.marks kids p.0, p.1, p.2, p.3, p.4), behind_row l part (record part { marks = other_marks n part.marks }) kids floats rest kids floats rest refl (same_row l rest), omega arith)
+
+-- the marks that a node is given, where it is there
+abbrev given : ℕ → Forest → ℕ
+given n end = 0
+given n (con part kids floats rest) = n
+
+-- other marks in the place of those that the node had
+count_marks : (c : ConId) (marks : List (List ℕ)) (f : Forest) → mark_count (at c marks_word marks f) + length (first_marks (only c f)) ≡ mark_count f + given (length marks) (only c f)
+count_marks c marks =
+    by_change c marks_word marks (λ old new found. mark_count new + length (first_marks found) ≡ mark_count old + given (length marks) found) refl
+    (λ part kids floats rest. omega arith)
+    (λ part kids floats rest new found h. omega (arith, h))
+    (λ part kids floats rest new found h. omega (arith, h))
+    (λ part kids floats rest new found h. omega (arith, h))
+
+given_most : (n : ℕ) (found : Forest) → given n found ≤ n
+given_most n end = omega arith
+given_most n (con part kids floats rest) = omega arith
+
+count_unmarked : (c : ConId) (n : List ℕ) (f : Forest) → mark_count (at c unmark_word n f) ≤ mark_count f
+count_unmarked c n =
+    by_change c unmark_word n (λ old new found. mark_count new ≤ mark_count old) (omega arith)
+    (λ part kids floats rest. omega (arith, other_shorter n part.marks))
+    (λ part kids floats rest new found h. omega (arith, h))
+    (λ part kids floats rest new found h. omega (arith, h))
+    (λ part kids floats rest new found h. omega (arith, h))
+
+room_for_mark : (all own : ℕ) → (leb 1024 all || leb 32 own) ≡ false → (all < 1024) × (own < 32)
+room_for_mark all own h = by_tests (leb 1024 all) (leb 32 own) refl refl h
+  where
+    by_tests : (a b : Bool) → leb 1024 all ≡ a → leb 32 own ≡ b → (a || b) ≡ false → (all < 1024) × (own < 32)
+    by_tests true b ea eb h = cc
+    by_tests false true ea eb h = cc
+    by_tests false false ea eb h = (grind (arith, nat_tests), grind (arith, nat_tests))
+
+length_last : (xs : List (List ℕ)) (n : List ℕ) → length (xs ++ n ∷ []) ≡ length xs + 1
+length_last [] n = omega arith
+length_last (x ∷ xs) n = omega (arith, length_last xs n)
+
+pub sound-marked : (c : ConId) (n : List ℕ) (t : TreeValue) → IsConFirst (only c t.nodes) → is_full_of_marks c t.nodes ≡ false → IsSound t → IsSound (marked c n t)
+sound-marked c n t ok none s =
+    let marks : List (List ℕ) = marks_in c t.nodes ++ n ∷ [] in
+    let room = room_for_mark (mark_count t.nodes) (length (marks_in c t.nodes)) none in
+    let long = length_last (marks_in c t.nodes) n in
+    let g = shaped-marks c marks roots top t.nodes ok (omega (arith, long, room.1)) s.shaped in
+    record {
+      shaped = g.sound;
+      rooted = g.keeps root s.rooted;
+      once = λ i. omega (arith, count-same (one_of i) c marks_word marks (λ part kids floats rest. refl) t.nodes, s.once i);
+      fresh = λ i above. omega (arith, count-same (one_of i) c marks_word marks (λ part kids floats rest. refl) t.nodes, s.fresh i above);
+      low = omega (arith, count-same (one_of nobody) c marks_word marks (λ part kids floats rest. refl) t.nodes, s.low);
+      above = s.above;
+      known = λ i. s.known i ∙ sym (count-same (rank_of i) c marks_word marks (λ part kids floats rest. refl) t.nodes);
+      few = omega (arith, count-same con_of c marks_word marks (λ part kids floats rest. refl) t.nodes, s.few);
+      few_marks = omega (arith, count_marks c marks t.nodes, given_most (length marks) (only c t.nodes), long, room.0);
+      ids = s.ids;
+    }
+
+pub sound-unmarked : (c : ConId) (n : List ℕ) (t : TreeValue) → IsSound t → IsSound (unmarked c n t)
+sound-unmarked c n t s =
+    let g = shaped-unmarked c n roots top t.nodes s.shaped in
+    record {
+      shaped = g.sound;
+      rooted = g.keeps root s.rooted;
+      once = λ i. omega (arith, count-same (one_of i) c unmark_word n (λ part kids floats rest. refl) t.nodes, s.once i);
+      fresh = λ i above. omega (arith, count-same (one_of i) c unmark_word n (λ part kids floats rest. refl) t.nodes, s.fresh i above);
+      low = omega (arith, count-same (one_of nobody) c unmark_word n (λ part kids floats rest. refl) t.nodes, s.low);
+      above = s.above;
+      known = λ i. s.known i ∙ sym (count-same (rank_of i) c unmark_word n (λ part kids floats rest. refl) t.nodes);
+      few = omega (arith, count-same con_of c unmark_word n (λ part kids floats rest. refl) t.nodes, s.few);
+      few_marks = omega (arith, count_unmarked c n t.nodes, s.few_marks);
+      ids = s.ids;
+    }

@@ -1,0 +1,11 @@
+use Rattle.std.proofs.Common.{arith, rules}
+use Rattle.std.proofs.lemmas.Grind.{common_steps}
+use Rattle.wm_tree.specs.declared.kind.KindEdit.TheVariants as edits
+use Rattle.wm_tree.specs.Words.{edited}
+use Rattle.wm_tree.proofs.EditLemmas.{fits_gaps}
+use Rattle.wm_tree.proofs.SoundLemmas.{as_is, sound-edited}
+use Rattle.wm_tree.proofs.tree.Tree.set_gaps.Goals as goal
+
+pub returns-clause-sound : goal.returns-clause-sound
+returns-clause-sound c =
+    λ s. as_is (edited c.args.w (edits.Gaps c.args.inner c.args.outer) c.args.self.now) _ (first_of (search rules, grind (arith, common_steps))) (sound-edited c.args.w (edits.Gaps c.args.inner c.args.outer) c.args.self.now (fits_gaps c.args.inner c.args.outer _ _) s)

@@ -1,0 +1,11 @@
+use Rattle.std.proofs.Common.{arith, rules}
+use Rattle.std.proofs.lemmas.Grind.{common_steps}
+use Rattle.wm_tree.specs.declared.kind.KindEdit.TheVariants as edits
+use Rattle.wm_tree.specs.Words.{edited}
+use Rattle.wm_tree.proofs.EditLemmas.{fits_state}
+use Rattle.wm_tree.proofs.SoundLemmas.{as_is, sound-edited}
+use Rattle.wm_tree.proofs.tree.Tree.set_state.Goals as goal
+
+pub returns-clause-sound : goal.returns-clause-sound
+returns-clause-sound c =
+    λ s. as_is (edited c.args.con (edits.State c.args.s) c.args.self.now) _ (first_of (search rules, grind (arith, common_steps))) (sound-edited c.args.con (edits.State c.args.s) c.args.self.now (fits_state c.args.s _ _) s)

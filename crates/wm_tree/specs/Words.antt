@@ -1,0 +1,60 @@
+-- The words in which trees change: each gives the tree back where the node is not there.
+use Rattle.std.specs.Prelude.{◌≡◌, ◌+◌, true, false, [], ◌∷◌, ◌++◌, Option, None, Some}
+use Rattle.wm_base.specs.declared.ids.ConId.{ConId}
+use Rattle.wm_tree.specs.declared.kind.KindEdit.{KindEdit}
+use Rattle.wm_tree.specs.declared.place.Place.{Place}
+use Rattle.wm_tree.specs.declared.place.NewCon.{NewCon}
+use Rattle.wm_tree.specs.declared.place.TreeRefusal.{TreeRefusal}
+use Rattle.wm_tree.specs.declared.place.TreeRefusal.TheVariants as refusals
+use Rattle.wm_tree.specs.Forest.{Forest, end, con}
+use Rattle.wm_tree.specs.Change.{at, raised_in, settled_row, without}
+use Rattle.wm_tree.specs.Kinds.{kind_changed}
+use Rattle.wm_tree.specs.Look.{has, only}
+use Rattle.wm_tree.specs.Place.{named, new_part, passed_limit, put, rect_at, share_at}
+use Rattle.wm_tree.specs.Recency.{outside, raised, without_id}
+use Rattle.wm_tree.specs.Settle.{vacated}
+use Rattle.wm_tree.specs.TreeValue.{TreeValue, id, workspace_of}
+
+-- a newcomer at the place, under the next id, the least recent of all
+abbrev pub attached : Place → NewCon → TreeValue → TreeValue
+attached p newcomer t = record t {
+  nodes = put p (con (new_part (id t.next_id) (share_at p t.nodes) t.border (rect_at p) newcomer) end end end) t.nodes;
+  recency = t.recency ++ id t.next_id ∷ [];
+  next_id = t.next_id + 1;
+}
+
+-- the tree without the node c and what is below it
+abbrev pub detached : ConId → TreeValue → TreeValue
+detached c t = record t {
+  nodes = without c t.nodes;
+  recency = outside (only c t.nodes) t.recency;
+  urgent = outside (only c t.nodes) t.urgent;
+}
+
+-- the tree with a change of the node c
+abbrev pub edited : ConId → KindEdit → TreeValue → TreeValue
+edited c edit t = record t { nodes = at c kind_changed edit t.nodes }
+
+-- the forest in which c is raised in this workspace
+abbrev pub raised_at : ConId → Option ConId → Forest → Forest
+raised_at c None forest = forest
+raised_at c (Some w) forest = at w raised_in c forest
+
+-- the node c is the most recent, no longer urgent, the last of the floating windows where it is one of them,
+-- and no other container of its workspace is fullscreen
+abbrev pub with_raised : ConId → TreeValue → TreeValue
+with_raised c t = record t {
+  nodes = raised_at c (workspace_of t c) t.nodes;
+  recency = raised c t.recency;
+  urgent = without_id c t.urgent;
+}
+
+-- the tree without splits that have no children, and then without workspaces that have no containers and are not shown
+abbrev pub settled : TreeValue → TreeValue
+settled t = record t { nodes = settled_row None t.nodes; recency = outside (vacated None t.nodes) t.recency }
+
+-- why putting a newcomer at a place was refused
+abbrev pub IsAttachCause : TreeValue → Place → TreeRefusal → Type 0
+IsAttachCause t p (refusals.Missing c) = (c ≡ named p) × (has (named p) t.nodes ≡ false)
+IsAttachCause t p (refusals.Full limit) = (has (named p) t.nodes ≡ true) × (passed_limit p t.nodes t.next_id ≡ Some limit)
+IsAttachCause t p refusals.NoMemory = (has (named p) t.nodes ≡ true) × (passed_limit p t.nodes t.next_id ≡ None)

@@ -1,0 +1,148 @@
+//! Marks of containers, and urgent windows.
+ghost use Rattle.std.specs.Prelude.{None, ◌≢◌, ◌≡◌, ◌++◌, ◌∷◌, ◌≤◌, [], false, true, Err, IfOk, IfErr, OnOk, OnErr};
+ghost use Rattle.wm_tree.specs.Look.{con_kind, has, kind_of};
+ghost use Rattle.wm_tree.specs.Sound.{IsSound};
+ghost use Rattle.wm_tree.specs.Move.{is_full_of_marks, marked, marks_in, marks_word, other_marks, unmark_word, unmarked, IsMarkCause};
+ghost use Rattle.wm_tree.specs.Recency.{without_id};
+ghost use Rattle.wm_tree.specs.declared.place.TreeRefusal.TheVariants.{Full, Missing};
+ghost use Rattle.wm_tree.specs.declared.place.TreeRefusal.TheVariants as refusals;
+ghost use Rattle.wm_base.specs.declared.errors.Limit.TheVariants as limits;
+
+use crate::attach::full;
+use crate::copy::copy_texts_and;
+use crate::edit::Edit;
+use crate::place::TreeRefusal;
+use crate::recency;
+use crate::row::{Cell, Row};
+use crate::tree::Tree;
+use std::alloc::Global;
+use std::mem;
+use wm_base::{ConId, Limit, List, Text};
+
+/// How many marks a tree has at most.
+const MAX_MARKS: usize = 1_024;
+
+/// How many marks a container has at most.
+const MAX_MARKS_OF_ONE: usize = 32;
+
+/// Other marks for a container.
+#[derive(Drop)]
+struct SetMarks(List<Text>);
+
+impl Edit for SetMarks {
+    ghost word = { λ x. marks_word x.0 };
+
+    fn edit(self, row: &mut Row) {
+        let SetMarks(marks) = self;
+        if let Some(cell) = &mut row.first {
+            cell.part.marks = marks;
+        }
+    }
+}
+
+/// Taking a mark from a container.
+#[derive(Drop)]
+struct Unmark<'a> {
+    alloc: Global,
+    name: &'a Text,
+}
+
+impl<'a> Edit for Unmark<'a> {
+    ghost word = { λ x. unmark_word x.name.now };
+
+    fn edit(self, row: &mut Row) {
+        if let Some(cell) = &mut row.first {
+            cell.unmark(self.alloc, self.name);
+        }
+    }
+}
+
+impl Cell {
+    /// Takes a mark from the node.
+    fn unmark(&mut self, alloc: Global, name: &Text)
+        ensures part { self.new.part ≡ record self.old.part { marks = other_marks name.now self.old.part.marks } }
+        ensures rest { (self.new.kids ≡ self.old.kids) × (self.new.floats ≡ self.old.floats) × (self.new.rest ≡ self.old.rest) }
+    {
+        let marks = mem::replace(&mut self.part.marks, List::of(Vec::new(alloc)));
+        let mut marks = marks.into_vec();
+        retain_others(&mut marks, name.as_str());
+        self.part.marks = List::of(marks);
+    }
+}
+
+/// Takes a mark out, wherever it stands.
+fn retain_others(marks: &mut Vec<Text>, name: &str)
+    ensures { marks.new.items ≡ other_marks name.now marks.old.items }
+{
+    marks.retain(|mark| mark.as_str() != name);
+}
+
+impl Tree {
+    /// Puts the mark last among the container's. No container has it yet, and it has 1 to 256 bytes.
+    pub fn add_mark(&mut self, con: ConId, n: &Text) -> Result<(), TreeRefusal>
+        ensures ok { OnOk result (self.new ≡ marked con n.now self.old) }
+        ensures sound { (has con self.old.nodes ≡ true → kind_of con_kind con self.old.nodes ≢ None) →
+            IsSound self.old → IsSound self.new }
+        ensures err { OnErr result (self.new ≡ self.old) }
+        ensures missing { has con self.old.nodes ≡ false → result ≡ Err (Missing con) }
+        ensures full { has con self.old.nodes ≡ true → is_full_of_marks con self.old.nodes ≡ true →
+            result ≡ Err (Full limits.Marks) }
+        ensures cause { IfErr result (IsMarkCause self.old con) }
+    {
+        let marks = self.with_mark(con, n)?;
+        self.nodes.change(con, SetMarks(marks));
+        Ok(())
+    }
+
+    /// The container's marks with this one last, where it is there and no limit is passed.
+    fn with_mark(&self, con: ConId, n: &Text) -> Result<List<Text>, TreeRefusal>
+        ensures ok { IfOk result (λ marks. marks ≡ marks_in con self.now.nodes ++ n.now ∷ []) }
+        ensures there { OnOk result ((has con self.now.nodes ≡ true) × (is_full_of_marks con self.now.nodes ≡ false)) }
+        ensures cause { IfErr result (IsMarkCause self.now con) }
+    {
+        let Some(cell) = self.nodes.find(con) else {
+            return Err(TreeRefusal::Missing(con));
+        };
+        if self.nodes.marks_up_to(MAX_MARKS) == MAX_MARKS {
+            return Err(full(Limit::Marks));
+        }
+        let marks = cell.part.marks.items();
+        if marks.len() >= MAX_MARKS_OF_ONE {
+            return Err(full(Limit::Marks));
+        }
+        Ok(copy_texts_and(self.alloc, marks, n)?)
+    }
+
+    /// Takes the mark from the container.
+    pub fn remove_mark(&mut self, con: ConId, n: &Text)
+        ensures tree { self.new ≡ unmarked con n.now self.old }
+        ensures sound { IsSound self.old → IsSound self.new }
+    {
+        let alloc = self.alloc;
+        self.nodes.change(con, Unmark { alloc, name: n });
+    }
+
+    /// Puts the window last among the urgent ones. It is not urgent yet.
+    pub fn add_urgent(&mut self, con: ConId) -> Result<(), TreeRefusal>
+        ensures ok { OnOk result (self.new ≡ record self.old { urgent = self.old.urgent ++ con ∷ [] }) }
+        ensures sound { IsSound self.old → IsSound self.new }
+        ensures err { OnErr result (self.new ≡ self.old) }
+        ensures missing { has con self.old.nodes ≡ false → result ≡ Err (Missing con) }
+        ensures cause { IfErr result (λ e. (has con self.old.nodes ≡ true) → e ≡ refusals.NoMemory) }
+    {
+        if !self.nodes.has(con) {
+            return Err(TreeRefusal::Missing(con));
+        }
+        self.urgent.reserve(1)?;
+        self.urgent.push_reserved(con);
+        Ok(())
+    }
+
+    /// Takes the urgency from the container.
+    pub fn remove_urgent(&mut self, con: ConId)
+        ensures tree { self.new ≡ record self.old { urgent = without_id con self.old.urgent } }
+        ensures sound { IsSound self.old → IsSound self.new }
+    {
+        recency::remove(&mut self.urgent, con);
+    }
+}

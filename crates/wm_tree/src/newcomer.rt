@@ -1,0 +1,61 @@
+//! Where a new window goes.
+ghost use Rattle.std.specs.Prelude.{◌≡◌, true};
+ghost use Rattle.wm_tree.specs.Look.{has};
+ghost use Rattle.wm_tree.specs.Place.{IsPlace, named};
+ghost use Rattle.wm_tree.specs.Sound.{IsSound};
+ghost use Rattle.wm_tree.specs.TreeValue.{is_con_kind, is_tiled_con, newcomer_place};
+
+use crate::part::NodeKind;
+use crate::place::Place;
+use crate::tree::Tree;
+use wm_base::ConId;
+
+impl Tree {
+    /// Where a new window goes: last into a focused workspace, after the focused container where that is tiled, and
+    /// after the leaf of the workspace where a floating window is focused, or last in it where nothing is tiled.
+    pub fn newcomer_place(&self) -> Place
+        ensures place { result ≡ newcomer_place self.now }
+        ensures there { IsSound self.now → has (named result) self.now.nodes ≡ true }
+        ensures fit { IsSound self.now → IsPlace result self.now.nodes }
+    {
+        self.place_of_newcomer()
+    }
+
+    fn place_of_newcomer(&self) -> Place
+        ensures { result ≡ newcomer_place self.now }
+    {
+        let shown = self.shown();
+        let focused = self.focused();
+        if focused == shown {
+            return Place::Last(shown);
+        }
+        if self.is_tiled(focused) {
+            return Place::After(focused);
+        }
+        let leaf = self.leaf(shown).unwrap_or(shown);
+        if self.is_tiled(leaf) {
+            Place::After(leaf)
+        } else {
+            Place::Last(shown)
+        }
+    }
+
+    /// Whether this is a tiled container.
+    pub fn is_tiled(&self, con: ConId) -> bool
+        ensures { result ≡ is_tiled_con self.now con }
+    {
+        match (self.nodes.find(con), self.spot(con)) {
+            (Some(cell), Some(spot)) => is_con(&cell.part.kind) && spot.tiled,
+            _ => false,
+        }
+    }
+}
+
+fn is_con(kind: &NodeKind) -> bool
+    ensures { result ≡ is_con_kind kind.now }
+{
+    match kind {
+        NodeKind::Con(_) => true,
+        NodeKind::Root { .. } | NodeKind::Output(_) | NodeKind::Space(_) => false,
+    }
+}

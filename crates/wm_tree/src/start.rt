@@ -1,0 +1,172 @@
+//! The opening tree of a plan's outputs.
+ghost use Rattle.std.specs.Prelude.{◌≡◌, ◌≤◌, ◌<◌, ◌+◌, ◌*◌, ◌∷◌, [], IfOk, length, vec_len};
+ghost use Rattle.wm_tree.specs.Forest.{end, con};
+ghost use Rattle.wm_tree.specs.Sound.{FitPlans, IsSound};
+ghost use Rattle.wm_tree.specs.TreeValue.{digit, id, ids_from, opening, opening_outputs, output_part, space_part};
+
+use crate::part::{NodeKind, OutputPart, Part, SpacePart};
+use crate::place::short_text;
+use crate::row::{Cell, Row};
+use crate::tree::{ROOT, Tree};
+use std::alloc::{AllocError, Global};
+use wm_base::{Border, ConId, Layout, List, NoMemory, OutputPlan};
+
+impl Tree {
+    /// The opening tree of these outputs: root 1, then an id for each output, then one for each workspace. Output k
+    /// shows an empty workspace named by the number k, and the first output is current. Containers and workspaces
+    /// get this border and these gaps.
+    pub fn start(
+        alloc: Global,
+        outputs: &[OutputPlan],
+        border: Border,
+        inner: u32,
+        outer: u32,
+    ) -> Result<Tree, NoMemory>
+        requires { length outputs.now ≤ 8 }
+        ensures tree { IfOk result (λ tree. tree ≡ opening outputs.now border inner outer) }
+        ensures sound { 1 ≤ length outputs.now → FitPlans outputs.now → IfOk result (λ tree. IsSound tree) }
+    {
+        let count = outputs.len() as u32;
+        let root = Part {
+            id: ROOT,
+            kind: NodeKind::Root { current: ConId(2) },
+            marks: List::of(Vec::new(alloc)),
+        };
+        let kids = opening_outputs(alloc, 1, 1 + count, inner, outer, outputs)?;
+        let recency = ids_from(alloc, 2 + count, outputs)?;
+        let nodes = row_over(alloc, root, kids)?;
+        Ok(Tree {
+            alloc,
+            nodes,
+            recency,
+            urgent: Vec::new(alloc),
+            previous: None,
+            next_id: 2 + 2 * count,
+            border,
+            inner,
+            outer,
+            spare: Box::new(alloc, Cell::hole(alloc))?,
+        })
+    }
+}
+
+/// A row of one node over these children.
+fn row_over(alloc: Global, part: Part, kids: Row) -> Result<Row, AllocError>
+    ensures { IfOk result (λ row. row ≡ con part kids end end) }
+{
+    let cell = Cell {
+        part,
+        kids,
+        floats: Row::new(),
+        rest: Row::new(),
+    };
+    let cell = Box::new(alloc, cell)?;
+    Ok(Row { first: Some(cell) })
+}
+
+/// Outputs of these plans, numbered from k: output k has the id k + 1, and its workspace the id `last` + k.
+fn opening_outputs(
+    alloc: Global,
+    k: u32,
+    last: u32,
+    inner: u32,
+    outer: u32,
+    plans: &[OutputPlan],
+) -> Result<Row, NoMemory>
+    requires few { k + length plans.now ≤ 9 }
+    requires low { last ≤ 9 }
+    requires some { 1 ≤ k }
+    ensures { IfOk result (λ row. row ≡ opening_outputs k last inner outer plans.now) }
+{
+    let [plan, rest @ ..] = plans else {
+        return Ok(Row::new());
+    };
+    let behind = opening_outputs(alloc, k + 1, last, inner, outer, rest)?;
+    let shown = ConId(last + k);
+    let space = space_part(alloc, shown, k, inner, outer)?;
+    let cell = Cell {
+        part: output_part(alloc, ConId(k + 1), plan, shown)?,
+        kids: Row::of(alloc, space)?,
+        floats: Row::new(),
+        rest: behind,
+    };
+    let cell = Box::new(alloc, cell)?;
+    Ok(Row { first: Some(cell) })
+}
+
+/// An output of this plan.
+fn output_part(
+    alloc: Global,
+    id: ConId,
+    plan: &OutputPlan,
+    shown: ConId,
+) -> Result<Part, AllocError>
+    ensures { IfOk result (λ part. part ≡ output_part id plan.now shown) }
+{
+    let output = OutputPart {
+        name: plan.name.clone()?,
+        rect: plan.rect,
+        reserved: plan.reserved,
+        shown,
+    };
+    Ok(Part {
+        id,
+        kind: NodeKind::Output(output),
+        marks: List::of(Vec::new(alloc)),
+    })
+}
+
+/// An empty workspace named by the number k.
+fn space_part(alloc: Global, id: ConId, k: u32, inner: u32, outer: u32) -> Result<Part, NoMemory>
+    requires few { k ≤ 8 }
+    requires some { 1 ≤ k }
+    ensures { IfOk result (λ part. part ≡ space_part id (digit k) inner outer) }
+{
+    let space = SpacePart {
+        name: short_text(alloc, digit(k))?,
+        layout: Layout::SplitH,
+        last_split: Layout::SplitH,
+        inner,
+        outer,
+    };
+    Ok(Part {
+        id,
+        kind: NodeKind::Space(space),
+        marks: List::of(Vec::new(alloc)),
+    })
+}
+
+/// The digit of a number from 1 to 8.
+fn digit(k: u32) -> &'static str
+    requires few { k ≤ 8 }
+    requires some { 1 ≤ k }
+    ensures { result.now ≡ digit k }
+{
+    match k {
+        1 => "1",
+        2 => "2",
+        3 => "3",
+        4 => "4",
+        5 => "5",
+        6 => "6",
+        7 => "7",
+        _ => "8",
+    }
+}
+
+/// As many ids as there are plans, from n on.
+fn ids_from(alloc: Global, n: u32, plans: &[OutputPlan]) -> Result<Vec<ConId>, AllocError>
+    requires few { length plans.now ≤ 8 }
+    requires low { n ≤ 10 }
+    ensures { IfOk result (λ ids. ids.items ≡ ids_from n plans.now) }
+{
+    let mut ids = Vec::with_capacity(alloc, plans.len())?;
+    let mut next = n;
+    let mut rest = plans;
+    while let [_, after @ ..] = rest {
+        ids.push(ConId(next))?;
+        next += 1;
+        rest = after;
+    }
+    Ok(ids)
+}

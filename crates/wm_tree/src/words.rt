@@ -1,0 +1,122 @@
+//! Taking containers out of the tree, changing them, raising and settling.
+ghost use Rattle.std.specs.Prelude.{◌≡◌, ◌≢◌, ◌≤◌, ◌+◌, false, true, Err, IsOk, None, Some, slice_get};
+ghost use Rattle.wm_tree.specs.Look.{con_kind, has, kind_of, only};
+ghost use Rattle.wm_tree.specs.Words.{detached, edited, raised_at, settled, with_raised};
+ghost use Rattle.wm_tree.specs.Change.{raised_in};
+ghost use Rattle.wm_tree.specs.Place.{IsTiled};
+ghost use Rattle.wm_tree.specs.Recency.{inside, lists, without_id};
+ghost use Rattle.wm_tree.specs.Settle.{is_settled, vacated};
+ghost use Rattle.wm_tree.specs.Sound.{IsSound, tally};
+ghost use Rattle.wm_base.specs.declared.ids.ConId.{ConId};
+ghost use Rattle.wm_tree.specs.declared.kind.KindEdit.TheVariants as edits;
+ghost use Rattle.wm_tree.specs.declared.place.TreeRefusal.TheVariants.{Missing};
+
+use crate::edit::Edit;
+use crate::kind::KindEdit;
+use crate::place::TreeRefusal;
+use crate::recency;
+use crate::row::Row;
+use crate::tree::Tree;
+use wm_base::{ConId, Layout};
+
+/// Raising a container in its workspace.
+#[derive(Drop)]
+struct RaiseIn(ConId);
+
+impl Edit for RaiseIn {
+    ghost word = { λ x. raised_in x.0 };
+
+    fn edit(self, row: &mut Row) {
+        let RaiseIn(con) = self;
+        if let Some(cell) = &mut row.first {
+            cell.kids.clear_fullscreen(con);
+            cell.floats.clear_fullscreen(con);
+            cell.floats.put_at_end(con);
+        }
+    }
+}
+
+impl Tree {
+    /// Takes the container out with all that is below it. The id, where it is there, is that of a container.
+    #[tactic(auto, using(crate::proofs::ForestLemmas::at_absent, crate::proofs::ForestLemmas::outside_end, crate::proofs::ForestLemmas::only_absent))]
+    pub fn detach(&mut self, con: ConId) -> Result<(), TreeRefusal>
+        ensures missing { has con self.old.nodes ≡ false → result ≡ Err (Missing con) }
+        ensures there { has con self.old.nodes ≡ true → IsOk result }
+        ensures tree { self.new ≡ detached con self.old }
+        ensures none_new { (v : ConId) → has v self.new.nodes ≡ true → has v self.old.nodes ≡ true }
+        ensures gone { IsSound self.old → has con self.new.nodes ≡ false }
+        ensures lost { (i : ConId) → tally i self.new.nodes + tally i (only con self.old.nodes) ≡ tally i self.old.nodes }
+        ensures sound { (has con self.old.nodes ≡ true → kind_of con_kind con self.old.nodes ≢ None) →
+            IsSound self.old → IsSound self.new }
+    {
+        let Some(gone) = self.nodes.take_out(con) else {
+            return Err(TreeRefusal::Missing(con));
+        };
+        recency::remove_all(&mut self.recency, &gone);
+        recency::remove_all(&mut self.urgent, &gone);
+        Ok(())
+    }
+
+    /// Gives the split or workspace another layout.
+    pub fn set_layout(&mut self, con: ConId, l: Layout)
+        ensures tree { self.new ≡ edited con (edits.Layout l) self.old }
+        ensures sound { IsSound self.old → IsSound self.new }
+    {
+        self.nodes.change(con, KindEdit::Layout(l));
+    }
+
+    /// Gives the tiled container another share, from 1 to 1,048,576.
+    pub fn set_share(&mut self, con: ConId, s: u32)
+        ensures tree { self.new ≡ edited con (edits.Share s) self.old }
+        ensures sound { IsTiled con self.old.nodes → 1 ≤ s → s ≤ 1048576 → IsSound self.old → IsSound self.new }
+    {
+        self.nodes.change(con, KindEdit::Share(s));
+    }
+
+    /// Puts the container or workspace first in the order of recency and takes its urgency. A floating window comes
+    /// last among the floating windows, and any other window of its workspace loses fullscreen.
+    pub fn raise(&mut self, con: ConId)
+        ensures tree { self.new ≡ with_raised con self.old }
+        ensures sound { IsSound self.old → IsSound self.new }
+
+        // It comes first, and the others keep their order.
+        ensures first { lists con self.old.recency ≡ true → slice_get self.new.recency 0 ≡ Some con }
+        ensures others { without_id con self.new.recency ≡ without_id con self.old.recency }
+    {
+        let space = self.workspace_of(con);
+        self.nodes.raise_at(con, space);
+        recency::raise(&mut self.recency, con);
+        recency::remove(&mut self.urgent, con);
+    }
+
+    /// Removes splits without children, and then workspaces without containers that are not shown.
+    #[tactic(auto, using(crate::proofs::ForestLemmas::append_end))]
+    pub fn settle(&mut self)
+        ensures tree { self.new ≡ settled self.old }
+        ensures sound { IsSound self.old → IsSound self.new }
+
+        // Nothing is left to settle, and where there was nothing the tree is as it was.
+        ensures settled { is_settled None self.new.nodes ≡ true }
+        ensures same { is_settled None self.old.nodes ≡ true → self.new ≡ self.old }
+        ensures twice { settled self.new ≡ self.new }
+
+        // What is taken out and what is left make the whole, and the order of recency keeps what is left.
+        ensures taken { (i : ConId) → tally i self.new.nodes + tally i (vacated None self.old.nodes) ≡ tally i self.old.nodes }
+        ensures left { IsSound self.old → self.new.recency ≡ inside self.new.nodes self.old.recency }
+    {
+        let mut taken = Row::new();
+        self.nodes.settle(None, &mut taken);
+        recency::remove_all(&mut self.recency, &taken);
+    }
+}
+
+impl Row {
+    /// Raises the container in this workspace, where there is one.
+    fn raise_at(&mut self, con: ConId, space: Option<ConId>)
+        ensures { self.new ≡ raised_at con space self.old }
+    {
+        if let Some(space) = space {
+            self.change(space, RaiseIn(con));
+        }
+    }
+}
