@@ -5,6 +5,7 @@ use Rattle.wm_base.specs.declared.geometry.Dir.{Dir}
 use Rattle.wm_base.specs.declared.ids.ConId.{ConId}
 use Rattle.wm_base.specs.declared.plan.Layout.{Layout}
 use Rattle.wm_criteria.specs.declared.verdict.Verdict.{Verdict}
+use Rattle.wm_focus.specs.Moves.{beside, entry, held_out, is_split_con, out_tree, side_of, step_tree, turned}
 use Rattle.wm_focus.specs.Parents.{raised_some}
 use Rattle.wm_focus.specs.Marks.{given_mark, is_marked, mark_tree, unmark_all, unmark_one, unmark_tree}
 use Rattle.wm_focus.specs.Swaps.{exchanged_with, moved_after}
@@ -71,6 +72,21 @@ ids_mark c n add toggle t = step (toggle && is_marked c n t)
     step true = ids_same t (unmarked c n t) refl refl
     step false = ids_same t (given_mark c n add t) refl refl
 
+ids_turned : (c n : ConId) (t : TreeValue) → IdsRise t (turned c n t)
+ids_turned c n t = ids_same t (turned c n t) refl refl
+
+ids_out : (d : Dir) (c : ConId) (child : Option ConId) (t : TreeValue) → IdsRise t (out_tree d c child t)
+ids_out d c None t = ids_refl t
+ids_out d c (Some child) t = ids_same t (moved c (side_of d child) t) refl refl
+
+ids_step : (d : Dir) (c : ConId) (n : Option ConId) (t : TreeValue) → IdsRise t (step_tree d c n t)
+ids_step d c None t = ids_out d c (held_out d c t) t
+ids_step d c (Some n) t = step (is_split_con t n)
+  where
+    step : (b : Bool) → IdsRise t (cond b (moved c (entry d n t) t) (turned c n t))
+    step true = ids_same t (moved c (entry d n t) t) refl refl
+    step false = ids_turned c n t
+
 pub ids_row : (how : How) (command : Command) (c : ConId) (t : TreeValue) → IdsRise t (row_tree how command c t)
 ids_row how (commands.Split arg) c t = ids_split c _ t
 ids_row how (commands.SetLayout arg) c t = ids_laid c _ t
@@ -79,6 +95,7 @@ ids_row how commands.Focus c t = ids_raised c t
 ids_row how (commands.FocusDir d) c t = ids_raised_some _ t
 ids_row how commands.FocusParent c t = ids_raised_some _ t
 ids_row how commands.FocusChild c t = ids_raised_some _ t
+ids_row how (commands.MoveDir d px) c t = ids_step d c (beside d c t) t
 ids_row how (commands.MoveToMark name) c t = ids_moved_after c _ t
 ids_row how (commands.Swap arg) c t = ids_exchanged c _ t
 ids_row how (commands.Mark add toggle name) c t = ids_mark c name add toggle t

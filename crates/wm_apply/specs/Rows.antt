@@ -8,6 +8,7 @@ use Rattle.wm_grammar.specs.declared.command.Command.{Command}
 use Rattle.wm_grammar.specs.declared.command.Command.TheVariants as commands
 use Rattle.wm_focus.specs.Direction.{focus_dir_refusal, focus_dir_tree}
 use Rattle.wm_focus.specs.Marks.{mark_refusal, mark_tree, unmark_refusal, unmark_tree}
+use Rattle.wm_focus.specs.Moves.{move_dir_refusal, move_dir_tree}
 use Rattle.wm_focus.specs.Parents.{focus_child_refusal, focus_child_tree, focus_parent_refusal, focus_parent_tree}
 use Rattle.wm_focus.specs.Splits.{cycle_layout_refusal, cycle_layout_tree, set_layout_refusal, set_layout_tree, split_refusal, split_tree}
 use Rattle.wm_focus.specs.Swaps.{move_to_mark_refusal, move_to_mark_tree, swap_refusal, swap_tree}
@@ -37,6 +38,7 @@ row_refusal how commands.Focus c t = focus_refusal how
 row_refusal how (commands.FocusDir d) c t = focus_dir_refusal c d t
 row_refusal how commands.FocusParent c t = focus_parent_refusal c t
 row_refusal how commands.FocusChild c t = focus_child_refusal c t
+row_refusal how (commands.MoveDir d px) c t = move_dir_refusal c d px t
 row_refusal how (commands.MoveToMark name) c t = move_to_mark_refusal c name t
 row_refusal how (commands.Swap arg) c t = swap_refusal c arg t
 row_refusal how (commands.Mark add toggle name) c t = mark_refusal c name add toggle t
@@ -52,6 +54,7 @@ row_tree how commands.Focus c t = with_raised c t
 row_tree how (commands.FocusDir d) c t = focus_dir_tree c d t
 row_tree how commands.FocusParent c t = focus_parent_tree c t
 row_tree how commands.FocusChild c t = focus_child_tree c t
+row_tree how (commands.MoveDir d px) c t = move_dir_tree c d px t
 row_tree how (commands.MoveToMark name) c t = move_to_mark_tree c name t
 row_tree how (commands.Swap arg) c t = swap_tree c arg t
 row_tree how (commands.Mark add toggle name) c t = mark_tree c name add toggle t

@@ -8,8 +8,8 @@ ghost use Rattle.wm_tree.specs.Words.{with_raised};
 
 use wm_base::{ConId, ErrorText, Refusal};
 use wm_focus::{
-    cycle_layout, focus_child, focus_dir, focus_parent, mark, move_to_mark, set_layout, split,
-    swap, unmark,
+    cycle_layout, focus_child, focus_dir, focus_parent, mark, move_dir, move_to_mark, set_layout,
+    split, swap, unmark,
 };
 use wm_grammar::Command;
 use wm_tree::Tree;
@@ -39,6 +39,7 @@ pub fn run_row(t: &mut Tree, how: How, command: &Command, con: ConId) -> Result<
         Command::FocusDir(dir) => focus_dir(t, con, *dir),
         Command::FocusParent => focus_parent(t, con),
         Command::FocusChild => focus_child(t, con),
+        Command::MoveDir(dir, px) => move_dir(t, con, *dir, *px),
         Command::MoveToMark(name) => move_to_mark(t, con, name),
         Command::Swap(arg) => swap(t, con, arg),
         Command::Mark { add, toggle, name } => mark(t, con, name, *add, *toggle),

@@ -1,5 +1,6 @@
 pub mod ArrangedLemmas
 pub mod ContentLemmas
+pub mod LookLemmas
 pub mod RowLemmas
 pub mod ScheduleLemmas
 pub mod StandsLemmas

@@ -4,6 +4,7 @@ pub mod Arranged
 pub mod DeskValue
 pub mod Frame
 pub mod History
+pub mod Look
 pub mod Schedule
 pub mod Sizes
 pub mod Slots

@@ -32,10 +32,10 @@ use wm_tree::{ConKind, NewCon, Tree, TreeRefusal, copy_props};
 /// A desk. It stands for the history of the steps that were taken on it, from the opening of its plan.
 #[derive(Drop)]
 pub struct Desk {
-    alloc: Global,
+    pub(crate) alloc: Global,
     plan: Plan,
     steps: u64,
-    tree: Tree,
+    pub(crate) tree: Tree,
     buffers: BTreeMap<u32, Buffer>,
     number: u64,
     prefix: u64,

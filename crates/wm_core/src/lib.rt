@@ -6,6 +6,7 @@ mod arrange;
 mod children;
 mod desk;
 mod frame;
+mod look;
 mod replies;
 mod step;
 #[cfg(test)]
@@ -16,5 +17,6 @@ mod text;
 
 pub use desk::Desk;
 pub use frame::{Frame, Quad, What};
+pub use look::{Query, View};
 pub use step::{Answer, Choice, Step};
 pub use text::frame_text;

@@ -1,12 +1,17 @@
 pub mod AllLemmas
 pub mod BearerLemmas
+pub mod BesideLemmas
+pub mod DownLemmas
 pub mod GiveLemmas
+pub mod KidLemmas
 pub mod LawLemmas
 pub mod MarkForests
 pub mod MarkLists
+pub mod MoveGoals
 pub mod OnlyLemmas
 pub mod RungLemmas
 pub mod SplitLemmas
 pub mod SubjectLemmas
 pub mod SwapLemmas
+pub mod TurnLemmas
 pub mod WithinLemmas

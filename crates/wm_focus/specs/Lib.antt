@@ -1,6 +1,7 @@
 pub mod Direction
 pub mod Laws
 pub mod Marks
+pub mod Moves
 pub mod Parents
 pub mod Refusing
 pub mod Rungs

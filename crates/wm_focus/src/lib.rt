@@ -6,6 +6,7 @@ mod direction;
 mod giving;
 mod laws;
 mod marks;
+mod moves;
 mod parents;
 mod refusing;
 mod rungs;
@@ -19,12 +20,15 @@ mod tests_directions;
 #[cfg(test)]
 mod tests_marks;
 #[cfg(test)]
+mod tests_moves;
+#[cfg(test)]
 mod tests_swaps;
 mod within;
 
 pub use direction::focus_dir;
 pub use laws::{marked_is_found, none_is_left, one_has_a_mark};
 pub use marks::{mark, marked, unmark};
+pub use moves::move_dir;
 pub use parents::{focus_child, focus_parent};
 pub use splits::{cycle_layout, set_layout, split};
 pub use subject::is_subject;

@@ -59,7 +59,13 @@ fn climb(row: Cursor<'_>, con: ConId, aim: Aim, d: Dir) -> Option<Held>
 }
 
 /// What is found at a node of this kind with these children, one of which holds the container.
-fn aimed(aim: Aim, d: Dir, kind: &NodeKind, row: Cursor<'_>, child: ConId) -> Option<ConId>
+pub(crate) fn aimed(
+    aim: Aim,
+    d: Dir,
+    kind: &NodeKind,
+    row: Cursor<'_>,
+    child: ConId,
+) -> Option<ConId>
     ensures { result ≡ aimed aim d (rung kind.now row.entry child) }
 {
     if !runs(d, kind) {

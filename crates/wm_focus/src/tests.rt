@@ -76,7 +76,7 @@ pub fn add(tree: &mut Tree, alloc: Global) -> Result<(), Fail>
 }
 
 /// The container is raised, in a new split with this layout.
-fn wrap(rt: &impl Abort, tree: &mut Tree, con: u32, layout: Layout) -> Result<(), Fail>
+pub fn wrap(rt: &impl Abort, tree: &mut Tree, con: u32, layout: Layout) -> Result<(), Fail>
     requires { IsSound tree.old }
     ensures { IsSound tree.new }
 {

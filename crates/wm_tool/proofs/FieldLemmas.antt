@@ -1,6 +1,6 @@
 -- Lemmas on the fields of a line.
 use Rattle.std.proofs.Common.{ℕ, ◌≤◌, ◌+◌, ◌*◌, ◌-◌, List, [], ◌∷◌, arith}
-use Rattle.wm_tool.specs.Script.{decimal_value}
+use Rattle.wm_tool.specs.Fields.{decimal_value}
 
 -- more digits make a value no smaller
 pub decimal_rises : (value : ℕ) (digits : List ℕ) → value ≤ decimal_value value digits

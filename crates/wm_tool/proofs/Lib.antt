@@ -2,6 +2,7 @@ pub mod EndLemmas
 pub mod FieldLemmas
 pub mod FramesLemmas
 pub mod LawLemmas
+pub mod PropertyLemmas
 pub mod RefusalLemmas
 pub mod RunLemmas
 pub mod ScriptLemmas

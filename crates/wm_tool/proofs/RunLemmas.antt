@@ -14,7 +14,7 @@ use Rattle.wm_tool.specs.declared.script.Line.{Line}
 use Rattle.wm_tool.specs.declared.script.Line.TheVariants as line
 use Rattle.wm_tool.specs.declared.status.Refused.{Refused}
 use Rattle.wm_tool.specs.Ipc.{after_message, entry_by, framed, message_step, message_texts, payload, replied, replies_from, request_of, text_of_request, text_step}
-use Rattle.wm_tool.specs.Output.{after, after_entry, entry_text, line_entry, line_step, entry_of, line_texts, out_from, run_entry, start, told}
+use Rattle.wm_tool.specs.Output.{after, after_deed, after_entry, deed_of, deed_text, line_step, Takes, entry_of, line_texts, out_from, run_entry, start, told}
 use Rattle.wm_tool.specs.Refusals.{IsBacked, IsRising, refusal_at, verdict_of}
 use Rattle.wm_tool.specs.Running.{Backs, Grows, Holds, IsBackedTo, Leads, Plays, Runs, Stops, Writes, fresh}
 use Rattle.wm_core.specs.Act.{Run, act_of}
@@ -243,26 +243,29 @@ ok_weaker (Err e) p weaker = tt
 -- ---- lines
 
 line_longer : (l : Line) (rs : List Refused) (h : History) → length (after l rs h) ≡ length h + length (line_step l)
-line_longer (line.Map buffer) rs h = omega arith
+line_longer (line.Map props buffer) rs h = omega arith
 line_longer (line.Close con) rs h = omega arith
 line_longer (line.Run text) rs h = omega arith
 line_longer line.Paint rs h = omega arith
+line_longer line.Marks rs h = omega arith
 
-line_same : (l : Line) (rs more : List Refused) (h : History) → IsRising (length (after l rs h)) more → line_entry (rs ++ more) h l ≡ line_entry rs h l
-line_same (line.Map buffer) rs more h rising = refl
+line_same : (l : Line) (rs more : List Refused) (h : History) → IsRising (length (after l rs h)) more → deed_of (rs ++ more) h l ≡ deed_of rs h l
+line_same (line.Map props buffer) rs more h rising = refl
 line_same (line.Close con) rs more h rising = refl
-line_same (line.Run text) rs more h rising = ap (λ e. Some e) (run_same rs more h text rising)
+line_same (line.Run text) rs more h rising = ap (λ e. Takes e) (run_same rs more h text rising)
 line_same line.Paint rs more h rising = refl
+line_same line.Marks rs more h rising = refl
 
 pub none_left : (rest : List Line) → length rest < 1 → rest ≡ []
 none_left [] few = refl
 none_left (l ∷ rest) few = absurd (omega (arith, few))
 
 pub one_step : (l : Line) → length (line_step l) ≤ 1
-one_step (line.Map buffer) = omega arith
+one_step (line.Map props buffer) = omega arith
 one_step (line.Close con) = omega arith
 one_step (line.Run text) = omega arith
 one_step line.Paint = omega arith
+one_step line.Marks = omega arith
 
 rest_is : (g d : Line) (rest : List Line) → 1 ≤ length rest → g ≡ get_or rest 0 d → rest ≡ g ∷ take (length rest - 1) (drop 1 rest)
 rest_is g d [] some is = absurd (omega arith)
@@ -291,7 +294,7 @@ module _ (old now : Option (List ℕ)) (desk : DeskValue) (before after_refused 
         plays_step old now desk before after_refused piece (after g) (told start g) (out_from (g ∷ others)) (out_from others) whole texts (line_step g) (line_texts others) count c1 c2 told_first t1 t2
         (line_longer g) first_line grown backs
         next text (λ rs h. refl)
-        (λ rs more h rising. let same = line_same g rs more h rising in (ap (λ e. after_entry e h) same, ap (entry_text start h) same))
+        (λ rs more h rising. let same = line_same g rs more h rising in (ap (λ d. after_deed d h) same, ap (deed_text start h) same))
         (subst (λ tree. refusal_at desk.steps before ≡ None → Leads desk next (after g after_refused) (told tree g after_refused) piece text) (sym (opens desk plan)) leads)
         moved
 

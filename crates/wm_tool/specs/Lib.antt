@@ -1,6 +1,8 @@
 pub mod Ending
+pub mod Fields
 pub mod Ipc
 pub mod Output
+pub mod Properties
 pub mod Refusals
 pub mod Running
 pub mod Script

@@ -8,9 +8,14 @@ use Rattle.wm_core.specs.declared.step.Answer.{Answer}
 use Rattle.wm_core.specs.declared.step.Answer.TheVariants as answers
 use Rattle.wm_json.specs.Replies.{replies_text}
 use Rattle.wm_core.specs.Frame.{frame}
-use Rattle.wm_base.specs.declared.properties.Props.{Props}
+use Rattle.wm_json.specs.Arrays.{texts_text}
+use Rattle.wm_core.specs.Look.{look}
+use Rattle.wm_core.specs.declared.look.Query.{Query}
+use Rattle.wm_core.specs.declared.look.Query.TheVariants as query
+use Rattle.wm_core.specs.declared.look.View.{View}
+use Rattle.wm_core.specs.declared.look.View.TheVariants as view
 use Rattle.wm_core.specs.Act.{Act, Run, Map, Close}
-use Rattle.wm_core.specs.History.{Entry, History, answer}
+use Rattle.wm_core.specs.History.{Entry, History, answer, tree}
 use Rattle.wm_layouts.specs.Plan.{default_outputs}
 use Rattle.wm_core.specs.Text.{frame_text, new_line}
 use Rattle.wm_tool.specs.declared.script.Line.{Line}
@@ -36,37 +41,50 @@ start = opening default_outputs Bare 0 0
 abbrev pub entry_of : Act → Entry
 entry_of act = record { who = 0; act = act }
 
--- the properties of a window that a script opens: a normal window that says nothing of itself
-abbrev pub no_props : Props
-no_props = record { class = []; instance = []; role = []; kind = codes "normal"; machine = []; title = [] }
-
 -- the step of caller 0 that runs a text after a history, given which patterns were refused
 abbrev pub run_entry : List Refused → History → List ℕ → Entry
 run_entry refused history text = entry_of (Run text (verdict_of refused (length history) text))
-
--- the step of a line after a history; a line that paints has none
-abbrev pub line_entry : List Refused → History → Line → Option Entry
-line_entry refused history (line.Map buffer) = Some (entry_of (Map no_props buffer))
-line_entry refused history (line.Close con) = Some (entry_of (Close con))
-line_entry refused history (line.Run text) = Some (run_entry refused history text)
-line_entry refused history line.Paint = None
 
 abbrev pub after_entry : Option Entry → History → History
 after_entry None history = history
 after_entry (Some entry) history = entry ∷ history
 
--- the answer of a step, or the frame where there is none
-abbrev pub entry_text : TreeValue → History → Option Entry → List ℕ
-entry_text tree history None = frame_text (frame tree history)
-entry_text tree history (Some entry) = answer_text (answer tree history entry)
+-- what a line does: it takes a step, paints the frame, or looks at the tree
+pub data Deed : Type 0 where
+  Takes : Entry → Deed
+  Paints : Deed
+  Looks : Query → Deed
+
+-- what a line does after a history
+abbrev pub deed_of : List Refused → History → Line → Deed
+deed_of refused history (line.Map props buffer) = Takes (entry_of (Map props buffer))
+deed_of refused history (line.Close con) = Takes (entry_of (Close con))
+deed_of refused history (line.Run text) = Takes (run_entry refused history text)
+deed_of refused history line.Paint = Paints
+deed_of refused history line.Marks = Looks query.Marks
+
+abbrev pub after_deed : Deed → History → History
+after_deed (Takes entry) history = entry ∷ history
+after_deed Paints history = history
+after_deed (Looks q) history = history
+
+-- the line that tells a view
+abbrev pub view_text : View → List ℕ
+view_text (view.Marks marks) = texts_text marks ++ new_line
+
+-- the answer of a step, the frame, or what caller 0 sees
+abbrev pub deed_text : TreeValue → History → Deed → List ℕ
+deed_text start history (Takes entry) = answer_text (answer start history entry)
+deed_text start history Paints = frame_text (frame start history)
+deed_text start history (Looks q) = view_text (look (tree start history) 0 q)
 
 -- the history after a line
 abbrev pub after : Line → List Refused → History → History
-after l refused history = after_entry (line_entry refused history l) history
+after l refused history = after_deed (deed_of refused history l) history
 
 -- what a line tells after a history
 abbrev pub told : TreeValue → Line → List Refused → History → List ℕ
-told tree l refused history = entry_text tree history (line_entry refused history l)
+told start l refused history = deed_text start history (deed_of refused history l)
 
 -- what is written for the lines after a history, given which patterns were refused
 abbrev pub out_from : List Line → List Refused → History → List ℕ
@@ -75,10 +93,11 @@ out_from (l ∷ lines) refused history = told start l refused history ++ out_fro
 
 -- the steps of lines, each with the text that it runs, where it runs one; a line has one step or none
 abbrev pub line_step : Line → List (Option (List ℕ))
-line_step (line.Map buffer) = None ∷ []
+line_step (line.Map props buffer) = None ∷ []
 line_step (line.Close con) = None ∷ []
 line_step (line.Run text) = Some text ∷ []
 line_step line.Paint = []
+line_step line.Marks = []
 
 abbrev pub line_texts : List Line → List (Option (List ℕ))
 line_texts [] = []

@@ -1,16 +1,13 @@
 -- The script: its lines, and what each says.
-use Rattle.std.specs.Prelude.{◌≡◌, ℕ, ◌+◌, ◌*◌, ◌-◌, ◌==◌, nat_le, ◌&&◌, if◌then◌else◌, List, [], ◌∷◌, length, drop, Option, None, Some, Result, Ok, Err, codes, take_while, ◌++◌, ◌≤◌, All, IsSome}
-use Rattle.std.specs.Char.{is_ascii_digit}
-use Rattle.std.specs.List.{starts_with}
-use Rattle.std.specs.Prelude.{nat_eq}
-use Rattle.wm_defs.specs.Hex.{hex_value}
-use Rattle.wm_base.specs.declared.ids.Buffer.{Buffer}
+use Rattle.std.specs.Prelude.{◌≡◌, ℕ, ◌+◌, ◌==◌, if◌then◌else◌, List, [], ◌∷◌, length, Option, None, Some, Result, Ok, Err, codes, ◌++◌, ◌≤◌, All, IsSome}
 use Rattle.std.specs.Str.{is_utf8}
 use Rattle.wm_core.specs.Sizes.{IsFitSize}
+use Rattle.wm_tool.specs.Fields.{behind, buffer_at, if_end, number_at, or_none}
+use Rattle.wm_tool.specs.Properties.{none_given, properties_at, props_of}
 use Rattle.wm_tool.specs.declared.script.ScriptRefusal.{ScriptRefusal}
 use Rattle.wm_tool.specs.declared.script.ScriptRefusal.TheVariants as refusals
 use Rattle.wm_tool.specs.declared.script.Line.{Line}
-use Rattle.wm_tool.specs.declared.script.Line.TheVariants.{Map, Close, Run, Paint}
+use Rattle.wm_tool.specs.declared.script.Line.TheVariants.{Map, Close, Run, Paint, Marks}
 
 -- ---- lines
 
@@ -23,55 +20,11 @@ abbrev pub lines_of : List ℕ → List (List ℕ)
 lines_of [] = []
 lines_of (c ∷ cs) = if c == 10 then [] ∷ lines_of cs else onto_first c (lines_of cs)
 
--- ---- fields: what stands at the front of a text, and the rest behind it
-
-abbrev pub or_none : {A B : Type 0} → Option A → (A → Option B) → Option B
-or_none None f = None
-or_none (Some x) f = f x
-
--- the rest behind a word
-abbrev pub behind : List ℕ → List ℕ → Option (List ℕ)
-behind word text = if starts_with nat_eq text word then Some (drop (length word) text) else None
-
-abbrev pub if_end : {A : Type 0} → A → List ℕ → Option A
-if_end x [] = Some x
-if_end x (c ∷ cs) = None
-
--- the value of decimal digits
-abbrev pub decimal_value : ℕ → List ℕ → ℕ
-decimal_value value [] = value
-decimal_value value (digit ∷ digits) = decimal_value (value * 10 + (digit - 48)) digits
-
--- a number: 1 to 20 decimal digits, with a value of at most `most`
-abbrev pub number_at : ℕ → List ℕ → Option (ℕ × List ℕ)
-number_at most text =
-    let digits = take_while is_ascii_digit text in
-    if nat_le 1 (length digits) && nat_le (length digits) 20 && nat_le (decimal_value 0 digits) most
-    then Some (decimal_value 0 digits, drop (length digits) text) else None
-
--- a value with one more hexadecimal digit
-abbrev pub with_digit : ℕ → Option ℕ → Option ℕ
-with_digit value None = None
-with_digit value (Some digit) = Some (value * 16 + digit)
-
--- an ink: six hexadecimal digits, the highest first
-abbrev pub ink_at : List ℕ → Option (ℕ × List ℕ)
-ink_at (a ∷ b ∷ c ∷ d ∷ e ∷ f ∷ rest) =
-    or_none (with_digit 0 (hex_value a)) (λ v. or_none (with_digit v (hex_value b)) (λ v. or_none (with_digit v (hex_value c)) (λ v.
-    or_none (with_digit v (hex_value d)) (λ v. or_none (with_digit v (hex_value e)) (λ v. or_none (with_digit v (hex_value f)) (λ v. Some (v, rest)))))))
-ink_at text = None
-
-abbrev pub buffer_of : ℕ → ℕ → ℕ → Buffer
-buffer_of ink w h = record { ink = record { 0 = ink }; size = record { w = w; h = h } }
-
 -- ---- what a line says
 
--- `INK WxH`, to the end of the line
+-- `INK WxH` and properties, to the end of the line
 abbrev pub map_at : List ℕ → Option Line
-map_at text =
-    or_none (ink_at text) (λ ink. or_none (behind (codes " ") ink.1) (λ size.
-    or_none (number_at 16384 size) (λ w. or_none (behind (codes "x") w.1) (λ height.
-    or_none (number_at 16384 height) (λ h. if_end (Map (buffer_of ink.0 w.0 h.0)) h.1)))))
+map_at text = or_none (buffer_at text) (λ found. or_none (properties_at 6 none_given found.1) (λ given. Some (Map (props_of given) found.0)))
 
 -- `ID`, to the end of the line
 abbrev pub close_at : List ℕ → Option Line
@@ -85,15 +38,16 @@ or_else (Some rest) f other = f rest
 abbrev pub run_at : List ℕ → Option Line
 run_at text = if is_utf8 text then Some (Run text) else None
 
+-- what a line says that has no text
 abbrev pub other_line_of : List ℕ → Option Line
 other_line_of text =
-    or_else (behind (codes "map ") text) map_at
-    (or_else (behind (codes "close ") text) close_at
-    (or_else (behind (codes "paint") text) (if_end Paint) None))
+    or_else (behind (codes "close ") text) close_at
+    (or_else (behind (codes "paint") text) (if_end Paint)
+    (or_else (behind (codes "marks") text) (if_end Marks) None))
 
 -- what a line says; None where it is outside the grammar
 abbrev pub line_of : List ℕ → Option Line
-line_of text = or_else (behind (codes "run ") text) run_at (other_line_of text)
+line_of text = or_else (behind (codes "run ") text) run_at (or_else (behind (codes "map ") text) map_at (other_line_of text))
 
 -- ---- the script
 
@@ -116,10 +70,11 @@ script bytes = script_from 1 (lines_of bytes)
 
 -- a line's buffer is within the limits, and its text within the size of an input
 abbrev pub IsFitLine : Line → Type 0
-IsFitLine (Map buffer) = IsFitSize buffer.size
+IsFitLine (Map props buffer) = IsFitSize buffer.size
 IsFitLine (Close con) = Unit {0}
 IsFitLine (Run text) = length text ≤ 16777216
 IsFitLine Paint = Unit {0}
+IsFitLine Marks = Unit {0}
 
 -- why bytes are no script
 abbrev pub IsRefused : List ℕ → ScriptRefusal → Type 0

@@ -1,14 +1,18 @@
-//! Fields of a line: numbers and inks at the front of a text.
+//! Fields of a line: numbers, inks and buffers at the front of a text.
 ghost use Rattle.std.specs.Prelude.{◌≡◌, ◌+◌, ◌*◌, ◌≤◌, ◌<◌, length, take_while, IfSome, Some, if◌then◌else◌, None, nat_le};
 ghost use Rattle.std.specs.Char.{is_ascii_digit};
 ghost use Rattle.std.specs.Option.{option_copied, option_map};
+ghost use Rattle.wm_core.specs.Sizes.{IsFitSize};
 ghost use Rattle.wm_defs.specs.Hex.{hex_value};
-ghost use Rattle.wm_tool.specs.Script.{behind, decimal_value, ink_at, number_at, with_digit};
+ghost use Rattle.wm_tool.specs.Fields.{behind, buffer_at, decimal_value, ink_at, number_at, with_digit};
 
-use wm_base::Ink;
+use wm_base::{Buffer, Ink, Size};
 
 /// How many digits a number has at most.
 const MAX_DIGITS: usize = 20;
+
+/// The greatest side of a buffer in pixels.
+const MAX_SIDE: u32 = 16384;
 
 /// What follows a word at the front of the text.
 pub fn behind<'a>(text: &'a [u8], word: &[u8]) -> Option<&'a [u8]>
@@ -56,8 +60,25 @@ fn decimal(digits: &[u8], most: u32) -> Option<u32>
     Some(value as u32)
 }
 
+/// A buffer, `INK WxH`, and what follows it.
+pub fn buffer(text: &[u8]) -> Option<(Buffer, &[u8])>
+    ensures value { option_map (λ found. (found.0, found.1.now)) result ≡ buffer_at text.now }
+    ensures fit { IfSome result (λ found. IsFitSize found.0.size) }
+{
+    let (ink, rest) = ink(text)?;
+    let rest = behind(rest, b" ")?;
+    let (w, rest) = number(rest, MAX_SIDE)?;
+    let rest = behind(rest, b"x")?;
+    let (h, rest) = number(rest, MAX_SIDE)?;
+    let buffer = Buffer {
+        ink,
+        size: Size { w, h },
+    };
+    Some((buffer, rest))
+}
+
 /// An ink of six hexadecimal digits, and what follows it.
-pub fn ink(text: &[u8]) -> Option<(Ink, &[u8])>
+fn ink(text: &[u8]) -> Option<(Ink, &[u8])>
     ensures { option_map (λ found. (found.0.0, found.1.now)) result ≡ ink_at text.now }
 {
     let [a, b, c, d, e, f, rest @ ..] = text else {

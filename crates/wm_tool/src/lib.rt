@@ -6,6 +6,8 @@ mod fields;
 mod ipc;
 mod judging;
 mod laws;
+mod properties;
+mod quoted;
 mod replay;
 mod run;
 mod script;
@@ -17,5 +19,7 @@ pub use status::{Refused, Status};
 
 #[cfg(test)]
 mod ipc_tests;
+#[cfg(test)]
+mod line_tests;
 #[cfg(test)]
 mod tests;

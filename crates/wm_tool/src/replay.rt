@@ -2,14 +2,15 @@
 ghost use Rattle.std.specs.Prelude.{◌≡◌, ℕ, List, Option, ◌+◌, ◌<◌, ◌≤◌, ◌^◌, [], ◌∷◌, None, All, IfErr, IfOk, OnErr, OnOk, length};
 ghost use Rattle.wm_core.specs.Act.{act_of};
 ghost use Rattle.wm_core.specs.Frame.{frame};
+ghost use Rattle.wm_core.specs.Look.{look};
 ghost use Rattle.wm_core.specs.Text.{frame_text};
-ghost use Rattle.wm_core.specs.History.{answer, History, opening_of};
+ghost use Rattle.wm_core.specs.History.{answer, tree, History, opening_of};
 ghost use Rattle.wm_core.specs.Sizes.{IsFitStep};
 ghost use Rattle.wm_defs.specs.Counts.{Rose};
 ghost use Rattle.wm_layouts.specs.Plan.{IsStandard};
 ghost use Rattle.wm_ports.specs.Told.{TakesAll, TakesPart};
 ghost use Rattle.wm_tool.specs.Ending.{HasStopped};
-ghost use Rattle.wm_tool.specs.Output.{after, answer_text, entry_of, line_step, line_texts, no_props, out_from, told};
+ghost use Rattle.wm_tool.specs.Output.{after, answer_text, entry_of, line_step, line_texts, out_from, told, view_text};
 ghost use Rattle.wm_tool.specs.Refusals.{refusal_at, IsBacked};
 ghost use Rattle.wm_tool.specs.Running.{Backs, Grows, Leads, Plays, Stops, Writes};
 ghost use Rattle.wm_tool.specs.Script.{IsFitLine};
@@ -20,11 +21,13 @@ use crate::answers::push_answer;
 use crate::judging::run_text;
 use crate::script::Line;
 use std::alloc::{AllocError, Global};
-use wm_base::{NoMemory, Props, Text, TextRefusal};
-use wm_core::{Desk, Step, frame_text};
+use wm_base::NoMemory;
+use wm_core::{Desk, Query, Step, View, frame_text};
 use wm_criteria::Build;
+use wm_json::texts_json;
 use wm_layouts::Plan;
 use wm_ports::{Failed, Sink, write_all};
+use wm_tree::copy_props;
 
 /// How long a piece of the output is at least before it is written, in bytes.
 const PIECE: usize = 65536;
@@ -152,10 +155,9 @@ fn run_line<B: Build>(
         (B.refusals build.old) (B.refusals build.new) (B.refused build.old) (B.refused build.new) }
 {
     match line {
-        Line::Map(buffer) => {
-            let props = no_props(alloc)?;
+        Line::Map { props, buffer } => {
             let step = Step::Map {
-                props,
+                props: copy_props(props)?,
                 buffer: *buffer,
                 then: None,
             };
@@ -167,6 +169,7 @@ fn run_line<B: Build>(
             push_answer(alloc, piece, &answer)
         }
         Line::Paint => paint(alloc, desk, piece),
+        Line::Marks => look(alloc, desk, &Query::Marks, piece),
     }
 }
 
@@ -193,29 +196,16 @@ fn paint(alloc: Global, desk: &Desk, piece: &mut Vec<u8>) -> Result<(), NoMemory
     Ok(())
 }
 
-/// The properties of a window that a script opens.
-fn no_props(alloc: Global) -> Result<Props, NoMemory>
-    ensures { IfOk result (λ props. props ≡ no_props) }
+/// Adds what caller 0 sees.
+fn look(alloc: Global, desk: &Desk, query: &Query, piece: &mut Vec<u8>) -> Result<(), NoMemory>
+    ensures { OnOk result (Leads desk.now desk.now (λ history. history)
+        (λ history. view_text (look (tree (opening_of desk.now.plan) history) 0 query.now)) piece.old.items piece.new.items) }
 {
-    let none = word(alloc, "")?;
-    Ok(Props {
-        class: none.clone()?,
-        instance: none.clone()?,
-        role: none.clone()?,
-        kind: word(alloc, "normal")?,
-        machine: none.clone()?,
-        title: none,
-    })
-}
-
-/// A short text.
-fn word(alloc: Global, text: &str) -> Result<Text, NoMemory>
-    requires { length text.now ≤ 1024 }
-    ensures { IfOk result (λ word. word ≡ text.now) }
-{
-    match Text::new(alloc, text) {
-        Ok(word) => Ok(word),
-        Err(TextRefusal::TooLong { len: _ }) => unreachable!(),
-        Err(TextRefusal::NoMemory) => Err(NoMemory),
+    match desk.look(0, query)? {
+        View::Marks(marks) => {
+            piece.extend_from_slice(&texts_json(alloc, marks.items())?)?;
+            piece.push(b'\n')?;
+        }
     }
+    Ok(())
 }

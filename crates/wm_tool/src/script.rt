@@ -1,44 +1,48 @@
 //! The script: its lines, and what each says.
 ghost use Rattle.std.specs.Prelude.{◌≡◌, ◌==◌, ◌<◌, ◌≤◌, ◌∷◌, not, All, IfOk, IfErr, IfSome, Ok, length, take_while, vec_len};
 ghost use Rattle.wm_tool.specs.declared.script.ScriptRefusal.TheVariants as refusals;
-ghost use Rattle.wm_tool.specs.Script.{close_at, if_end, line_of, lines_of, map_at, other_line_of, run_at, script, IsFitLine, IsRefused};
+ghost use Rattle.wm_tool.specs.Fields.{if_end};
+ghost use Rattle.wm_tool.specs.Script.{close_at, line_of, lines_of, map_at, other_line_of, run_at, script, IsFitLine, IsRefused};
 
-use crate::fields::{behind, ink, number};
-use std::alloc::{AllocError, AllocFailed, Global};
+use crate::fields::{behind, buffer, number};
+use crate::properties::{FIELDS, Given, properties};
+use std::alloc::{AllocFailed, Global};
 use std::str;
-use wm_base::{Buffer, ConId, Size, Str};
+use wm_base::{Buffer, ConId, NoMemory, Props, Str};
 
-/// The greatest side of a buffer in pixels.
-const MAX_SIDE: u32 = 16384;
-
-/// A line of a script: a step of caller 0, or a frame to be painted.
+/// A line of a script: a step of caller 0, a frame to be painted, or a look at the tree.
 #[derive(Debug, Drop)]
 pub enum Line {
-    /// Opens a window with this buffer.
-    Map(Buffer),
+    /// Opens a window with these properties and this buffer.
+    Map { props: Props, buffer: Buffer },
     /// Closes the window.
     Close(ConId),
     /// Runs a text.
     Run(Str),
     /// Paints the frame.
     Paint,
+    /// Tells all marks.
+    Marks,
 }
 
 /// What the line says. `None` exactly where it is outside the grammar.
-fn read_line(alloc: Global, text: &[u8]) -> Result<Option<Line>, AllocError>
+fn read_line(alloc: Global, text: &[u8]) -> Result<Option<Line>, NoMemory>
     requires { length text.now ≤ 16777216 }
     ensures value { IfOk result (λ line. line ≡ line_of text.now) }
     ensures fit { IfOk result (λ line. IfSome line IsFitLine) }
 {
-    match behind(text, b"run ") {
-        Some(rest) => run_line(alloc, rest),
+    if let Some(rest) = behind(text, b"run ") {
+        return run_line(alloc, rest);
+    }
+    match behind(text, b"map ") {
+        Some(rest) => map_line(alloc, rest),
         None => Ok(other_line(text)),
     }
 }
 
 /// A text to be run, which is UTF-8.
 #[tactic(auto, using(crate::proofs::TextLemmas::run_text, crate::proofs::TextLemmas::run_no_text))]
-fn run_line(alloc: Global, text: &[u8]) -> Result<Option<Line>, AllocError>
+fn run_line(alloc: Global, text: &[u8]) -> Result<Option<Line>, NoMemory>
     requires { length text.now ≤ 16777216 }
     ensures value { IfOk result (λ line. line ≡ run_at text.now) }
     ensures fit { IfOk result (λ line. IfSome line IsFitLine) }
@@ -52,19 +56,19 @@ fn run_line(alloc: Global, text: &[u8]) -> Result<Option<Line>, AllocError>
     }
 }
 
-/// What a line says that runs no text.
+/// What a line says that has no text.
 fn other_line(text: &[u8]) -> Option<Line>
     ensures value { result ≡ other_line_of text.now }
     ensures fit { IfSome result IsFitLine }
 {
-    if let Some(rest) = behind(text, b"map ") {
-        return map_line(rest);
-    }
     if let Some(rest) = behind(text, b"close ") {
         return close_line(rest);
     }
-    match behind(text, b"paint") {
-        Some(rest) => at_end(rest, Line::Paint),
+    if let Some(rest) = behind(text, b"paint") {
+        return at_end(rest, Line::Paint);
+    }
+    match behind(text, b"marks") {
+        Some(rest) => at_end(rest, Line::Marks),
         None => None,
     }
 }
@@ -77,21 +81,19 @@ fn at_end(text: &[u8], line: Line) -> Option<Line>
     if text.is_empty() { Some(line) } else { None }
 }
 
-/// `INK WxH`, to the end of the line.
-fn map_line(text: &[u8]) -> Option<Line>
-    ensures value { result ≡ map_at text.now }
-    ensures fit { IfSome result IsFitLine }
+/// `INK WxH` and properties, to the end of the line.
+fn map_line(alloc: Global, text: &[u8]) -> Result<Option<Line>, NoMemory>
+    ensures value { IfOk result (λ line. line ≡ map_at text.now) }
+    ensures fit { IfOk result (λ line. IfSome line IsFitLine) }
 {
-    let (ink, rest) = ink(text)?;
-    let rest = behind(rest, b" ")?;
-    let (w, rest) = number(rest, MAX_SIDE)?;
-    let rest = behind(rest, b"x")?;
-    let (h, rest) = number(rest, MAX_SIDE)?;
-    let buffer = Buffer {
-        ink,
-        size: Size { w, h },
+    let Some((buffer, rest)) = buffer(text) else {
+        return Ok(None);
     };
-    at_end(rest, Line::Map(buffer))
+    let Some(given) = properties(alloc, Given::none(), rest, FIELDS)? else {
+        return Ok(None);
+    };
+    let props = given.props(alloc)?;
+    Ok(Some(Line::Map { props, buffer }))
 }
 
 /// `ID`, to the end of the line.
@@ -111,10 +113,10 @@ pub enum ScriptRefusal {
     NoMemory,
 }
 
-impl From<AllocError> for ScriptRefusal {
+impl From<NoMemory> for ScriptRefusal {
     ghost from_gives = { λ _ e. e ≡ refusals.NoMemory };
 
-    fn from(_error: AllocError) -> ScriptRefusal {
+    fn from(_error: NoMemory) -> ScriptRefusal {
         ScriptRefusal::NoMemory
     }
 }

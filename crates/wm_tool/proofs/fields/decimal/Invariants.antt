@@ -1,5 +1,5 @@
 use Rattle.std.proofs.Common.{◌≡◌, ◌≤◌, length}
-use Rattle.wm_tool.specs.Script.{decimal_value}
+use Rattle.wm_tool.specs.Fields.{decimal_value}
 use Rattle.wm_tool.proofs.fields.decimal.Given as goal
 
 -- the value so far, with the digits that are left, is that of all

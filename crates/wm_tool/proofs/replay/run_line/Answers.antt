@@ -4,8 +4,8 @@ use Rattle.wm_tool.specs.Output.{line_step}
 use Rattle.wm_tool.proofs.RunLemmas.{unchanged}
 use Rattle.wm_tool.proofs.replay.run_line.Goals as goal
 
-pub returns-in_ok-props-in-Map-clause-backs : goal.returns-in_ok-props-in-Map-clause-backs
-returns-in_ok-props-in-Map-clause-backs g c = unchanged c.args.desk.now.steps (line_step c.args.line.now) c.args.refused.now.items (g.B.Build.refusals c.args.build.now) (g.B.Build.refused c.args.build.now)
+pub returns-in_ok-copy_props-in-Map-clause-backs : goal.returns-in_ok-copy_props-in-Map-clause-backs
+returns-in_ok-copy_props-in-Map-clause-backs g c = unchanged c.args.desk.now.steps (line_step c.args.line.now) c.args.refused.now.items (g.B.Build.refusals c.args.build.now) (g.B.Build.refused c.args.build.now)
 
 pub returns-in-Close-clause-backs : goal.returns-in-Close-clause-backs
 returns-in-Close-clause-backs g c = unchanged c.args.desk.now.steps (line_step c.args.line.now) c.args.refused.now.items (g.B.Build.refusals c.args.build.now) (g.B.Build.refused c.args.build.now)

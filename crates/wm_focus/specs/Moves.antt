@@ -1,0 +1,113 @@
+-- Moving a container in a direction.
+use Rattle.std.specs.Prelude.{◌≡◌, ℕ, Bool, true, false, not, if◌then◌else◌, Option, None, Some, option_and_then}
+use Rattle.wm_base.specs.declared.errors.ErrorText.TheVariants as texts
+use Rattle.wm_base.specs.declared.errors.Refusal.{Refusal}
+use Rattle.wm_base.specs.declared.errors.Refusal.TheVariants.{NoTarget}
+use Rattle.wm_base.specs.declared.geometry.Dir.{Dir}
+use Rattle.wm_base.specs.declared.ids.ConId.{ConId}
+use Rattle.wm_focus.specs.declared.rungs.Aim.TheVariants.{Beside, Out}
+use Rattle.wm_focus.specs.Refusing.{error_if, full_error}
+use Rattle.wm_focus.specs.Rungs.{aimed, is_forward, nearest, rung, runs_con}
+use Rattle.wm_focus.specs.Subject.{is_hidden, is_space}
+use Rattle.wm_focus.specs.Swaps.{deep_error}
+use Rattle.wm_tree.specs.declared.kind.KindEdit.TheVariants as edits
+use Rattle.wm_tree.specs.declared.part.ConPart.{ConPart}
+use Rattle.wm_tree.specs.declared.place.Place.{Place}
+use Rattle.wm_tree.specs.declared.place.Place.TheVariants.{After, Before, First, Last}
+use Rattle.wm_tree.specs.Change.{is_split}
+use Rattle.wm_tree.specs.Forest.{Forest, end, con}
+use Rattle.wm_tree.specs.Look.{con_kind, has, kind_of, only}
+use Rattle.wm_tree.specs.Move.{IsExchange, IsMove, exchanged, is_too_deep, moved, passed_by_move, share_in}
+use Rattle.wm_tree.specs.Place.{named}
+use Rattle.wm_tree.specs.TreeValue.{TreeValue, focused_child, is_tiled_con, parent}
+use Rattle.wm_tree.specs.Words.{edited}
+
+-- ---- who stands beside it
+
+-- the neighbour of c on that side among the children of the first node, where that is along the axis of the direction
+abbrev pub neighbour_below : Dir → ConId → Forest → Option ConId
+neighbour_below d c end = None
+neighbour_below d c (con part kids floats rest) = aimed Beside d (rung part.kind kids c)
+
+-- the neighbour of c on that side, where its parent is along the axis of the direction
+abbrev pub beside : Dir → ConId → TreeValue → Option ConId
+beside d c t = option_and_then (λ p. neighbour_below d c (only p t.nodes)) (parent t c)
+
+abbrev pub is_split_part : Option ConPart → Bool
+is_split_part None = false
+is_split_part (Some part) = is_split part.kind
+
+abbrev pub is_split_con : TreeValue → ConId → Bool
+is_split_con t n = is_split_part (kind_of con_kind n t.nodes)
+
+abbrev pub runs_part : Dir → Option ConPart → Bool
+runs_part d None = false
+runs_part d (Some part) = runs_con d part.kind
+
+-- n is a split along the axis of the direction
+abbrev pub runs_split : Dir → ConId → TreeValue → Bool
+runs_split d n t = runs_part d (kind_of con_kind n t.nodes)
+
+-- ---- where it goes
+
+-- the place in a split after its child, or the first one where it has none
+abbrev pub after_child : ConId → Option ConId → Place
+after_child n None = First n
+after_child n (Some child) = After child
+
+-- the place in a split at the end where c comes in
+abbrev pub near_end : Dir → ConId → Place
+near_end d n = if is_forward d then First n else Last n
+
+-- the place in the split n: at its near end where it is along the axis, else after its focused child
+abbrev pub entry : Dir → ConId → TreeValue → Place
+entry d n t = if runs_split d n t then near_end d n else after_child n (focused_child t n)
+
+-- the place beside a child on that side
+abbrev pub side_of : Dir → ConId → Place
+side_of d child = if is_forward d then After child else Before child
+
+-- at the nearest node above the parent of c along the axis, the child that holds c
+abbrev pub held_out : Dir → ConId → TreeValue → Option ConId
+held_out d c t = option_and_then (λ p. nearest Out d p t.nodes) (parent t c)
+
+-- ---- moving
+
+-- both are there and tiled, and neither is below the other
+abbrev pub IsTurn : ConId → ConId → TreeValue → Type 0
+IsTurn c n t = (has c t.nodes ≡ true) × (has n t.nodes ≡ true) × IsExchange c n t.nodes
+
+-- c is there, and so is the place to which it may move
+abbrev pub IsGoal : ConId → Place → TreeValue → Type 0
+IsGoal c p t = (has c t.nodes ≡ true) × (has (named p) t.nodes ≡ true) × IsMove c p t.nodes
+
+-- the two change places, each with its share
+abbrev pub turned : ConId → ConId → TreeValue → TreeValue
+turned c n t = edited n (edits.Share (share_in n t.nodes)) (edited c (edits.Share (share_in c t.nodes)) (exchanged c n t))
+
+abbrev pub out_refusal : Dir → ConId → Option ConId → TreeValue → Option Refusal
+out_refusal d c None t = Some (NoTarget texts.NoNeighbour)
+out_refusal d c (Some child) t = full_error (passed_by_move c (side_of d child) t.nodes)
+
+abbrev pub step_refusal : Dir → ConId → Option ConId → TreeValue → Option Refusal
+step_refusal d c None t = out_refusal d c (held_out d c t) t
+step_refusal d c (Some n) t = if is_split_con t n then full_error (passed_by_move c (entry d n t) t.nodes) else deep_error (is_too_deep c n t.nodes)
+
+-- one in the scratchpad has no workspace, a workspace does not move, and what a floating window does is not built; no
+-- limit is passed, and there is a neighbour or a node above to go to
+abbrev pub move_dir_refusal : ConId → Dir → ℕ → TreeValue → Option Refusal
+move_dir_refusal c d px t =
+    error_if (is_hidden t c) texts.NoWorkspace (error_if (is_space t c) texts.AtWorkspace
+    (error_if (not (is_tiled_con t c)) texts.NotBuilt (step_refusal d c (beside d c t) t)))
+
+abbrev pub out_tree : Dir → ConId → Option ConId → TreeValue → TreeValue
+out_tree d c None t = t
+out_tree d c (Some child) t = moved c (side_of d child) t
+
+abbrev pub step_tree : Dir → ConId → Option ConId → TreeValue → TreeValue
+step_tree d c None t = out_tree d c (held_out d c t) t
+step_tree d c (Some n) t = if is_split_con t n then moved c (entry d n t) t else turned c n t
+
+-- c changes places with a window or placeholder beside it, goes into a split beside it, or out of its parent
+abbrev pub move_dir_tree : ConId → Dir → ℕ → TreeValue → TreeValue
+move_dir_tree c d px t = step_tree d c (beside d c t) t

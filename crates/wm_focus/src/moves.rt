@@ -1,0 +1,228 @@
+//! Moving a container in a direction.
+ghost use Rattle.std.specs.Prelude.{◌≡◌, Some, None, OnOk, OnErr, IfErr, false, true};
+ghost use Rattle.wm_focus.specs.Moves.{IsGoal, IsTurn, after_child, beside, entry, held_out, is_split_con, move_dir_refusal, move_dir_tree, near_end, out_refusal, out_tree, runs_split, side_of, step_refusal, step_tree, turned};
+ghost use Rattle.wm_focus.specs.Refusing.{full_error};
+ghost use Rattle.wm_focus.specs.Subject.{IsSubject};
+ghost use Rattle.wm_focus.specs.Swaps.{deep_error};
+ghost use Rattle.wm_focus.specs.Walks.{neighbour_at};
+ghost use Rattle.wm_tree.specs.Change.{is_split};
+ghost use Rattle.wm_tree.specs.Move.{is_too_deep, moved, passed_by_move, share_in};
+ghost use Rattle.wm_tree.specs.Sound.{IsSound};
+ghost use Rattle.wm_tree.specs.TreeValue.{is_tiled_con};
+
+use crate::refusing::refused;
+use crate::rungs::{Aim, aimed, is_forward, nearest, runs_con};
+use crate::subject::{is_hidden, is_space};
+use wm_base::{ConId, Dir, ErrorText, Refusal};
+use wm_tree::{ConKind, Cursor, Place, Tree};
+
+/// Moves the container in a direction: past a window or placeholder beside it, into a split beside it, or out of its
+/// parent. Other outputs are not looked for yet, and what the command does to a floating window, which it shifts by
+/// `px` pixels, is not built yet. It may leave a split without children, which settling removes.
+pub fn move_dir(t: &mut Tree, con: ConId, d: Dir, px: u32) -> Result<(), Refusal>
+    requires { IsSubject t.old con }
+    ensures tree { OnOk result (t.new ≡ move_dir_tree con d px t.old) }
+    ensures fine { OnOk result (move_dir_refusal con d px t.old ≡ None) }
+    ensures err { OnErr result (t.new ≡ t.old) }
+    ensures cause { IfErr result (λ e. move_dir_refusal con d px t.old ≡ Some e) }
+    ensures sound { IsSound t.old → IsSound t.new }
+{
+    if is_hidden(t, con) {
+        return Err(Refusal::NoTarget(ErrorText::NoWorkspace));
+    }
+    if is_space(t, con) {
+        return Err(Refusal::NoTarget(ErrorText::AtWorkspace));
+    }
+    if !t.is_tiled(con) {
+        return Err(Refusal::NoTarget(ErrorText::NotBuilt));
+    }
+    match beside(t, con, d) {
+        Some(next) => pass(t, con, next, d),
+        None => leave(t, con, d),
+    }
+}
+
+/// The neighbour of the container on that side, where its parent is along the axis of the direction.
+fn beside(t: &Tree, con: ConId, d: Dir) -> Option<ConId>
+    ensures { result ≡ beside d con t.now }
+{
+    neighbour_at(t.nodes(), t.parent(con)?, con, d)?
+}
+
+/// The neighbour of the container on that side among the parent's children. `None` exactly where the parent is not
+/// here.
+fn neighbour_at(row: Cursor<'_>, parent: ConId, con: ConId, d: Dir) -> Option<Option<ConId>>
+    ensures { result ≡ neighbour_at d con parent row.entry }
+{
+    let part = row.part()?;
+    if part.id == parent {
+        return Some(aimed(Aim::Beside, d, &part.kind, row.kids(), con));
+    }
+    if let Some(found) = neighbour_at(row.kids(), parent, con, d) {
+        return Some(found);
+    }
+    if let Some(found) = neighbour_at(row.floats(), parent, con, d) {
+        return Some(found);
+    }
+    neighbour_at(row.rest(), parent, con, d)
+}
+
+/// Moves the container past its neighbour, or into it where that is a split.
+fn pass(t: &mut Tree, con: ConId, next: ConId, d: Dir) -> Result<(), Refusal>
+    requires sound { IsSound t.old }
+    requires tiled { is_tiled_con t.old con ≡ true }
+    requires next { beside d con t.old ≡ Some next }
+    ensures tree { OnOk result (t.new ≡ step_tree d con (Some next) t.old) }
+    ensures fine { OnOk result (step_refusal d con (Some next) t.old ≡ None) }
+    ensures err { OnErr result (t.new ≡ t.old) }
+    ensures cause { IfErr result (λ e. step_refusal d con (Some next) t.old ≡ Some e) }
+    ensures sound { IsSound t.new }
+{
+    if is_split_con(t, next) {
+        let at = entry(t, next, d);
+        go(t, con, at)
+    } else {
+        turn(t, con, next)
+    }
+}
+
+/// Moves the container out of its parent, beside the child that holds it of the nearest node above along the axis.
+fn leave(t: &mut Tree, con: ConId, d: Dir) -> Result<(), Refusal>
+    requires sound { IsSound t.old }
+    requires tiled { is_tiled_con t.old con ≡ true }
+    ensures tree { OnOk result (t.new ≡ out_tree d con (held_out d con t.old) t.old) }
+    ensures fine { OnOk result (out_refusal d con (held_out d con t.old) t.old ≡ None) }
+    ensures err { OnErr result (t.new ≡ t.old) }
+    ensures cause { IfErr result (λ e. out_refusal d con (held_out d con t.old) t.old ≡ Some e) }
+    ensures sound { IsSound t.new }
+{
+    match held_out(t, con, d) {
+        Some(child) => go(t, con, side_of(d, child)),
+        None => Err(Refusal::NoTarget(ErrorText::NoNeighbour)),
+    }
+}
+
+/// Puts the container at the place.
+fn go(t: &mut Tree, con: ConId, at: Place) -> Result<(), Refusal>
+    requires sound { IsSound t.old }
+    requires goal { IsGoal con at t.old }
+    ensures tree { OnOk result (t.new ≡ moved con at t.old) }
+    ensures fine { OnOk result (full_error (passed_by_move con at t.old.nodes) ≡ None) }
+    ensures err { OnErr result (t.new ≡ t.old) }
+    ensures cause { IfErr result (λ e. full_error (passed_by_move con at t.old.nodes) ≡ Some e) }
+    ensures sound { IsSound t.new }
+{
+    match t.move_to(con, at) {
+        Ok(()) => Ok(()),
+        Err(error) => Err(refused(error)),
+    }
+}
+
+/// Two neighbours change places, each with its share.
+fn turn(t: &mut Tree, con: ConId, next: ConId) -> Result<(), Refusal>
+    requires sound { IsSound t.old }
+    requires turn { IsTurn con next t.old }
+    ensures tree { OnOk result (t.new ≡ turned con next t.old) }
+    ensures fine { OnOk result (deep_error (is_too_deep con next t.old.nodes) ≡ None) }
+    ensures err { OnErr result (t.new ≡ t.old) }
+    ensures cause { IfErr result (λ e. deep_error (is_too_deep con next t.old.nodes) ≡ Some e) }
+    ensures sound { IsSound t.new }
+{
+    let own = share(t, con);
+    let other = share(t, next);
+    match t.exchange(con, next) {
+        Ok(()) => {
+            t.set_share(con, own);
+            t.set_share(next, other);
+            Ok(())
+        }
+        Err(error) => Err(refused(error)),
+    }
+}
+
+/// The container's share.
+fn share(t: &Tree, con: ConId) -> u32
+    ensures { result ≡ share_in con t.now.nodes }
+{
+    match t.container(con) {
+        Some(part) => part.share,
+        None => 0,
+    }
+}
+
+/// Whether it is a split.
+fn is_split_con(t: &Tree, con: ConId) -> bool
+    ensures { result ≡ is_split_con t.now con }
+{
+    match t.container(con) {
+        Some(part) => is_split_kind(&part.kind),
+        None => false,
+    }
+}
+
+fn is_split_kind(kind: &ConKind) -> bool
+    ensures { result ≡ is_split kind.now }
+{
+    match kind {
+        ConKind::Split { .. } => true,
+        ConKind::Window { .. } | ConKind::Placeholder { .. } => false,
+    }
+}
+
+/// Whether it is a split along the axis of the direction.
+fn runs_split(t: &Tree, con: ConId, d: Dir) -> bool
+    ensures { result ≡ runs_split d con t.now }
+{
+    match t.container(con) {
+        Some(part) => runs_con(d, &part.kind),
+        None => false,
+    }
+}
+
+/// The place in a split for a container that comes from the other side.
+fn entry(t: &Tree, split: ConId, d: Dir) -> Place
+    ensures { result ≡ entry d split t.now }
+{
+    if runs_split(t, split, d) {
+        near_end(d, split)
+    } else {
+        after_child(split, t.focused_child(split))
+    }
+}
+
+fn near_end(d: Dir, split: ConId) -> Place
+    ensures { result ≡ near_end d split }
+{
+    if is_forward(d) {
+        Place::First(split)
+    } else {
+        Place::Last(split)
+    }
+}
+
+fn after_child(split: ConId, child: Option<ConId>) -> Place
+    ensures { result ≡ after_child split child }
+{
+    match child {
+        Some(child) => Place::After(child),
+        None => Place::First(split),
+    }
+}
+
+/// The place beside a child on that side.
+fn side_of(d: Dir, child: ConId) -> Place
+    ensures { result ≡ side_of d child }
+{
+    if is_forward(d) {
+        Place::After(child)
+    } else {
+        Place::Before(child)
+    }
+}
+
+/// The child that holds the container, of the nearest node above its parent along the axis of the direction.
+fn held_out(t: &Tree, con: ConId, d: Dir) -> Option<ConId>
+    ensures { result ≡ held_out d con t.now }
+{
+    nearest(t.nodes(), t.parent(con)?, Aim::Out, d)
+}
