@@ -18,6 +18,8 @@ pub use run::tool;
 pub use status::{Refused, Status};
 
 #[cfg(test)]
+mod command_tests;
+#[cfg(test)]
 mod ipc_tests;
 #[cfg(test)]
 mod line_tests;

@@ -4,7 +4,7 @@ use std::alloc::Global;
 use std::test::Fail;
 
 /// The exit status of a run over this script, and what it wrote.
-fn replayed(alloc: Global, script: &str) -> Result<(u8, Vec<u8>), Fail> {
+pub fn replayed(alloc: Global, script: &str) -> Result<(u8, Vec<u8>), Fail> {
     let mut bytes = Vec::new(alloc);
     bytes.extend_from_slice(script.as_bytes())?;
     let (ended, written) = ran(alloc, "replay", bytes, 0, 0)?;

@@ -1,0 +1,10 @@
+pub mod Areas
+pub mod Arranged
+pub mod Borders
+pub mod Gaps
+pub mod Parts
+pub mod Scene
+pub mod Sizes
+pub mod Slots
+pub mod TitleText
+pub mod Titles

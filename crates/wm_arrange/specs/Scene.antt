@@ -1,0 +1,33 @@
+-- What the parts of a workspace depend on besides its own nodes.
+use Rattle.std.specs.Prelude.{ℕ, Bool, false, ◌||◌, if◌then◌else◌, List, [], ◌∷◌}
+use Rattle.wm_base.specs.declared.ids.ConId.{ConId}
+use Rattle.wm_base.specs.declared.ids.Ink.{Ink}
+use Rattle.wm_tree.specs.declared.part.SpacePart.{SpacePart}
+use Rattle.wm_tree.specs.Look.{same}
+use Rattle.wm_tree.specs.TreeValue.{TreeValue, focused}
+use Rattle.wm_arrange.specs.declared.scene.Scene.{Scene}
+
+-- the order of recency, the urgent windows, the focused container, and the inner gap
+pub record Seen : Type 0 where
+  pub recency : List ConId
+  pub urgent : List ConId
+  pub focused : ConId
+  pub inner : ℕ
+
+-- what is seen in a tree, on a workspace with this inner gap
+abbrev pub seen_in : TreeValue → ConId → ℕ → Seen
+seen_in t c inner = record { recency = t.recency; urgent = t.urgent; focused = c; inner = inner }
+
+abbrev pub seen : Scene → Seen
+seen scene = seen_in scene.tree.now scene.focused scene.inner
+
+abbrev pub is_among : ConId → List ConId → Bool
+is_among c [] = false
+is_among c (id ∷ ids) = same id c || is_among c ids
+
+abbrev pub color : ℕ → Ink
+color n = record { 0 = n }
+
+-- the ink of titles and borders: 4c7899 for the focused container, 900000 for an urgent one, else 333333
+abbrev pub ink : Seen → ConId → Ink
+ink s c = if same c s.focused then color 5011609 else if is_among c s.urgent then color 9437184 else color 3355443

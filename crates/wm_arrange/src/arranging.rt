@@ -1,0 +1,183 @@
+//! The arrangement: the shares of a tree as rectangles in whole pixels.
+ghost use Rattle.std.specs.Prelude.{◌≡◌, ◌≤◌, ◌++◌, true, IfOk, IfSome, OnOk};
+ghost use Rattle.wm_arrange.specs.Areas.{some_area, IsArea};
+ghost use Rattle.wm_arrange.specs.Arranged.{arranged, first_space, fullscreen_in, is_fullscreen, is_window_kind, on_space, or_else, tiled_parts};
+ghost use Rattle.wm_arrange.specs.Gaps.{ground};
+ghost use Rattle.wm_arrange.specs.Scene.{seen};
+ghost use Rattle.wm_arrange.specs.Slots.{IsFloatRow, IsTiledRow};
+ghost use Rattle.wm_tree.specs.Counts.{row_length};
+ghost use Rattle.wm_tree.specs.Look.{first_floats, first_kids, node_in};
+ghost use Rattle.wm_tree.specs.Sound.{IsOutputRect, IsSound, IsSoundRow, spaces};
+
+use crate::areas::{Margins, trim};
+use crate::children::{place_floats, place_kids};
+use crate::parts::{Arrangement, Placed, PlacedPart};
+use crate::placing::place;
+use crate::scene::Scene;
+use std::alloc::Global;
+use wm_base::{ConId, Edges, List, NoMemory, Rect};
+use wm_tree::{ConKind, Cursor, NodeKind, OutputPart, SpacePart, Tree};
+
+/// The arrangement of a tree.
+pub fn arrange(alloc: Global, tree: &Tree) -> Result<Arrangement, NoMemory>
+    requires { IsSound tree.now }
+    ensures { IfOk result (λ arrangement. arrangement.parts ≡ arranged tree.now) }
+{
+    let focused = tree.focused();
+    let mut parts = Vec::new(alloc);
+    let mut row = tree.nodes().kids();
+    while let Some(part) = row.part() {
+        if let NodeKind::Output(output) = &part.kind {
+            let space = row_from(row.kids(), output.shown);
+            place_space(&mut parts, alloc, tree, focused, output, &space)?;
+        }
+        row = row.rest();
+    }
+    Ok(Arrangement {
+        parts: List::of(parts),
+    })
+}
+
+/// The row from the node on. It is at its end where the node is not in the row.
+fn row_from<'a>(row: Cursor<'a>, id: ConId) -> Cursor<'a>
+    ensures { result ≡ node_in id row.entry }
+{
+    let mut left = row;
+    while let Some(part) = left.part() {
+        if part.id == id {
+            return left;
+        }
+        left = left.rest();
+    }
+    left
+}
+
+/// Places the first workspace of the row, which the output shows.
+fn place_space(
+    parts: &mut Vec<Placed>,
+    alloc: Global,
+    tree: &Tree,
+    focused: ConId,
+    output: &OutputPart,
+    row: &Cursor<'_>,
+) -> Result<(), NoMemory>
+    requires sound { IsSoundRow spaces true 32 row.now }
+    requires placed { IsOutputRect output.now.rect }
+    ensures { OnOk result (parts.new.items ≡ parts.old.items ++ first_space tree.now focused output.now row.now) }
+{
+    let Some(part) = row.part() else {
+        return Ok(());
+    };
+    let NodeKind::Space(space) = &part.kind else {
+        return Ok(());
+    };
+    place(parts, part.id, PlacedPart::Back, output.rect)?;
+    let scene = Scene {
+        alloc,
+        tree,
+        focused,
+        inner: space.inner,
+    };
+    place_on_space(parts, &scene, output, part.id, space, row)
+}
+
+/// Places what stands on a workspace: its fullscreen window, or else its area with its children, and its floating
+/// windows.
+fn place_on_space(
+    parts: &mut Vec<Placed>,
+    scene: &Scene<'_>,
+    output: &OutputPart,
+    id: ConId,
+    space: &SpacePart,
+    row: &Cursor<'_>,
+) -> Result<(), NoMemory>
+    requires few { row_length (first_kids row.now) ≤ 256 }
+    requires sound { IsTiledRow (first_kids row.now) }
+    requires floats { IsFloatRow (first_floats row.now) }
+    requires placed { IsOutputRect output.now.rect }
+    ensures { OnOk result (parts.new.items ≡ parts.old.items ++
+        on_space (seen scene.now) output.now id space.now (first_kids row.now) (first_floats row.now)
+        (or_else (fullscreen_in (first_kids row.now)) (fullscreen_in (first_floats row.now)))) }
+{
+    let (kids, floats) = (row.kids(), row.floats());
+    if let Some(window) = fullscreen_in(&kids).or(fullscreen_in(&floats)) {
+        return place(parts, window, PlacedPart::Content, output.rect);
+    }
+    let ground = ground(output.rect, output.reserved, space.outer, space.inner);
+    place_tiled(parts, scene, id, space, ground, &kids)?;
+    place_floats(parts, scene, floats)
+}
+
+/// Places the area of a workspace and its children in it, unless it is empty.
+fn place_tiled(
+    parts: &mut Vec<Placed>,
+    scene: &Scene<'_>,
+    id: ConId,
+    space: &SpacePart,
+    ground: Option<Rect>,
+    kids: &Cursor<'_>,
+) -> Result<(), NoMemory>
+    requires few { row_length kids.now ≤ 256 }
+    requires sound { IsTiledRow kids.now }
+    requires area { IfSome ground (λ area. IsArea area) }
+    ensures { OnOk result (parts.new.items ≡ parts.old.items ++ tiled_parts (seen scene.now) id space.now kids.now ground) }
+{
+    let Some(area) = ground else {
+        return Ok(());
+    };
+    place(parts, id, PlacedPart::Area, area)?;
+    place_kids(parts, scene, space.layout, area, kids)
+}
+
+/// The area of a workspace: the output's rectangle without the reserved edges, then without the outer and the inner
+/// gap along all sides. `None` where it is empty.
+fn ground(rect: Rect, reserved: Edges, outer: u32, inner: u32) -> Option<Rect>
+    requires { IsOutputRect rect }
+    ensures value { result ≡ some_area (ground rect reserved outer inner) }
+    ensures area { IfSome result (λ area. IsArea area) }
+{
+    let gap = u64::from(outer) + u64::from(inner);
+    let margins = Margins {
+        top: u64::from(reserved.top) + gap,
+        right: u64::from(reserved.right) + gap,
+        bottom: u64::from(reserved.bottom) + gap,
+        left: u64::from(reserved.left) + gap,
+    };
+    trim(rect, margins)
+}
+
+/// The first fullscreen window of the row, at any depth.
+fn fullscreen_in(row: &Cursor<'_>) -> Option<ConId>
+    ensures { result ≡ fullscreen_in row.now }
+{
+    let part = row.part()?;
+    if is_fullscreen(&part.kind) {
+        return Some(part.id);
+    }
+    if let Some(window) = fullscreen_in(&row.kids()) {
+        return Some(window);
+    }
+    if let Some(window) = fullscreen_in(&row.floats()) {
+        return Some(window);
+    }
+    fullscreen_in(&row.rest())
+}
+
+/// Whether the node is a fullscreen window.
+fn is_fullscreen(kind: &NodeKind) -> bool
+    ensures { result ≡ is_fullscreen kind.now }
+{
+    match kind {
+        NodeKind::Root { .. } | NodeKind::Output(_) | NodeKind::Space(_) => false,
+        NodeKind::Con(con) => con.state.fullscreen && is_window(&con.kind),
+    }
+}
+
+fn is_window(kind: &ConKind) -> bool
+    ensures { result ≡ is_window_kind kind.now }
+{
+    match kind {
+        ConKind::Window { .. } => true,
+        ConKind::Split { .. } | ConKind::Placeholder { .. } => false,
+    }
+}

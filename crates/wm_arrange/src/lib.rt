@@ -1,0 +1,21 @@
+//! The arrangement of a tree: where each output's workspace has its parts, in whole pixels.
+#![tactic(auto)]
+
+mod areas;
+mod arranging;
+mod borders;
+mod children;
+mod cutting;
+mod filling;
+mod parts;
+mod placing;
+mod rows;
+mod scene;
+#[cfg(test)]
+mod tests;
+mod texts;
+mod titles;
+
+pub use arranging::arrange;
+pub use cutting::cut;
+pub use parts::{Arrangement, Placed, PlacedPart};

@@ -1,0 +1,50 @@
+//! What the parts of a workspace depend on besides its own nodes.
+ghost use Rattle.std.specs.Prelude.{◌≡◌};
+ghost use Rattle.wm_arrange.specs.Scene.{ink, is_among, seen};
+
+use std::alloc::Global;
+use wm_base::{ConId, Ink};
+use wm_tree::Tree;
+
+const FOCUSED: Ink = Ink(0x4c_7899);
+
+const URGENT: Ink = Ink(0x90_0000);
+
+const PLAIN: Ink = Ink(0x33_3333);
+
+/// A tree with its focused node, and the inner gap of one of its workspaces in pixels.
+#[derive(Drop)]
+pub struct Scene<'a> {
+    pub alloc: Global,
+    pub tree: &'a Tree,
+    pub focused: ConId,
+    pub inner: u32,
+}
+
+impl Scene<'_> {
+    /// The ink of the container's title and border.
+    pub fn ink(&self, con: ConId) -> Ink
+        ensures { result ≡ ink (seen self.now) con }
+    {
+        if con == self.focused {
+            FOCUSED
+        } else if is_among(con, self.tree.urgent_ids()) {
+            URGENT
+        } else {
+            PLAIN
+        }
+    }
+}
+
+fn is_among(con: ConId, ids: &[ConId]) -> bool
+    ensures { result ≡ is_among con ids.now }
+{
+    let mut rest = ids;
+    while let [id, after @ ..] = rest {
+        if *id == con {
+            return true;
+        }
+        rest = after;
+    }
+    false
+}

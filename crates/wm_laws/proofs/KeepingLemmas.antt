@@ -1,0 +1,54 @@
+-- A command that leaves the order of recency as it was keeps each workspace and container.
+use Rattle.std.proofs.Common.{◌≡◌, ℕ, Bool, true, false, cond, List, Option, None, Some, Result, Ok, Err, OnOk, OnErr, refl, ap, sym, ◌∙◌}
+use Rattle.wm_base.specs.declared.errors.Refusal.{Refusal}
+use Rattle.wm_base.specs.declared.geometry.Dir.{Dir}
+use Rattle.wm_base.specs.declared.ids.ConId.{ConId}
+use Rattle.wm_grammar.specs.declared.arguments.SwapArg.{SwapArg}
+use Rattle.wm_tree.specs.declared.place.Place.TheVariants.{After}
+use Rattle.wm_tree.specs.Move.{exchanged, moved}
+use Rattle.wm_tree.specs.Sound.{IsSound, ranked, times}
+use Rattle.wm_tree.specs.TreeValue.{TreeValue}
+use Rattle.wm_focus.specs.Moves.{beside, entry, held_out, is_split_con, move_dir_tree, out_tree, side_of, step_tree, turned}
+use Rattle.wm_focus.specs.Marks.{holder_of}
+use Rattle.wm_focus.specs.Swaps.{exchanged_with, move_to_mark_tree, moved_after, partner, swap_tree}
+
+out_recency : (d : Dir) (c : ConId) (child : Option ConId) (t : TreeValue) → (out_tree d c child t).recency ≡ t.recency
+out_recency d c None t = refl
+out_recency d c (Some child) t = refl
+
+step_recency : (d : Dir) (c : ConId) (n : Option ConId) (t : TreeValue) → (step_tree d c n t).recency ≡ t.recency
+step_recency d c None t = out_recency d c (held_out d c t) t
+step_recency d c (Some n) t = by_kind (is_split_con t n)
+  where
+    by_kind : (b : Bool) → (cond b (moved c (entry d n t) t) (turned c n t)).recency ≡ t.recency
+    by_kind true = refl
+    by_kind false = refl
+
+after_recency : (c : ConId) (m : Option ConId) (t : TreeValue) → (moved_after c m t).recency ≡ t.recency
+after_recency c None t = refl
+after_recency c (Some m) t = refl
+
+with_recency : (c : ConId) (o : Option ConId) (t : TreeValue) → (exchanged_with c o t).recency ≡ t.recency
+with_recency c None t = refl
+with_recency c (Some o) t = refl
+
+-- the recency after a result that says what the tree is
+recency_by : (result : Result (Unit {0}) Refusal) (old new next : TreeValue) → next.recency ≡ old.recency → OnOk result (new ≡ next) → OnErr result (new ≡ old) → new.recency ≡ old.recency
+recency_by (Ok x) old new next same done refused = ap (λ (t : TreeValue). t.recency) done ∙ same
+recency_by (Err e) old new next same done refused = ap (λ (t : TreeValue). t.recency) refused
+
+-- sound trees with one order of recency have the same workspaces and containers
+kept : (old new : TreeValue) → IsSound old → IsSound new → new.recency ≡ old.recency → (i : ConId) → ranked i new.nodes ≡ ranked i old.nodes
+kept old new s r same i = sym (r.known i) ∙ (ap (times i) same ∙ s.known i)
+
+pub moved_keeps : (result : Result (Unit {0}) Refusal) (c : ConId) (d : Dir) (px : ℕ) (old new : TreeValue) → IsSound old → IsSound new
+    → OnOk result (new ≡ move_dir_tree c d px old) → OnErr result (new ≡ old) → (i : ConId) → ranked i new.nodes ≡ ranked i old.nodes
+moved_keeps result c d px old new s r done refused = kept old new s r (recency_by result old new (move_dir_tree c d px old) (step_recency d c (beside d c old) old) done refused)
+
+pub marked_keeps : (result : Result (Unit {0}) Refusal) (c : ConId) (name : List ℕ) (old new : TreeValue) → IsSound old → IsSound new
+    → OnOk result (new ≡ move_to_mark_tree c name old) → OnErr result (new ≡ old) → (i : ConId) → ranked i new.nodes ≡ ranked i old.nodes
+marked_keeps result c name old new s r done refused = kept old new s r (recency_by result old new (move_to_mark_tree c name old) (after_recency c (holder_of name old) old) done refused)
+
+pub swapped_keeps : (result : Result (Unit {0}) Refusal) (c : ConId) (arg : SwapArg) (old new : TreeValue) → IsSound old → IsSound new
+    → OnOk result (new ≡ swap_tree c arg old) → OnErr result (new ≡ old) → (i : ConId) → ranked i new.nodes ≡ ranked i old.nodes
+swapped_keeps result c arg old new s r done refused = kept old new s r (recency_by result old new (swap_tree c arg old) (with_recency c (partner arg old) old) done refused)

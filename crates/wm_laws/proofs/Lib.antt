@@ -1,0 +1,4 @@
+pub mod FocusingLemmas
+pub mod KeepingLemmas
+pub mod RaiseKeeps
+pub mod RowLemmas

@@ -1,0 +1,20 @@
+//! Laws on the definitions of focusing.
+ghost use Rattle.wm_laws.specs.Focusing.{ChildKeeps, DirectionKeeps, ParentKeeps};
+
+/// Focusing a child changes nothing but recency, urgency and fullscreen of its workspace.
+#[tactic(auto, using(crate::proofs::FocusingLemmas::child_keeps))]
+pub fn focusing_a_child_keeps_the_rest()
+    ensures { ChildKeeps }
+{}
+
+/// Focusing in a direction changes nothing but recency, urgency and fullscreen of one workspace.
+#[tactic(auto, using(crate::proofs::FocusingLemmas::direction_keeps))]
+pub fn focusing_in_a_direction_keeps_the_rest()
+    ensures { DirectionKeeps }
+{}
+
+/// Focusing a parent that is tiled or a workspace changes nothing but recency, urgency and fullscreen of its workspace.
+#[tactic(auto, using(crate::proofs::FocusingLemmas::parent_keeps))]
+pub fn focusing_a_parent_keeps_the_rest()
+    ensures { ParentKeeps }
+{}

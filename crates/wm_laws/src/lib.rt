@@ -1,0 +1,11 @@
+//! Laws of commands on one subject: what they keep, said over the definitions alone.
+#![tactic(auto)]
+
+mod focusing;
+mod keeping;
+
+pub use focusing::{
+    focusing_a_child_keeps_the_rest, focusing_a_parent_keeps_the_rest,
+    focusing_in_a_direction_keeps_the_rest,
+};
+pub use keeping::{a_move_keeps_all, a_move_to_a_mark_keeps_all, a_swap_keeps_all};

@@ -1,0 +1,7 @@
+use Rattle.std.proofs.Common.{◌≡◌, ℕ, ◌<◌, false, get_or}
+use Rattle.wm_paint.specs.Escapes.{is_special}
+use Rattle.wm_paint.proofs.escapes.plain_length.Given as goal
+
+-- the bytes so far are plain
+abbrev pub invariant-loop-i : goal.invariant-loop-i
+invariant-loop-i l = (k : ℕ) → k < l.i → is_special (get_or l.text k 0) ≡ false

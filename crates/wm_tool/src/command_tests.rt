@@ -1,0 +1,110 @@
+//! Runs of the tool over commands on nested containers: their replies, and the frames that they leave.
+use crate::line_tests::replayed;
+use std::alloc::Global;
+use std::test::Fail;
+
+/// The line of replies in which an empty text stands for success.
+fn replies(alloc: Global, errors: &[&str]) -> Result<String, Fail> {
+    let mut line = String::from_str(alloc, "[")?;
+    for error in errors {
+        if line.len() > 1 {
+            line.push_str(",")?;
+        }
+        if error.is_empty() {
+            line.push_str("{\"success\":true}")?;
+        } else {
+            line.push_str("{\"error\":\"")?;
+            line.push_str(error)?;
+            line.push_str("\",\"success\":false}")?;
+        }
+    }
+    line.push_str("]\n")?;
+    Ok(line)
+}
+
+#[test]
+fn texts_and_their_replies(rt: HostRuntime) -> Result<(), Fail> {
+    let none = "nothing in that direction";
+    let empty = "the focus is a workspace";
+    let three = "map 000001 9x9\nmap 000002 9x9\nmap 000003 9x9\n";
+    let part = "one container is part of the other";
+    let cases = [
+        (
+            "",
+            "focus left, focus parent, focus child",
+            [none, none, none],
+        ),
+        (
+            "",
+            "move up, mark a, swap with con_id 3",
+            [empty, empty, empty],
+        ),
+        ("", "split v, layout tabbed, layout toggle", ["", "", ""]),
+        (
+            three,
+            "focus; mark \"\"; unmark",
+            ["focus needs criteria", "out of range", ""],
+        ),
+        (
+            three,
+            "[all] mark a; [class=a] kill; [id=9] mark a",
+            [
+                "more than one container matches",
+                "not built yet",
+                "no container matches",
+            ],
+        ),
+        (
+            three,
+            "[all] swap with con_id 5; swap with id 3; swap with mark a",
+            [part, "no such container", "no such mark"],
+        ),
+        (three, "move left; move up; focus left", ["", none, ""]),
+        (
+            three,
+            "split v; mark a; [con_id=7] move to mark a",
+            ["", "", part],
+        ),
+        (three, "split v; focus parent; focus parent", ["", "", ""]),
+    ];
+    for (script, text, errors) in cases {
+        let script = format!(in rt.alloc(); "{script}run {text}\n")?;
+        let (ended, written) = replayed(rt.alloc(), script.as_str())?;
+        let line = replies(rt.alloc(), &errors)?;
+        assert_eq!(rt; ended, 0, "{text}");
+        assert!(rt; written.ends_with(line.as_bytes()), "{text}");
+    }
+    Ok(())
+}
+
+#[test]
+fn scripts_on_nested_containers(rt: HostRuntime) -> Result<(), Fail> {
+    let cases = [
+        (
+            "map ff0000 640x480\nmap 00ff00 640x480\nmap 0000ff 640x480\nrun split v\nmap ffffff 640x480\nrun focus left\nrun move right\npaint\n",
+            "window 4 0,0 500x800 ff0000 640x480\nwindow 6 500,0 500x266 0000ff 640x480\nwindow 8 500,266 500x267 ffffff 640x480\nwindow 5 500,533 500x267 00ff00 640x480\nend\n",
+        ),
+        (
+            "map 000001 9x9\nrun split v\nmap 000002 9x9\nrun split h\nmap 000003 9x9\nclose 7\npaint\nrun [con_id=6] mark kept\nmarks\n",
+            "window 4 0,0 1000x400 000001 9x9\nwindow 5 0,400 1000x400 000002 9x9\nend\n[{\"success\":true}]\n[\"kept\"]\n",
+        ),
+        (
+            "map 000001 9x9\nmap 000002 9x9\nrun [con_id=4] mark a\nrun [con_id=5] mark --add a\nrun [con_id=4 con_mark=a] unmark\nmarks\n",
+            "[{\"error\":\"no container matches\",\"success\":false}]\n[\"a\"]\n",
+        ),
+        (
+            "map 000001 9x9\nrun mark a, nop, splt h\nmarks\n",
+            "[{\"error\":\"parse error at byte 0\",\"parse_error\":true,\"success\":false}]\n[]\n",
+        ),
+        (
+            "map 000001 9x9\nmap 000002 9x9\nrun layout tabbed; focus left\npaint\nrun layout toggle split, layout toggle all\npaint\n",
+            "window 4 0,0 1000x800 000001 9x9\nend\n[{\"success\":true},{\"success\":true}]\nframe 4 4\nback 3 0,0 1000x800\nwindow 4 0,0 1000x400 000001 9x9\nwindow 5 0,400 1000x400 000002 9x9\nend\n",
+        ),
+    ];
+    for (script, text) in cases {
+        let (ended, written) = replayed(rt.alloc(), script)?;
+        assert_eq!(rt; ended, 0, "{script}");
+        assert!(rt; written.ends_with(text.as_bytes()), "{script}");
+    }
+    Ok(())
+}
