@@ -1,5 +1,5 @@
 -- The last place at which a text may be cut.
-use Rattle.std.proofs.Common.{◌≡◌, ◌∙◌, refl, ℕ, zero, suc, ◌-◌, ◌≤◌, ◌<◌, Bool, true, false, cond, List, length, slice_index, take, nat_le, arith}
+use Rattle.std.proofs.Common.{◌≡◌, refl, ℕ, zero, suc, ◌-◌, ◌≤◌, ◌<◌, Bool, true, false, cond, List, length, slice_index, take, nat_le, arith}
 use Rattle.std.proofs.lemmas.Bool.Decides.{nat_tests}
 use Rattle.std.specs.String.Boundary.{IsSplitPoint}
 use Rattle.wm_arrange.specs.TitleText.{cut_place, fitted, goes_on}

@@ -1,5 +1,5 @@
 -- Sums of shares.
-use Rattle.std.proofs.Common.{ℕ, ◌*◌, ◌≤◌, List, All, length, sum, arith}
+use Rattle.std.proofs.Common.{ℕ, ◌≤◌, List, All, length, sum, arith}
 use Rattle.std.proofs.lemmas.List.Sums.{sum_by-le}
 
 -- 256 shares make at most 268,435,456

@@ -1,5 +1,5 @@
 -- Sound trees: their workspaces and outputs.
-use Rattle.std.proofs.Common.{◌≡◌, ◌∙◌, sym, append-nil, ℕ, ◌≤◌, List, ◌++◌, None, true, arith}
+use Rattle.std.proofs.Common.{◌≡◌, ◌∙◌, sym, append-nil, ◌≤◌, List, ◌++◌, None, true, arith}
 use Rattle.wm_base.specs.declared.ids.ConId.{ConId}
 use Rattle.wm_tree.specs.declared.part.NodeKind.{NodeKind}
 use Rattle.wm_tree.specs.declared.part.NodeKind.TheVariants.{Root, Output, Space, Con}

@@ -123,7 +123,6 @@ fn cuts(rt: HostRuntime) -> Result<(), Fail> {
     assert_eq!(rt; cut(1000, &shares, 0), (0, 333));
     assert_eq!(rt; cut(1000, &shares, 1), (333, 333));
     assert_eq!(rt; cut(1000, &shares, 2), (666, 334));
-    assert_eq!(rt; cut(10, &[1, 1, 1], 2), (6, 4));
     Ok(())
 }
 

@@ -1,4 +1,4 @@
-use Rattle.std.proofs.Common.{◌≡◌, ◌∙◌, ap, sym}
+use Rattle.std.proofs.Common.{◌∙◌, ap, sym}
 use Rattle.std.specs.Option.{option_copied}
 use Rattle.wm_arrange.specs.Arranged.{arranged}
 use Rattle.wm_arrange.proofs.TreeLemmas.{at_end, output_spaces}
