@@ -22,57 +22,62 @@ fn replies(alloc: Global, errors: &[&str]) -> Result<String, Fail> {
     Ok(line)
 }
 
+/// Whether the text, run behind these lines, is answered with these replies.
+fn is_answered(alloc: Global, lines: &str, text: &str, errors: &[&str]) -> Result<bool, Fail> {
+    let script = format!(in alloc; "{lines}run {text}\n")?;
+    let (ended, written) = replayed(alloc, script.as_str())?;
+    let line = replies(alloc, errors)?;
+    Ok(ended == 0 && written.ends_with(line.as_bytes()))
+}
+
 #[test]
-fn texts_and_their_replies(rt: HostRuntime) -> Result<(), Fail> {
+fn texts_on_an_empty_workspace(rt: HostRuntime) -> Result<(), Fail> {
     let none = "nothing in that direction";
     let empty = "the focus is a workspace";
-    let three = "map 000001 9x9\nmap 000002 9x9\nmap 000003 9x9\n";
+    let cases = [
+        ("focus left, focus parent, focus child", none),
+        ("move up, mark a, swap with con_id 3", empty),
+        ("split v, layout tabbed, layout toggle", ""),
+    ];
+    for (text, error) in cases {
+        let answered = is_answered(rt.alloc(), "", text, &[error, error, error])?;
+        assert!(rt; answered, "{text}");
+    }
+    Ok(())
+}
+
+#[test]
+fn texts_on_three_windows(rt: HostRuntime) -> Result<(), Fail> {
+    let many = "more than one container matches";
+    let none = "nothing in that direction";
     let part = "one container is part of the other";
     let cases = [
         (
-            "",
-            "focus left, focus parent, focus child",
-            [none, none, none],
-        ),
-        (
-            "",
-            "move up, mark a, swap with con_id 3",
-            [empty, empty, empty],
-        ),
-        ("", "split v, layout tabbed, layout toggle", ["", "", ""]),
-        (
-            three,
             "focus; mark \"\"; unmark",
-            ["focus needs criteria", "out of range", ""],
+            "focus needs criteria",
+            "out of range",
+            "",
         ),
         (
-            three,
             "[all] mark a; [class=a] kill; [id=9] mark a",
-            [
-                "more than one container matches",
-                "not built yet",
-                "no container matches",
-            ],
+            many,
+            "not built yet",
+            "no container matches",
         ),
         (
-            three,
             "[all] swap with con_id 5; swap with id 3; swap with mark a",
-            [part, "no such container", "no such mark"],
+            part,
+            "no such container",
+            "no such mark",
         ),
-        (three, "move left; move up; focus left", ["", none, ""]),
-        (
-            three,
-            "split v; mark a; [con_id=7] move to mark a",
-            ["", "", part],
-        ),
-        (three, "split v; focus parent; focus parent", ["", "", ""]),
+        ("move left; move up; focus left", "", none, ""),
+        ("split v; mark a; [con_id=7] move to mark a", "", "", part),
+        ("split v; focus parent; focus parent", "", "", ""),
     ];
-    for (script, text, errors) in cases {
-        let script = format!(in rt.alloc(); "{script}run {text}\n")?;
-        let (ended, written) = replayed(rt.alloc(), script.as_str())?;
-        let line = replies(rt.alloc(), &errors)?;
-        assert_eq!(rt; ended, 0, "{text}");
-        assert!(rt; written.ends_with(line.as_bytes()), "{text}");
+    let lines = "map 000001 9x9\nmap 000002 9x9\nmap 000003 9x9\n";
+    for (text, first, second, third) in cases {
+        let answered = is_answered(rt.alloc(), lines, text, &[first, second, third])?;
+        assert!(rt; answered, "{text}");
     }
     Ok(())
 }
