@@ -15,7 +15,7 @@ use Rattle.wm_tree.specs.declared.place.NewCon.TheVariants as new
 use Rattle.wm_tree.specs.declared.spot.Spot.{Spot}
 use Rattle.wm_tree.specs.Forest.{Forest, end, con}
 use Rattle.wm_tree.specs.Change.{nobody}
-use Rattle.wm_tree.specs.Counts.{con_of, con_count, count, marks_of, newcomer_share, row_length, row_with}
+use Rattle.wm_tree.specs.Counts.{con_of, con_count, count, marks_of, newcomer_share, row_length, row_with, space_count, space_of}
 use Rattle.wm_tree.specs.Look.{first_kids, first_part, has, in_row, kind_by, only, same, space_kind}
 use Rattle.wm_tree.specs.Place.{IsPlace, TakesFirst, is_tiled, named, new_kind, new_part, passed_limit, put, rect_at, room_at, room_by, room_under, row_room, share_at, siblings, tiles}
 use Rattle.wm_tree.specs.Sound.{HasKids, HasShare, IsNode, IsSound, IsSoundRow, containers, one_of, rank_of, roots, tally}
@@ -163,22 +163,23 @@ ready_new (Scratchpad rect) newcomer t s there ok none =
 -- ---- the tree with a new container
 
 -- a node alone under an id counts once under it
-abbrev hits : ConId → ConId → ℕ
+abbrev pub hits : ConId → ConId → ℕ
 hits m i = cond (same m i) 1 0
 
-one_node : (m : ConId) (i : ConId) → (hits m i ≡ 0) ⊎ ((hits m i ≡ 1) × (m.0 ≡ i.0))
+pub one_node : (m : ConId) (i : ConId) → (hits m i ≡ 0) ⊎ ((hits m i ≡ 1) × (m.0 ≡ i.0))
 one_node m i = ⊎_elim (λ t. inr (rw t.0 refl, t.1)) (λ t. inl (rw t.0 refl)) (eqb_tells m.0 i.0)
 
 -- nodes that count one more under the next id
 pub record Grown (t : TreeValue) (nodes : Forest) : Type 0 where
   pub ones : (i : ConId) → tally i nodes ≡ tally i t.nodes + cond (same (id t.next_id) i) 1 0
   pub ranked_more : (i : ConId) → count (rank_of i) nodes ≡ count (rank_of i) t.nodes + cond (same (id t.next_id) i) 1 0
-  pub cons : con_count nodes ≡ con_count t.nodes + 1
+  pub cons : con_count nodes ≤ 4096
+  pub spaces : space_count nodes ≤ 256
   pub marks : count marks_of nodes ≡ count marks_of t.nodes
 
-pub sound-grown : (t : TreeValue) (nodes : Forest) → IsSound t → IsSoundRow roots false 0 nodes × KeepsRow roots t.nodes nodes → Grown t nodes → con_count t.nodes < 4096 → t.next_id ≤ 4000000000
+pub sound-grown : (t : TreeValue) (nodes : Forest) → IsSound t → IsSoundRow roots false 0 nodes × KeepsRow roots t.nodes nodes → Grown t nodes → t.next_id ≤ 4000000000
     → IsSound (record t { nodes = nodes; recency = t.recency ++ id t.next_id ∷ []; next_id = t.next_id + 1 })
-sound-grown t nodes s shape g few last = record {
+sound-grown t nodes s shape g last = record {
   shaped = shape.0;
   rooted = shape.1 root s.rooted;
   once = λ i. ⊎_elim (λ z. omega (arith, z, g.ones i, s.once i)) (λ z. omega (arith, z.0, z.1, g.ones i, s.fresh i (omega (arith, z.1)))) (one_node (id t.next_id) i);
@@ -186,7 +187,8 @@ sound-grown t nodes s shape g few last = record {
   low = ⊎_elim (λ z. omega (arith, z, g.ones nobody, s.low)) (λ z. absurd (omega (arith, z.1, s.above))) (one_node (id t.next_id) nobody);
   above = omega (arith, s.above);
   known = λ i. omega (arith, times-append i t.recency (id t.next_id ∷ []), s.known i, g.ranked_more i);
-  few = omega (arith, g.cons);
+  few = g.cons;
+  few_spaces = g.spaces;
   few_marks = omega (arith, g.marks, s.few_marks);
   ids = omega arith;
 }
@@ -202,10 +204,11 @@ sound-attached p newcomer t there ok none s =
     (record {
       ones = λ i. omega (arith, count-put (one_of i) p row t.nodes there);
       ranked_more = λ i. omega (arith, count-put (rank_of i) p row t.nodes there);
-      cons = omega (arith, count-put con_of p row t.nodes there);
+      cons = omega (arith, count-put con_of p row t.nodes there, r.containers_left);
+      spaces = omega (arith, count-put space_of p row t.nodes there, s.few_spaces);
       marks = omega (arith, count-put marks_of p row t.nodes there);
     })
-    r.containers_left r.ids_left
+    r.ids_left
 
 -- what is there afterwards was there before, or is the newcomer
 pub one_new-attached : (p : Place) (newcomer : NewCon) (t : TreeValue) (v : ConId) → has (named p) t.nodes ≡ true → has v (attached p newcomer t).nodes ≡ true → same (id t.next_id) v ≡ false → has v t.nodes ≡ true

@@ -5,6 +5,8 @@ use Rattle.wm_base.specs.declared.plan.Layout.{Layout}
 use Rattle.wm_tree.specs.declared.kind.KindEdit.{KindEdit}
 use Rattle.wm_tree.specs.declared.kind.KindEdit.TheVariants as edits
 use Rattle.wm_base.specs.declared.geometry.Edges.{Edges}
+use Rattle.wm_base.specs.declared.geometry.Size.{Size}
+use Rattle.wm_base.specs.declared.properties.Props.{Props}
 use Rattle.wm_tree.specs.declared.part.ConState.{ConState}
 use Rattle.wm_tree.specs.Place.{is_tiled}
 use Rattle.wm_tree.specs.declared.part.Part.{Part}
@@ -15,8 +17,8 @@ use Rattle.wm_tree.specs.declared.part.NodeKind.TheVariants.{Root, Output, Space
 use Rattle.wm_tree.specs.declared.spot.Spot.{Spot}
 use Rattle.wm_tree.specs.Forest.{Forest, con}
 use Rattle.wm_tree.specs.Change.{at}
-use Rattle.wm_tree.specs.Counts.{one_con, row_with}
-use Rattle.wm_tree.specs.Kinds.{changed, kind_changed, laid_out, titled}
+use Rattle.wm_tree.specs.Counts.{one_con, one_space, row_with}
+use Rattle.wm_tree.specs.Kinds.{changed, filled, kind_changed, laid_out, titled}
 use Rattle.wm_tree.specs.Look.{only, in_row, first_kids}
 use Rattle.wm_tree.specs.Sound.{Level, roots, outputs, spaces, containers, HasKids, HasShare, IsNode, IsSoundRow, ranks}
 use Rattle.wm_tree.specs.Spot.{room_below, spot_in, spot_of}
@@ -30,6 +32,7 @@ FitsEdit (edits.Layout l) tiled kids = Unit {0}
 FitsEdit (edits.State s) tiled kids = Unit {0}
 FitsEdit (edits.Title t) tiled kids = Unit {0}
 FitsEdit (edits.TitleFormat t) tiled kids = Unit {0}
+FitsEdit (edits.Fill props owner natural) tiled kids = Unit {0}
 FitsEdit (edits.Name n) tiled kids = Unit {0}
 FitsEdit (edits.Gaps inner outer) tiled kids = Unit {0}
 FitsEdit (edits.Reserved e) tiled kids = Unit {0}
@@ -50,6 +53,11 @@ kids_titled t (Split layout last) kids h = h
 kids_titled t (Window props owner natural) kids h = h
 kids_titled t (Placeholder props swallows) kids h = h
 
+kids_filled : (props : Props) (owner : ℕ) (natural : Size) (kind : ConKind) (kids : Forest) → HasKids kind kids → HasKids (filled props owner natural kind) kids
+kids_filled props owner natural (Split layout last) kids h = h
+kids_filled props owner natural (Window p o n) kids h = h
+kids_filled props owner natural (Placeholder p swallows) kids h = h
+
 changed_con : (edit : KindEdit) (kind : NodeKind) (l : Level) (tiled : Bool) (room : ℕ) (id : ConId) (marks : List (List ℕ)) (kids : Forest) → FitsEdit edit tiled kids
     → IsNode l tiled room id kind marks kids → IsNode l tiled room id (changed edit kind) marks kids
 changed_con (edits.Share s) (Con c) containers tiled room id marks kids ok h = (h.0, ok, h.2, h.3)
@@ -58,6 +66,7 @@ changed_con (edits.Layout y) (Space w) spaces tiled room id marks kids ok h = h
 changed_con (edits.State s) (Con c) containers tiled room id marks kids ok h = h
 changed_con (edits.Title t) (Con c) containers tiled room id marks kids ok h = (h.0, h.1, h.2, kids_titled t c.kind kids h.3)
 changed_con (edits.TitleFormat t) (Con c) containers tiled room id marks kids ok h = h
+changed_con (edits.Fill props owner natural) (Con c) containers tiled room id marks kids ok h = (h.0, h.1, h.2, kids_filled props owner natural c.kind kids h.3)
 changed_con (edits.Name n) (Space w) spaces tiled room id marks kids ok h = h
 changed_con (edits.Gaps inner outer) (Space w) spaces tiled room id marks kids ok h = h
 changed_con (edits.Reserved e) (Output o) outputs tiled room id marks kids ok h = h
@@ -72,6 +81,7 @@ changed_room (edits.Layout l) (Space w) room = refl
 changed_room (edits.State s) (Con c) room = refl
 changed_room (edits.Title t) (Con c) room = refl
 changed_room (edits.TitleFormat t) (Con c) room = refl
+changed_room (edits.Fill props owner natural) (Con c) room = refl
 changed_room (edits.Name n) (Space w) room = refl
 changed_room (edits.Gaps inner outer) (Space w) room = refl
 changed_room (edits.Reserved e) (Output o) room = refl
@@ -86,6 +96,7 @@ changed_ranks (edits.Layout l) (Space w) = refl
 changed_ranks (edits.State s) (Con c) = refl
 changed_ranks (edits.Title t) (Con c) = refl
 changed_ranks (edits.TitleFormat t) (Con c) = refl
+changed_ranks (edits.Fill props owner natural) (Con c) = refl
 changed_ranks (edits.Name n) (Space w) = refl
 changed_ranks (edits.Gaps inner outer) (Space w) = refl
 changed_ranks (edits.Reserved e) (Output o) = refl
@@ -100,12 +111,28 @@ changed_one (edits.Layout l) (Space w) = refl
 changed_one (edits.State s) (Con c) = refl
 changed_one (edits.Title t) (Con c) = refl
 changed_one (edits.TitleFormat t) (Con c) = refl
+changed_one (edits.Fill props owner natural) (Con c) = refl
 changed_one (edits.Name n) (Space w) = refl
 changed_one (edits.Gaps inner outer) (Space w) = refl
 changed_one (edits.Reserved e) (Output o) = refl
 changed_one (edits.Shown w) (Output o) = refl
 changed_one (edits.Current o) (Root c) = refl
 changed_one edit kind = refl
+
+pub changed_space : (edit : KindEdit) (kind : NodeKind) → one_space (changed edit kind) ≡ one_space kind
+changed_space (edits.Share s) (Con c) = refl
+changed_space (edits.Layout l) (Con c) = refl
+changed_space (edits.Layout l) (Space w) = refl
+changed_space (edits.State s) (Con c) = refl
+changed_space (edits.Title t) (Con c) = refl
+changed_space (edits.TitleFormat t) (Con c) = refl
+changed_space (edits.Fill props owner natural) (Con c) = refl
+changed_space (edits.Name n) (Space w) = refl
+changed_space (edits.Gaps inner outer) (Space w) = refl
+changed_space (edits.Reserved e) (Output o) = refl
+changed_space (edits.Shown w) (Output o) = refl
+changed_space (edits.Current o) (Root c) = refl
+changed_space edit kind = refl
 
 pub sound-changed : (c : ConId) (edit : KindEdit) (l : Level) (s : Spot) (forest : Forest) → FitsEditAt edit (spot_in s c forest) (first_kids (only c forest)) → IsSoundRow l s.tiled s.room forest
     → Grows 0 l s.tiled s.room forest forest (at c kind_changed edit forest) (row_with c forest forest)
@@ -136,6 +163,10 @@ fits_title t (Some s) kids = tt
 pub fits_format : (t : List ℕ) (sp : Option Spot) (kids : Forest) → FitsEditAt (edits.TitleFormat t) sp kids
 fits_format t None kids = tt
 fits_format t (Some s) kids = tt
+
+pub fits_fill : (props : Props) (owner : ℕ) (natural : Size) (sp : Option Spot) (kids : Forest) → FitsEditAt (edits.Fill props owner natural) sp kids
+fits_fill props owner natural None kids = tt
+fits_fill props owner natural (Some s) kids = tt
 
 pub fits_name : (n : List ℕ) (sp : Option Spot) (kids : Forest) → FitsEditAt (edits.Name n) sp kids
 fits_name n None kids = tt

@@ -5,7 +5,7 @@ use Rattle.wm_tree.specs.declared.part.Part.{Part}
 use Rattle.wm_tree.specs.declared.spot.Spot.{Spot}
 use Rattle.wm_tree.specs.Forest.{Forest, end, con}
 use Rattle.wm_tree.specs.Change.{arriving, hole, in_place, nobody, placed, replaced, unfull_kind}
-use Rattle.wm_tree.specs.Counts.{con_of, count, marks_of, row_length, share_of}
+use Rattle.wm_tree.specs.Counts.{con_of, count, marks_of, row_length, share_of, space_of}
 use Rattle.wm_tree.specs.Look.{first_part, has, only, same}
 use Rattle.wm_tree.specs.Move.{apart, exchanged, exchanged_nodes, holed, is_too_deep, share_by, share_in}
 use Rattle.wm_tree.specs.Place.{IsTiled, is_tiled, room_by, row_room}
@@ -17,12 +17,12 @@ use Rattle.wm_tree.proofs.CountLemmas.{count-without, counted, found_counted, ta
 use Rattle.wm_tree.proofs.HoleLooks.{hole_stands, stays}
 use Rattle.wm_tree.proofs.HoleLemmas.{IsHoley, IsHoleyAt, sound-filled, sound-holed, sound-unholed, strengthen, weaken}
 use Rattle.wm_tree.proofs.LookLemmas.{SeenAs, seen-replaced}
-use Rattle.wm_tree.proofs.MoveLemmas.{SoundFound, arrived, count-arriving, found_alone, found_sound, placed_one, placed_ranks, row_length-arriving}
+use Rattle.wm_tree.proofs.MoveLemmas.{SoundFound, arrived, count-arriving, found_alone, found_sound, placed_one, placed_ranks, placed_space, row_length-arriving}
 use Rattle.wm_tree.proofs.PutLemmas.{IsConFirst}
 use Rattle.wm_tree.proofs.RecencyLemmas.{same_is}
 use Rattle.wm_tree.proofs.RowLemmas.{KeepsRow}
 use Rattle.wm_tree.proofs.WrapLemmas.{node_share}
-use Rattle.wm_tree.proofs.RaiseLemmas.{unfull_one, unfull_ranks}
+use Rattle.wm_tree.proofs.RaiseLemmas.{unfull_one, unfull_ranks, unfull_space}
 use Rattle.wm_tree.proofs.StandLemmas.{HasSpot, has_spot}
 
 -- ---- counts
@@ -210,6 +210,7 @@ sound-exchanged a b t first second ta tb outside inside shallow s =
       above = s.above;
       known = λ i. s.known i ∙ sym (count_exchanged (rank_of i) a b (share_in a f) (share_in b f) away f (λ part. ap (λ n. cond (same part.id i) n 0) (unfull_ranks part.kind)) (λ share part. ap (λ n. cond (same part.id i) n 0) (placed_ranks share None part.kind)) p q);
       few = omega (arith, count_exchanged con_of a b (share_in a f) (share_in b f) away f (λ part. unfull_one part.kind) (λ share part. placed_one share None part.kind) p q, s.few);
+      few_spaces = omega (arith, count_exchanged space_of a b (share_in a f) (share_in b f) away f (λ part. unfull_space part.kind) (λ share part. placed_space share None part.kind) p q, s.few_spaces);
       few_marks = omega (arith, count_exchanged marks_of a b (share_in a f) (share_in b f) away f (λ part. refl) (λ share part. refl) p q, s.few_marks);
       ids = s.ids;
     }

@@ -9,7 +9,7 @@ use Rattle.wm_tree.specs.declared.part.NodeKind.TheVariants.{Root, Output, Space
 use Rattle.wm_tree.specs.declared.spot.Spot.{Spot}
 use Rattle.wm_tree.specs.Forest.{Forest, end, con}
 use Rattle.wm_tree.specs.Change.{at, nobody}
-use Rattle.wm_tree.specs.Counts.{con_of, mark_count, row_with}
+use Rattle.wm_tree.specs.Counts.{con_of, mark_count, row_with, space_of}
 use Rattle.wm_tree.specs.Look.{first_marks, only}
 use Rattle.wm_tree.specs.Move.{is_full_of_marks, marked, marks_in, marks_word, other_marks, unmark_word, unmarked}
 use Rattle.wm_tree.specs.Sound.{Level, roots, outputs, spaces, containers, IsNode, IsSound, IsSoundRow, one_of, rank_of}
@@ -123,6 +123,7 @@ sound-marked c n t ok none s =
       above = s.above;
       known = λ i. s.known i ∙ sym (count-same (rank_of i) c marks_word marks (λ part kids floats rest. refl) t.nodes);
       few = omega (arith, count-same con_of c marks_word marks (λ part kids floats rest. refl) t.nodes, s.few);
+      few_spaces = omega (arith, count-same space_of c marks_word marks (λ part kids floats rest. refl) t.nodes, s.few_spaces);
       few_marks = omega (arith, count_marks c marks t.nodes, given_most (length marks) (only c t.nodes), long, room.0);
       ids = s.ids;
     }
@@ -139,6 +140,7 @@ sound-unmarked c n t s =
       above = s.above;
       known = λ i. s.known i ∙ sym (count-same (rank_of i) c unmark_word n (λ part kids floats rest. refl) t.nodes);
       few = omega (arith, count-same con_of c unmark_word n (λ part kids floats rest. refl) t.nodes, s.few);
+      few_spaces = omega (arith, count-same space_of c unmark_word n (λ part kids floats rest. refl) t.nodes, s.few_spaces);
       few_marks = omega (arith, count_unmarked c n t.nodes, s.few_marks);
       ids = s.ids;
     }

@@ -12,7 +12,7 @@ use Rattle.wm_tree.specs.declared.place.Place.TheVariants.{After, Before, First,
 use Rattle.wm_tree.specs.declared.spot.Spot.{Spot}
 use Rattle.wm_tree.specs.Forest.{Forest, end, con}
 use Rattle.wm_tree.specs.Change.{arriving, nobody, placed, unfull, unfull_kind, without}
-use Rattle.wm_tree.specs.Counts.{but, con_of, count, marks_of, newcomer_share, one_con, row_length, row_with}
+use Rattle.wm_tree.specs.Counts.{but, con_of, count, marks_of, newcomer_share, one_con, one_space, row_length, row_with, space_of}
 use Rattle.wm_tree.specs.Look.{con_kind, first_kids, first_part, has, kind_by, only, same}
 use Rattle.wm_tree.specs.Move.{apart, moved, moved_share, passed_by_move}
 use Rattle.wm_tree.specs.Place.{IsPlace, TakesFirst, is_tiled, named, rect_at, room_by, room_under, row_room, siblings}
@@ -24,7 +24,7 @@ use Rattle.wm_tree.proofs.ChangeLemmas.{by_change, by_place}
 use Rattle.wm_tree.proofs.CountLemmas.{count-put, count-without}
 use Rattle.wm_tree.proofs.LookLemmas.{kids-without, row-without, seen-without}
 use Rattle.wm_tree.proofs.PutLemmas.{Above, Beside, IsConFirst, IsSoundAt, IsSoundBelow, Under, con_level, sound-without}
-use Rattle.wm_tree.proofs.RaiseLemmas.{count-unfull, ends-unfull, row_length-unfull, sound-unfull, unfull_node, unfull_one, unfull_ranks, unfull_room}
+use Rattle.wm_tree.proofs.RaiseLemmas.{count-unfull, ends-unfull, row_length-unfull, sound-unfull, unfull_node, unfull_one, unfull_ranks, unfull_room, unfull_space}
 use Rattle.wm_tree.proofs.RowLemmas.{node_keeps}
 use Rattle.wm_tree.proofs.StandLemmas.{HasSpot, SoundKids, SoundStanding, has_spot, mean_bounds, sound-but, stands}
 use Rattle.wm_tree.proofs.WrapLemmas.{resound}
@@ -77,6 +77,12 @@ placed_one share rect (Root c) = refl
 placed_one share rect (Output o) = refl
 placed_one share rect (Space w) = refl
 placed_one share rect (Con c) = refl
+
+pub placed_space : (share : ℕ) (rect : Option Rect) (kind : NodeKind) → one_space (placed share rect kind) ≡ one_space kind
+placed_space share rect (Root c) = refl
+placed_space share rect (Output o) = refl
+placed_space share rect (Space w) = refl
+placed_space share rect (Con c) = refl
 
 -- a container that comes to a row with other room
 pub arrived : (tiled other : Bool) (room room' share : ℕ) (rect : Option Rect) (away : Bool) (f : Forest) → HasShare other share → fits room' f ≡ true → IsSoundRow containers tiled room f → row_length f ≤ 1
@@ -292,6 +298,7 @@ sound-moved c p t con_first there named_there outside ok none s =
       above = s.above;
       known = λ i. s.known i ∙ sym (count_moved (rank_of i) c p t (λ part. ap (λ n. cond (same part.id i) n 0) (unfull_ranks part.kind)) (λ share rect part. ap (λ n. cond (same part.id i) n 0) (placed_ranks share rect part.kind)) named_there outside);
       few = omega (arith, count_moved con_of c p t (λ part. unfull_one part.kind) (λ share rect part. placed_one share rect part.kind) named_there outside, s.few);
+      few_spaces = omega (arith, count_moved space_of c p t (λ part. unfull_space part.kind) (λ share rect part. placed_space share rect part.kind) named_there outside, s.few_spaces);
       few_marks = omega (arith, count_moved marks_of c p t (λ part. refl) (λ share rect part. refl) named_there outside, s.few_marks);
       ids = s.ids;
     }

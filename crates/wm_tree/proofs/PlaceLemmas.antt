@@ -8,7 +8,7 @@ use Rattle.wm_tree.specs.declared.place.Place.{Place}
 use Rattle.wm_tree.specs.declared.place.Place.TheVariants.{After, Last}
 use Rattle.wm_tree.specs.Forest.{Forest, end, con}
 use Rattle.wm_tree.specs.Change.{shown_of, without}
-use Rattle.wm_tree.specs.Counts.{count}
+use Rattle.wm_tree.specs.Counts.{count, one_space}
 use Rattle.wm_tree.specs.Look.{con_kind, first_kids, first_part, has, in_row, kind_by, node_in, only, same}
 use Rattle.wm_tree.specs.Place.{IsPlace, TakesFirst, TakesKids, is_tiled, named}
 use Rattle.wm_tree.specs.Sound.{IsNode, IsSound, IsSoundRow, one_of, outputs, spaces, tally}
@@ -19,12 +19,6 @@ use Rattle.wm_tree.proofs.FocusLemmas.{current_there, outputs_of, shown_has}
 use Rattle.wm_tree.proofs.ForestLemmas.{only_absent}
 
 -- ---- a workspace is found under its id
-
-abbrev one_space : NodeKind → ℕ
-one_space (Root c) = 0
-one_space (Output o) = 0
-one_space (Space w) = 1
-one_space (Con c) = 0
 
 -- a workspace with the id counts one
 abbrev space_of : ConId → Part → ℕ

@@ -7,7 +7,7 @@ use Rattle.wm_tree.specs.declared.part.NodeKind.TheVariants.{Root, Output, Space
 use Rattle.wm_tree.specs.declared.spot.Spot.{Spot}
 use Rattle.wm_tree.specs.Forest.{Forest, end, con}
 use Rattle.wm_tree.specs.Change.{append, at, nobody, raised_in, to_end, unfull, unfull_kind}
-use Rattle.wm_tree.specs.Counts.{but, con_of, count, marks_of, one_con, row_length, row_with}
+use Rattle.wm_tree.specs.Counts.{but, con_of, count, marks_of, one_con, one_space, row_length, row_with, space_of}
 use Rattle.wm_tree.specs.Look.{first_alone, in_row, node_in, same}
 use Rattle.wm_tree.specs.Sound.{Level, roots, outputs, spaces, containers, below, IsNode, IsSound, IsSoundRow, one_of, rank_of, ranks}
 use Rattle.wm_tree.specs.Spot.{room_below, top}
@@ -51,6 +51,12 @@ unfull_one (Root c) = refl
 unfull_one (Output o) = refl
 unfull_one (Space w) = refl
 unfull_one (Con c) = refl
+
+pub unfull_space : (kind : NodeKind) → one_space (unfull_kind kind) ≡ one_space kind
+unfull_space (Root c) = refl
+unfull_space (Output o) = refl
+unfull_space (Space w) = refl
+unfull_space (Con c) = refl
 
 module _ (c : ConId) where
   part_id : (b : Bool) (part : Part) → (cond b part (record part { kind = unfull_kind part.kind })).id ≡ part.id
@@ -184,6 +190,7 @@ sound-raised c t s =
       above = s.above;
       known = λ i. omega (arith, times-raised i c t.recency, s.known i, count-raised (rank_of i) (λ part. ap (λ n. cond (same part.id i) n 0) (unfull_ranks part.kind)) c w t.nodes);
       few = omega (arith, count-raised con_of (λ part. unfull_one part.kind) c w t.nodes, s.few);
+      few_spaces = omega (arith, count-raised space_of (λ part. unfull_space part.kind) c w t.nodes, s.few_spaces);
       few_marks = omega (arith, count-raised marks_of (λ part. refl) c w t.nodes, s.few_marks);
       ids = s.ids;
     }

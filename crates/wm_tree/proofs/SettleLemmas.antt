@@ -8,7 +8,7 @@ use Rattle.wm_tree.specs.declared.part.NodeKind.{NodeKind}
 use Rattle.wm_tree.specs.declared.part.NodeKind.TheVariants.{Root, Output, Space, Con}
 use Rattle.wm_tree.specs.Forest.{Forest, end, con}
 use Rattle.wm_tree.specs.Change.{is_end, is_vacant, append, nobody, settled_row, shown_of}
-use Rattle.wm_tree.specs.Counts.{con_of, count, marks_of, row_length}
+use Rattle.wm_tree.specs.Counts.{con_of, count, marks_of, row_length, space_of}
 use Rattle.wm_tree.specs.Look.{has, in_row, same}
 use Rattle.wm_tree.specs.Recency.{outside}
 use Rattle.wm_tree.specs.Settle.{vacated}
@@ -158,6 +158,7 @@ sound-settled t s = record {
   above = s.above;
   known = λ i. known_settled i t.nodes t.recency (s.once i) (s.known i);
   few = omega (arith, count-settled con_of None t.nodes, s.few);
+  few_spaces = omega (arith, count-settled space_of None t.nodes, s.few_spaces);
   few_marks = omega (arith, count-settled marks_of None t.nodes, s.few_marks);
   ids = s.ids;
 }

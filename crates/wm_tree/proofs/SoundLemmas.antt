@@ -7,7 +7,7 @@ use Rattle.wm_tree.specs.declared.part.NodeKind.{NodeKind}
 use Rattle.wm_tree.specs.declared.part.NodeKind.TheVariants.{Root, Output, Space, Con}
 use Rattle.wm_tree.specs.Forest.{Forest, end, con}
 use Rattle.wm_tree.specs.Change.{at, nobody, without}
-use Rattle.wm_tree.specs.Counts.{con_of, count, marks_of}
+use Rattle.wm_tree.specs.Counts.{con_of, count, marks_of, space_of}
 use Rattle.wm_tree.specs.Kinds.{kind_changed}
 use Rattle.wm_tree.specs.Look.{first_kids, has, only, same}
 use Rattle.wm_tree.specs.Recency.{outside}
@@ -19,7 +19,7 @@ use Rattle.wm_tree.specs.declared.kind.KindEdit.TheVariants as edits
 use Rattle.wm_tree.specs.Words.{detached, edited}
 use Rattle.wm_tree.proofs.CountLemmas.{count-same, count-without, counted, found_counted, tally-absent, there}
 use Rattle.wm_tree.proofs.ForestLemmas.{at_absent}
-use Rattle.wm_tree.proofs.EditLemmas.{FitsEditAt, fits_shown, changed_one, changed_ranks, sound-changed}
+use Rattle.wm_tree.proofs.EditLemmas.{FitsEditAt, fits_shown, changed_one, changed_ranks, changed_space, sound-changed}
 use Rattle.wm_tree.proofs.PutLemmas.{IsConFirst, sound-without}
 use Rattle.wm_tree.proofs.TimesLemmas.{times-dropped, times-kept}
 
@@ -69,6 +69,7 @@ sound-detached c t ok s =
       above = s.above;
       known = λ i. known_without c i t.nodes t.recency (s.once i) (s.known i);
       few = omega (arith, count-without con_of c t.nodes, s.few);
+      few_spaces = omega (arith, count-without space_of c t.nodes, s.few_spaces);
       few_marks = omega (arith, count-without marks_of c t.nodes, s.few_marks);
       ids = s.ids;
     }
@@ -93,12 +94,14 @@ record Alike (old new : Forest) : Type 0 where
   pub ones : (i : ConId) → count (one_of i) new ≡ count (one_of i) old
   pub ranked_as : (i : ConId) → count (rank_of i) new ≡ count (rank_of i) old
   pub cons : count con_of new ≡ count con_of old
+  pub spaces : count space_of new ≡ count space_of old
 
 edited_alike : (c : ConId) (edit : KindEdit) (f : Forest) → Alike f (at c kind_changed edit f)
 edited_alike c edit f = record {
   ones = λ i. count-same (one_of i) c kind_changed edit (λ part kids floats rest. refl) f;
   ranked_as = λ i. count-same (rank_of i) c kind_changed edit (λ part kids floats rest. ap (λ n. cond (same part.id i) n 0 + count (rank_of i) kids + count (rank_of i) floats + count (rank_of i) rest) (changed_ranks edit part.kind)) f;
   cons = count-same con_of c kind_changed edit (λ part kids floats rest. ap (λ n. n + count con_of kids + count con_of floats + count con_of rest) (changed_one edit part.kind)) f;
+  spaces = count-same space_of c kind_changed edit (λ part kids floats rest. ap (λ n. n + count space_of kids + count space_of floats + count space_of rest) (changed_space edit part.kind)) f;
 }
 
 pub sound-edited : (c : ConId) (edit : KindEdit) (t : TreeValue) → FitsEditAt edit (spot_in top c t.nodes) (first_kids (only c t.nodes)) → IsSound t → IsSound (edited c edit t)
@@ -114,6 +117,7 @@ sound-edited c edit t ok s =
       above = s.above;
       known = λ i. s.known i ∙ sym (a.ranked_as i);
       few = omega (arith, a.cons, s.few);
+      few_spaces = omega (arith, a.spaces, s.few_spaces);
       few_marks = omega (arith, count-same marks_of c kind_changed edit (λ part kids floats rest. refl) t.nodes, s.few_marks);
       ids = s.ids;
     }

@@ -5,7 +5,7 @@ use Rattle.wm_base.specs.declared.ids.ConId.{ConId}
 use Rattle.wm_base.specs.declared.plan.Border.{Border}
 use Rattle.wm_base.specs.declared.plan.OutputPlan.{OutputPlan}
 use Rattle.wm_tree.specs.Change.{nobody}
-use Rattle.wm_tree.specs.Counts.{con_count, mark_count, row_length}
+use Rattle.wm_tree.specs.Counts.{con_count, mark_count, row_length, space_count}
 use Rattle.wm_tree.specs.Look.{in_row, same}
 use Rattle.wm_tree.specs.Sound.{FitPlans, IsSound, IsSoundRow, outputs, ranked, tally, times}
 use Rattle.wm_tree.specs.TreeValue.{id, ids_from, opening, opening_outputs, root}
@@ -57,6 +57,10 @@ module _ (inner outer : ℕ) where
   cons_outputs k last [] = refl
   cons_outputs k last (plan ∷ plans) = omega (arith, cons_outputs (k + 1) last plans)
 
+  spaces_outputs : (k last : ℕ) (plans : List OutputPlan) → space_count (opening_outputs k last inner outer plans) ≡ length plans
+  spaces_outputs k last [] = refl
+  spaces_outputs k last (plan ∷ plans) = omega (arith, spaces_outputs (k + 1) last plans)
+
   marks_outputs : (k last : ℕ) (plans : List OutputPlan) → mark_count (opening_outputs k last inner outer plans) ≡ 0
   marks_outputs k last [] = refl
   marks_outputs k last (plan ∷ plans) = omega (arith, marks_outputs (k + 1) last plans)
@@ -96,6 +100,7 @@ sound-opening plans border inner outer some few ok =
           let e : ranked i (opening_outputs 1 last inner outer plans) ≡ within (2 + n) n i = ranked_outputs inner outer 1 last plans i ∙ ap (λ z. within z n i) at in
           omega (arith, times_ids (2 + n) plans i, e, zero (same root i));
       few = omega (arith, cons_outputs inner outer 1 last plans);
+      few_spaces = omega (arith, spaces_outputs inner outer 1 last plans);
       few_marks = omega (arith, marks_outputs inner outer 1 last plans);
       ids = omega arith;
     }

@@ -13,7 +13,7 @@ use Rattle.wm_tree.specs.declared.place.NewCon.TheVariants as new
 use Rattle.wm_tree.specs.declared.spot.Spot.{Spot}
 use Rattle.wm_tree.specs.Forest.{Forest, end, con}
 use Rattle.wm_tree.specs.Change.{at}
-use Rattle.wm_tree.specs.Counts.{con_of, con_count, marks_of, row_with, share_of}
+use Rattle.wm_tree.specs.Counts.{con_count, con_of, marks_of, row_with, share_of, space_of}
 use Rattle.wm_tree.specs.Kinds.{changed}
 use Rattle.wm_tree.specs.Look.{first_part, has, only, same}
 use Rattle.wm_tree.specs.Move.{passed_by_wrap, share_by, share_in, wrap_word, wrapped}
@@ -23,7 +23,7 @@ use Rattle.wm_tree.specs.Spot.{fits, room_below, spot_in, spot_of, top}
 use Rattle.wm_tree.specs.TreeValue.{TreeValue, id}
 use Rattle.wm_tree.proofs.AttachLemmas.{sound-grown}
 use Rattle.wm_tree.proofs.CountLemmas.{count-more}
-use Rattle.wm_tree.proofs.EditLemmas.{changed_one, changed_ranks}
+use Rattle.wm_tree.proofs.EditLemmas.{changed_one, changed_ranks, changed_space}
 use Rattle.wm_tree.proofs.PutLemmas.{Here, IsConFirst, con_level}
 use Rattle.wm_tree.proofs.RowLemmas.{Grows, keeps_by, node_keeps}
 use Rattle.wm_tree.proofs.StandLemmas.{HasSpot, has_spot}
@@ -144,7 +144,8 @@ sound-wrapped c layout t there ok none s =
       ones = λ i. count-more (one_of i) c wrap_word split (one_of i split) (λ part kids floats rest. omega arith) t.nodes there;
       ranked_more = λ i. count-more (rank_of i) c wrap_word split (rank_of i split)
           (λ part kids floats rest. let same_rank : rank_of i (record part { kind = changed (edits.Share 65536) part.kind }) ≡ rank_of i part = ap (λ n. cond (same part.id i) n 0) (changed_ranks (edits.Share 65536) part.kind) in omega (arith, same_rank)) t.nodes there;
-      cons = count-more con_of c wrap_word split 1 (λ part kids floats rest. omega (arith, changed_one (edits.Share 65536) part.kind)) t.nodes there;
+      cons = omega (arith, count-more con_of c wrap_word split 1 (λ part kids floats rest. omega (arith, changed_one (edits.Share 65536) part.kind)) t.nodes there, r.containers_left);
+      spaces = omega (arith, count-more space_of c wrap_word split 0 (λ part kids floats rest. omega (arith, changed_space (edits.Share 65536) part.kind)) t.nodes there, s.few_spaces);
       marks = omega (arith, count-more marks_of c wrap_word split 0 (λ part kids floats rest. omega arith) t.nodes there);
     })
-    r.containers_left r.ids_left
+    r.ids_left

@@ -25,6 +25,19 @@ con_of p = one_con p.kind
 abbrev pub con_count : Forest → ℕ
 con_count f = count con_of f
 
+abbrev pub one_space : NodeKind → ℕ
+one_space (Root c) = 0
+one_space (Output o) = 0
+one_space (Space s) = 1
+one_space (Con c) = 0
+
+abbrev pub space_of : Part → ℕ
+space_of p = one_space p.kind
+
+-- how many workspaces there are
+abbrev pub space_count : Forest → ℕ
+space_count f = count space_of f
+
 -- how many marks there are
 abbrev pub marks_of : Part → ℕ
 marks_of p = length p.marks

@@ -1,7 +1,9 @@
 -- What a change of one node makes of it.
 use Rattle.std.specs.Prelude.{ℕ, List}
+use Rattle.wm_base.specs.declared.geometry.Size.{Size}
 use Rattle.wm_base.specs.declared.plan.Layout.{Layout}
 use Rattle.wm_base.specs.declared.plan.Layout.TheVariants as layouts
+use Rattle.wm_base.specs.declared.properties.Props.{Props}
 use Rattle.wm_tree.specs.declared.part.Part.{Part}
 use Rattle.wm_tree.specs.declared.part.NodeKind.{NodeKind}
 use Rattle.wm_tree.specs.declared.part.NodeKind.TheVariants.{Root, Output, Space, Con}
@@ -30,6 +32,12 @@ titled t (Split layout last) = Split layout last
 titled t (Window props owner natural) = Window (record props { title = t }) owner natural
 titled t (Placeholder props swallows) = Placeholder (record props { title = t }) swallows
 
+-- a placeholder that becomes this window; others stay as they are
+abbrev pub filled : Props → ℕ → Size → ConKind → ConKind
+filled props owner natural (Split layout last) = Split layout last
+filled props owner natural (Window p o n) = Window p o n
+filled props owner natural (Placeholder p swallows) = Window props owner natural
+
 -- what a change makes of a node; a node that it is not for stays as it was
 abbrev pub changed : KindEdit → NodeKind → NodeKind
 changed (edits.Share s) (Con c) = Con (record c { share = s })
@@ -38,6 +46,7 @@ changed (edits.Layout l) (Space s) = Space (record s { layout = l; last_split = 
 changed (edits.State s) (Con c) = Con (record c { state = s })
 changed (edits.Title t) (Con c) = Con (record c { kind = titled t c.kind })
 changed (edits.TitleFormat t) (Con c) = Con (record c { title_format = t })
+changed (edits.Fill props owner natural) (Con c) = Con (record c { kind = filled props owner natural c.kind })
 changed (edits.Name n) (Space s) = Space (record s { name = n })
 changed (edits.Gaps inner outer) (Space s) = Space (record s { inner = inner; outer = outer })
 changed (edits.Reserved e) (Output o) = Output (record o { reserved = e })

@@ -10,7 +10,7 @@ use Rattle.wm_tree.specs.declared.part.NodeKind.{NodeKind}
 use Rattle.wm_tree.specs.declared.part.NodeKind.TheVariants.{Root, Output, Space, Con}
 use Rattle.wm_tree.specs.Forest.{Forest, end, con}
 use Rattle.wm_tree.specs.Change.{nobody}
-use Rattle.wm_tree.specs.Counts.{con_count, count, mark_count, row_length}
+use Rattle.wm_tree.specs.Counts.{con_count, count, mark_count, row_length, space_count}
 use Rattle.wm_tree.specs.Look.{same, in_row}
 use Rattle.wm_tree.specs.Spot.{room_below}
 use Rattle.wm_tree.specs.TreeValue.{TreeValue, root}
@@ -125,8 +125,9 @@ pub record IsSound (t : TreeValue) : Type 0 where
   pub above : 2 ≤ t.next_id
   -- the order of recency has each workspace and container once and nothing else
   pub known : (c : ConId) → times c t.recency ≡ ranked c t.nodes
-  -- at most 4,096 containers and 1,024 marks
+  -- at most 4,096 containers, 256 workspaces and 1,024 marks
   pub few : con_count t.nodes ≤ 4096
+  pub few_spaces : space_count t.nodes ≤ 256
   pub few_marks : mark_count t.nodes ≤ 1024
   -- no id above 4,000,000,000 was given
   pub ids : t.next_id ≤ 4000000001

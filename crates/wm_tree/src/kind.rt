@@ -1,12 +1,14 @@
 //! Changes of what a node says of itself.
 ghost use Rattle.std.specs.Prelude.{◌≡◌};
-ghost use Rattle.wm_tree.specs.Kinds.{changed, laid_out, last_split_of, titled};
+ghost use Rattle.wm_tree.specs.declared.part.NodeKind.TheVariants.{Con, Output, Root, Space};
+ghost use Rattle.wm_tree.specs.Kinds.{changed, filled, laid_out, last_split_of, titled};
 
-use crate::part::{ConKind, ConState, NodeKind};
-use wm_base::{ConId, Edges, Layout, Text};
+use crate::part::{ConKind, ConPart, ConState, NodeKind, OutputPart, SpacePart};
+use wm_base::{ConId, Edges, Layout, Props, Size, Text};
 
-/// A change of one node: a container's share, state, title or title format, a container's or workspace's layout, a
-/// workspace's name or gaps, an output's reserved edges or shown workspace, or the root's current output.
+/// A change of one node: a container's share, state, title or title format, the window that a placeholder becomes, a
+/// container's or workspace's layout, a workspace's name or gaps, an output's reserved edges or shown workspace, or the
+/// root's current output.
 #[derive(Debug, Drop)]
 pub enum KindEdit {
     Share(u32),
@@ -14,6 +16,7 @@ pub enum KindEdit {
     State(ConState),
     Title(Text),
     TitleFormat(Text),
+    Fill(Props, u32, Size),
     Name(Text),
     Gaps(u32, u32),
     Reserved(Edges),
@@ -26,24 +29,63 @@ impl KindEdit {
     pub fn make(self, kind: &mut NodeKind)
         ensures { kind.new ≡ changed self kind.old }
     {
-        match (self, kind) {
-            (KindEdit::Share(share), NodeKind::Con(con)) => con.share = share,
-            (KindEdit::Layout(layout), NodeKind::Con(con)) => lay_out(&mut con.kind, layout),
-            (KindEdit::Layout(layout), NodeKind::Space(space)) => {
+        match kind {
+            NodeKind::Root { current } => self.make_root(current),
+            NodeKind::Output(output) => self.make_output(output),
+            NodeKind::Space(space) => self.make_space(space),
+            NodeKind::Con(con) => self.make_con(con),
+        }
+    }
+
+    /// Makes the change of the root's current output, where it is one.
+    fn make_root(self, current: &mut ConId)
+        ensures { Root current.new ≡ changed self (Root current.old) }
+    {
+        if let KindEdit::Current(output) = self {
+            *current = output;
+        }
+    }
+
+    /// Makes the change of an output, where it is one.
+    fn make_output(self, output: &mut OutputPart)
+        ensures { Output output.new ≡ changed self (Output output.old) }
+    {
+        match self {
+            KindEdit::Reserved(edges) => output.reserved = edges,
+            KindEdit::Shown(shown) => output.shown = shown,
+            _ => {}
+        }
+    }
+
+    /// Makes the change of a workspace, where it is one.
+    fn make_space(self, space: &mut SpacePart)
+        ensures { Space space.new ≡ changed self (Space space.old) }
+    {
+        match self {
+            KindEdit::Layout(layout) => {
                 space.last_split = last_split(layout, space.last_split);
                 space.layout = layout;
             }
-            (KindEdit::State(state), NodeKind::Con(con)) => con.state = state,
-            (KindEdit::Title(title), NodeKind::Con(con)) => set_title(&mut con.kind, title),
-            (KindEdit::TitleFormat(format), NodeKind::Con(con)) => con.title_format = format,
-            (KindEdit::Name(name), NodeKind::Space(space)) => space.name = name,
-            (KindEdit::Gaps(inner, outer), NodeKind::Space(space)) => {
+            KindEdit::Name(name) => space.name = name,
+            KindEdit::Gaps(inner, outer) => {
                 space.inner = inner;
                 space.outer = outer;
             }
-            (KindEdit::Reserved(edges), NodeKind::Output(output)) => output.reserved = edges,
-            (KindEdit::Shown(shown), NodeKind::Output(output)) => output.shown = shown,
-            (KindEdit::Current(output), NodeKind::Root { current }) => *current = output,
+            _ => {}
+        }
+    }
+
+    /// Makes the change of a container, where it is one.
+    fn make_con(self, con: &mut ConPart)
+        ensures { Con con.new ≡ changed self (Con con.old) }
+    {
+        match self {
+            KindEdit::Share(share) => con.share = share,
+            KindEdit::Layout(layout) => lay_out(&mut con.kind, layout),
+            KindEdit::State(state) => con.state = state,
+            KindEdit::Title(title) => set_title(&mut con.kind, title),
+            KindEdit::TitleFormat(format) => con.title_format = format,
+            KindEdit::Fill(props, owner, natural) => fill(&mut con.kind, props, owner, natural),
             _ => {}
         }
     }
@@ -79,5 +121,18 @@ fn set_title(kind: &mut ConKind, title: Text)
         ConKind::Split { .. } => {}
         ConKind::Window { props, .. } => props.title = title,
         ConKind::Placeholder { props, .. } => props.title = title,
+    }
+}
+
+/// Makes a placeholder this window.
+fn fill(kind: &mut ConKind, props: Props, owner: u32, natural: Size)
+    ensures { kind.new ≡ filled props owner natural kind.old }
+{
+    if let ConKind::Placeholder { .. } = kind {
+        *kind = ConKind::Window {
+            props,
+            owner,
+            natural,
+        };
     }
 }
