@@ -1,1 +1,2 @@
 pub mod Focusing
+pub mod Turning
