@@ -1,3 +1,4 @@
+pub mod AlongLemmas
 pub mod AppendLemmas
 pub mod AttachLemmas
 pub mod ChangeLemmas

@@ -21,7 +21,7 @@ use Rattle.wm_tree.proofs.ForestLemmas.{only_absent}
 -- ---- a workspace is found under its id
 
 -- a workspace with the id counts one
-abbrev space_of : ConId → Part → ℕ
+abbrev pub space_of : ConId → Part → ℕ
 space_of c p = cond (same p.id c) (one_space p.kind) 0
 
 space_one : (c : ConId) (p : Part) → space_of c p ≤ one_of c p
@@ -37,7 +37,7 @@ space_one c p = by_test (same p.id c)
     by_test true = by_kind p.kind
     by_test false = omega arith
 
-spaces_le : (c : ConId) (f : Forest) → count (space_of c) f ≤ tally c f
+pub spaces_le : (c : ConId) (f : Forest) → count (space_of c) f ≤ tally c f
 spaces_le c end = omega arith
 spaces_le c (con part kids floats rest) = omega (arith, space_one c part, spaces_le c kids, spaces_le c floats, spaces_le c rest)
 
@@ -55,7 +55,7 @@ first_space c p h = by_test (same p.id c) h
     by_test false h = absurd (omega arith)
 
 -- one where the first node has the id
-abbrev count_first : ConId → Forest → ℕ
+abbrev pub count_first : ConId → Forest → ℕ
 count_first c end = 0
 count_first c (con part kids floats rest) = one_of c part
 
@@ -67,7 +67,7 @@ first_id c false false true r part kids floats rest e p q s h = q refl
 first_id c false false false r part kids floats rest e p q s h = s h
 
 -- what is found has the id
-found_id : (c : ConId) (f : Forest) → has c f ≡ true → 1 ≤ count_first c (only c f)
+pub found_id : (c : ConId) (f : Forest) → has c f ≡ true → 1 ≤ count_first c (only c f)
 found_id c end h = cc
 found_id c (con part kids floats rest) h =
     first_id c (same part.id c) (has c kids) (has c floats) (has c rest) part kids floats rest refl (found_id c kids) (found_id c floats) (found_id c rest) h

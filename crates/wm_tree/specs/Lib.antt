@@ -1,3 +1,4 @@
+pub mod Along
 pub mod Change
 pub mod Counts
 pub mod Forest

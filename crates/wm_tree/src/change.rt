@@ -288,7 +288,7 @@ impl Row {
     }
 
     /// Puts the nodes of a row before those of this one.
-    fn prepend(&mut self, mut row: Row)
+    pub(crate) fn prepend(&mut self, mut row: Row)
         ensures { self.new ≡ append row self.old }
     {
         row.append(mem::replace(self, Row::new()));

@@ -1,6 +1,7 @@
 //! The container tree: one nested value, and the calls that look into it and change it.
 #![tactic(auto)]
 
+mod along;
 mod attach;
 mod change;
 mod copy;
