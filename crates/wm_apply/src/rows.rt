@@ -1,8 +1,8 @@
 //! One command on one subject: a case for each command that is built.
 ghost use Rattle.std.specs.Prelude.{◌≡◌, None, OnOk, OnErr, IfErr};
 ghost use Rattle.wm_apply.specs.Rows.{focus_refusal, row_refusal, row_tree, unmark_subject};
-ghost use Rattle.wm_focus.specs.Refusing.{IsCause};
-ghost use Rattle.wm_focus.specs.Subject.{IsSubject};
+ghost use Rattle.wm_showing.specs.Refusing.{IsCause};
+ghost use Rattle.wm_showing.specs.Subject.{IsSubject};
 ghost use Rattle.wm_tree.specs.Sound.{IsSound};
 ghost use Rattle.wm_tree.specs.Words.{with_raised};
 

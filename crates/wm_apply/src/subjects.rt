@@ -1,7 +1,7 @@
 //! One command on its subjects, one after another.
 ghost use Rattle.std.specs.Prelude.{◌≡◌, ◌∷◌, [], true, IfOk, OnOk};
 ghost use Rattle.wm_apply.specs.Subjects.{each_error, each_tree, error_of, full_text, is_there, one_error, one_tree, or_error, reply_of};
-ghost use Rattle.wm_focus.specs.Subject.{IsSubject};
+ghost use Rattle.wm_showing.specs.Subject.{IsSubject};
 ghost use Rattle.wm_tree.specs.Sound.{IsSound};
 
 use crate::applied::CommandReply;

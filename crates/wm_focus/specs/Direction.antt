@@ -7,9 +7,9 @@ use Rattle.wm_base.specs.declared.geometry.Dir.{Dir}
 use Rattle.wm_base.specs.declared.ids.ConId.{ConId}
 use Rattle.wm_focus.specs.declared.rungs.Aim.TheVariants.{Around, Beside}
 use Rattle.wm_focus.specs.Parents.{raised_some}
-use Rattle.wm_focus.specs.Refusing.{error_if}
+use Rattle.wm_showing.specs.Refusing.{error_if}
 use Rattle.wm_focus.specs.Rungs.{nearest}
-use Rattle.wm_focus.specs.Subject.{is_hidden}
+use Rattle.wm_showing.specs.Subject.{is_hidden}
 use Rattle.wm_tree.specs.TreeValue.{TreeValue, leaf}
 use Rattle.std.specs.Prelude.{option_and_then}
 

@@ -3,11 +3,9 @@ pub mod Laws
 pub mod Marks
 pub mod Moves
 pub mod Parents
-pub mod Refusing
 pub mod Rungs
 pub mod Splits
 pub mod Stripped
-pub mod Subject
 pub mod Swaps
 pub mod Walks
 pub mod Within

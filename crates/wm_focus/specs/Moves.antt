@@ -6,9 +6,9 @@ use Rattle.wm_base.specs.declared.errors.Refusal.TheVariants.{NoTarget}
 use Rattle.wm_base.specs.declared.geometry.Dir.{Dir}
 use Rattle.wm_base.specs.declared.ids.ConId.{ConId}
 use Rattle.wm_focus.specs.declared.rungs.Aim.TheVariants.{Beside, Out}
-use Rattle.wm_focus.specs.Refusing.{error_if, full_error}
+use Rattle.wm_showing.specs.Refusing.{error_if, full_error}
 use Rattle.wm_focus.specs.Rungs.{aimed, is_forward, nearest, rung, runs_con}
-use Rattle.wm_focus.specs.Subject.{is_hidden, is_space}
+use Rattle.wm_showing.specs.Subject.{is_hidden, is_space}
 use Rattle.wm_focus.specs.Swaps.{deep_error}
 use Rattle.wm_tree.specs.declared.kind.KindEdit.TheVariants as edits
 use Rattle.wm_tree.specs.declared.part.ConPart.{ConPart}

@@ -1,11 +1,11 @@
 //! Focusing in a direction.
 ghost use Rattle.std.specs.Prelude.{◌≡◌, None, Some, OnOk, OnErr, IfErr};
 ghost use Rattle.wm_focus.specs.Direction.{focus_dir_refusal, focus_dir_tree, focused_at, goal_of};
-ghost use Rattle.wm_focus.specs.Subject.{IsSubject};
+ghost use Rattle.wm_showing.specs.Subject.{IsSubject};
 ghost use Rattle.wm_tree.specs.Sound.{IsSound};
 
 use crate::rungs::{Aim, nearest};
-use crate::subject::is_hidden;
+use wm_showing::is_hidden;
 use wm_base::{ConId, Dir, ErrorText, Refusal};
 use wm_tree::Tree;
 

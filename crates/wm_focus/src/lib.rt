@@ -8,10 +8,8 @@ mod laws;
 mod marks;
 mod moves;
 mod parents;
-mod refusing;
 mod rungs;
 mod splits;
-mod subject;
 mod swaps;
 #[cfg(test)]
 mod tests;
@@ -31,5 +29,4 @@ pub use marks::{mark, marked, unmark};
 pub use moves::move_dir;
 pub use parents::{focus_child, focus_parent};
 pub use splits::{cycle_layout, set_layout, split};
-pub use subject::is_subject;
 pub use swaps::{move_to_mark, swap};

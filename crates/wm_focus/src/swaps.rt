@@ -1,14 +1,14 @@
 //! Exchanging the places of two containers, and moving one after another.
 ghost use Rattle.std.specs.Prelude.{◌≡◌, ◌&&◌, ◌||◌, Some, None, OnOk, OnErr, IfErr, false, true};
-ghost use Rattle.wm_focus.specs.Refusing.{IsCause};
-ghost use Rattle.wm_focus.specs.Subject.{IsSubject};
+ghost use Rattle.wm_showing.specs.Refusing.{IsCause};
+ghost use Rattle.wm_showing.specs.Subject.{IsSubject};
 ghost use Rattle.wm_focus.specs.Swaps.{beside_refusal, exchange_refusal, exchanged_with, is_part, is_window_kind, moved_after, move_to_mark_refusal, move_to_mark_tree, partner, partner_text, swap_refusal, swap_tree};
 ghost use Rattle.wm_tree.specs.Look.{has, only};
 ghost use Rattle.wm_tree.specs.Sound.{IsSound};
 
 use crate::marks::marked;
-use crate::refusing::refused;
-use crate::subject::{is_hidden, is_space};
+use wm_showing::refused;
+use wm_showing::{is_hidden, is_space};
 use crate::within::is_within;
 use wm_base::{ConId, ErrorText, Refusal, Text};
 use wm_grammar::SwapArg;

@@ -14,7 +14,7 @@ use Rattle.wm_focus.specs.Direction.{focused_at, goal_of}
 use Rattle.wm_laws.specs.Focusing.{ChildKeeps, DifferInFocus, DirectionKeeps, ParentKeeps}
 use Rattle.wm_focus.specs.Parents.{raised_some}
 use Rattle.wm_focus.specs.Rungs.{aimed, far_end, first_aimed, first_id, is_forward, last_id, nearest, neighbour, rung, rungs, runs}
-use Rattle.wm_focus.specs.Subject.{is_space}
+use Rattle.wm_showing.specs.Subject.{is_space}
 use Rattle.wm_focus.specs.declared.rungs.Aim.{Aim}
 use Rattle.wm_focus.specs.declared.rungs.Aim.TheVariants.{Around, Beside, Out}
 use Rattle.wm_tree.proofs.AttachLemmas.{has_row}

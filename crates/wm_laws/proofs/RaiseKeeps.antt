@@ -5,7 +5,7 @@ use Rattle.wm_base.specs.declared.ids.ConId.{ConId}
 use Rattle.wm_focus.proofs.DownLemmas.{Once, has_only, in_floats, in_kids, in_rest, once_floats, once_kids, once_rest}
 use Rattle.wm_focus.proofs.KidLemmas.{row_kid, tiled_in}
 use Rattle.wm_laws.specs.Focusing.{DifferInFocus}
-use Rattle.wm_focus.specs.Subject.{is_space}
+use Rattle.wm_showing.specs.Subject.{is_space}
 use Rattle.wm_tree.proofs.AttachLemmas.{has_row}
 use Rattle.wm_tree.proofs.RaiseLemmas.{in_row-unfull}
 use Rattle.wm_tree.specs.Change.{at, nobody, raised_in, to_end, unfull, unfull_kind, without}

@@ -11,7 +11,7 @@ use Rattle.wm_focus.proofs.KidLemmas.{child_there, in_tiled, kid_of, kid_there, 
 use Rattle.wm_focus.proofs.SwapLemmas.{tiled_there}
 use Rattle.wm_focus.specs.Moves.{beside, is_split_con, is_split_part, move_dir_tree, neighbour_below, step_tree, turned}
 use Rattle.wm_focus.specs.Rungs.{after, aimed, before, dir_axis, first_id, is_forward, neighbour, rung, runs, runs_con, same_axis, axis_of}
-use Rattle.wm_focus.specs.Subject.{is_container}
+use Rattle.wm_showing.specs.Subject.{is_container}
 use Rattle.wm_focus.specs.Swaps.{con_named, exchanged_with, partner, swap_tree}
 use Rattle.wm_focus.specs.declared.rungs.Aim.TheVariants.{Beside}
 use Rattle.wm_grammar.specs.declared.arguments.SwapArg.TheVariants as swaps

@@ -4,7 +4,7 @@ use Rattle.wm_base.specs.declared.geometry.Dir.{Dir}
 use Rattle.wm_base.specs.declared.ids.ConId.{ConId}
 use Rattle.wm_focus.specs.Direction.{focus_dir_tree, focused_at}
 use Rattle.wm_focus.specs.Parents.{focus_child_tree, focus_parent_tree}
-use Rattle.wm_focus.specs.Subject.{is_space}
+use Rattle.wm_showing.specs.Subject.{is_space}
 use Rattle.wm_tree.specs.Change.{nobody, unfull, without}
 use Rattle.wm_tree.specs.Sound.{IsSound}
 use Rattle.wm_tree.specs.TreeValue.{TreeValue, focused_child, is_tiled_con, parent, workspace_of}

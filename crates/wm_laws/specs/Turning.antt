@@ -4,7 +4,7 @@ use Rattle.wm_base.specs.declared.geometry.Dir.{Dir}
 use Rattle.wm_base.specs.declared.geometry.Dir.TheVariants.{Left, Right, Up, Down}
 use Rattle.wm_base.specs.declared.ids.ConId.{ConId}
 use Rattle.wm_focus.specs.Moves.{beside, is_split_con, move_dir_tree}
-use Rattle.wm_focus.specs.Subject.{is_container}
+use Rattle.wm_showing.specs.Subject.{is_container}
 use Rattle.wm_focus.specs.Swaps.{swap_tree}
 use Rattle.wm_grammar.specs.declared.arguments.SwapArg.TheVariants as swaps
 use Rattle.wm_tree.specs.declared.part.ConPart.{ConPart}

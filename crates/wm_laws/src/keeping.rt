@@ -1,7 +1,7 @@
 //! Laws of moving and swapping: no workspace or container is lost, and none is made.
 ghost use Rattle.std.specs.Prelude.{◌≡◌};
 ghost use Rattle.wm_base.specs.declared.ids.ConId.{ConId};
-ghost use Rattle.wm_focus.specs.Subject.{IsSubject};
+ghost use Rattle.wm_showing.specs.Subject.{IsSubject};
 ghost use Rattle.wm_tree.specs.Sound.{ranked};
 
 use wm_base::{ConId, Dir, Refusal, Text};

@@ -1,13 +1,13 @@
 //! Refusals as commands answer them.
 ghost use Rattle.std.specs.Prelude.{◌≡◌};
 ghost use Rattle.wm_base.specs.declared.errors.Refusal.TheVariants.{NoTarget};
-ghost use Rattle.wm_focus.specs.Refusing.{refusal_by};
+ghost use Rattle.wm_showing.specs.Refusing.{refusal_by};
 
 use wm_base::{ErrorText, Refusal};
 use wm_tree::TreeRefusal;
 
 /// What a command answers where the tree refuses.
-pub(crate) fn refused(error: TreeRefusal) -> Refusal
+pub fn refused(error: TreeRefusal) -> Refusal
     ensures { result ≡ refusal_by error }
 {
     match error {

@@ -1,6 +1,6 @@
 //! What the subject of a command is.
 ghost use Rattle.std.specs.Prelude.{◌≡◌, true};
-ghost use Rattle.wm_focus.specs.Subject.{IsSubject, is_hidden, is_space, is_subject_kind};
+ghost use Rattle.wm_showing.specs.Subject.{IsSubject, is_hidden, is_space, is_subject_kind};
 ghost use Rattle.wm_tree.specs.Look.{con_kind, kind_of, space_kind};
 ghost use Rattle.wm_tree.specs.Sound.{IsSound};
 
@@ -16,14 +16,14 @@ pub fn is_subject(t: &Tree, con: ConId) -> bool
 }
 
 /// Whether it is in the scratchpad.
-pub(crate) fn is_hidden(t: &Tree, con: ConId) -> bool
+pub fn is_hidden(t: &Tree, con: ConId) -> bool
     ensures { result ≡ is_hidden t.now con }
 {
     t.workspace_of(con).is_none()
 }
 
 /// Whether it is a workspace.
-pub(crate) fn is_space(t: &Tree, con: ConId) -> bool
+pub fn is_space(t: &Tree, con: ConId) -> bool
     ensures { result ≡ is_space t.now con }
 {
     t.space(con).is_some()

@@ -1,0 +1,3 @@
+pub mod KeyLemmas
+pub mod ShowLemmas
+pub mod SpaceLemmas

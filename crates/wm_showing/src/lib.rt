@@ -1,0 +1,14 @@
+//! What commands of several crates share: their subjects and refusals, showing workspaces, and the order of outputs.
+#![tactic(auto)]
+
+mod keys;
+mod outputs;
+mod refusing;
+mod showing;
+mod subject;
+
+pub use keys::{Key, lesser};
+pub use outputs::output_in;
+pub use refusing::refused;
+pub use showing::{enter_output, focus, show_space, shown_on};
+pub use subject::{is_hidden, is_space, is_subject};
