@@ -18,6 +18,8 @@ pub mod LookLemmas
 pub mod MarkLemmas
 pub mod MoveLemmas
 pub mod OnceLemmas
+pub mod OutputLemmas
+pub mod OutputRows
 pub mod PlaceLemmas
 pub mod PutLemmas
 pub mod RaiseLemmas
@@ -27,6 +29,8 @@ pub mod RowLemmas
 pub mod SettleLemmas
 pub mod SettledLaws
 pub mod SoundLemmas
+pub mod SpaceLemmas
+pub mod SpaceRows
 pub mod StandLemmas
 pub mod StartLemmas
 pub mod TimesLemmas

@@ -69,6 +69,20 @@ module _ (i : ConId) (part : Part) (kids floats rest : Forest) where
       let beside : has i floats ≡ false = not_there i floats (omega (arith, once, counted i rest h)) in
       rw (other, above, beside) refl
 
+-- a change of a node among the children, or in the rest of the row
+module _ {X : Type 0} (i : ConId) (f : X → Part → Forest → Forest → Forest → Forest) (x : X) (part : Part) (kids floats rest : Forest) where
+  pub at_kids : tally i (con part kids floats rest) ≤ 1 → has i kids ≡ true → at i f x (con part kids floats rest) ≡ con part (at i f x kids) floats rest
+  at_kids once h =
+      let other : same part.id i ≡ false = not_here i part (omega (arith, once, counted i kids h)) in
+      rw (other, h) refl
+
+  pub at_rest : tally i (con part kids floats rest) ≤ 1 → has i rest ≡ true → at i f x (con part kids floats rest) ≡ con part kids floats (at i f x rest)
+  at_rest once h =
+      let other : same part.id i ≡ false = not_here i part (omega (arith, once, counted i rest h)) in
+      let above : has i kids ≡ false = not_there i kids (omega (arith, once, counted i rest h)) in
+      let beside : has i floats ≡ false = not_there i floats (omega (arith, once, counted i rest h)) in
+      rw (other, above, beside) refl
+
 alone_step : (i : ConId) (a k l : Bool) (part : Part) (kids floats rest : Forest) → (a || k || l || false) ≡ true
     → cond a (con part kids floats end) (cond k (only i kids) (cond l (only i floats) (only i rest))) ≡ cond a (con part kids floats end) (cond k (only i kids) (cond l (only i floats) end))
 alone_step i true k l part kids floats rest h = refl

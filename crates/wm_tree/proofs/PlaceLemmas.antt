@@ -84,7 +84,7 @@ space_found c f once there h =
 
 -- ---- the workspace that is shown
 
-count_kids : (m : Part → ℕ) (f : Forest) → count m (first_kids f) ≤ count m f
+pub count_kids : (m : Part → ℕ) (f : Forest) → count m (first_kids f) ≤ count m f
 count_kids m end = omega arith
 count_kids m (con part kids floats rest) = omega arith
 

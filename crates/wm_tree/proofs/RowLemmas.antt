@@ -28,7 +28,7 @@ same_row outputs f = λ i h. h
 same_row spaces f = λ i h. h
 same_row containers f = tt
 
-or_keeps : (a b c : Bool) → (b ≡ true → c ≡ true) → (a || b) ≡ true → (a || c) ≡ true
+pub or_keeps : (a b c : Bool) → (b ≡ true → c ≡ true) → (a || b) ≡ true → (a || c) ≡ true
 or_keeps true b c f h = refl
 or_keeps false b c f h = f h
 
@@ -40,7 +40,7 @@ behind_row outputs part other kids floats rest kids' floats' rest' e h = λ i th
 behind_row spaces part other kids floats rest kids' floats' rest' e h = λ i there. rw (← e) (or_keeps (same part.id i) (in_row i rest) (in_row i rest') (h i) there)
 behind_row containers part other kids floats rest kids' floats' rest' e h = tt
 
-kids_keep : (kind : ConKind) (old new : Forest) → (old ≡ end → new ≡ end) → HasKids kind old → HasKids kind new
+pub kids_keep : (kind : ConKind) (old new : Forest) → (old ≡ end → new ≡ end) → HasKids kind old → HasKids kind new
 kids_keep (Split layout last) old new ends h = tt
 kids_keep (Window props owner natural) old new ends h = ends h
 kids_keep (Placeholder props swallows) old new ends h = ends h

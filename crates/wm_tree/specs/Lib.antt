@@ -9,6 +9,7 @@ pub mod Ids
 pub mod Kinds
 pub mod Look
 pub mod Move
+pub mod Outputs
 pub mod Place
 pub mod Recency
 pub mod Row

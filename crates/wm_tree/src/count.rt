@@ -1,6 +1,6 @@
 //! Counts of a row: containers, marks, nodes and shares.
 ghost use Rattle.std.specs.Prelude.{◌≡◌, ◌-◌, ◌*◌, ◌≤◌, ◌<◌, ◌^◌, ◌+◌, ◌/◌, ◌==◌, if◌then◌else◌, min, length};
-ghost use Rattle.wm_tree.specs.Counts.{but, con_count, mark_count, newcomer_share, one_con, row_length, share_of, share_sum};
+ghost use Rattle.wm_tree.specs.Counts.{but, con_count, mark_count, newcomer_share, one_con, one_space, row_length, share_of, share_sum, space_count};
 ghost use Rattle.wm_tree.specs.Forest.{end, con};
 
 use crate::part::NodeKind;
@@ -30,9 +30,33 @@ impl NodeKind {
             NodeKind::Root { .. } | NodeKind::Output(_) | NodeKind::Space(_) => 0,
         }
     }
+
+    /// One for a workspace, else none.
+    fn one_space(&self) -> usize
+        ensures { result ≡ one_space self.now }
+    {
+        match self {
+            NodeKind::Space(_) => 1,
+            NodeKind::Root { .. } | NodeKind::Output(_) | NodeKind::Con(_) => 0,
+        }
+    }
 }
 
 impl Row {
+    /// How many workspaces there are, at any depth, but no more than are counted here: `most`.
+    pub fn spaces_up_to(&self, most: usize) -> usize
+        ensures { result ≡ min most (space_count self.now) }
+    {
+        let cell = match &self.first {
+            None => return 0,
+            Some(cell) => cell,
+        };
+        let mut count = cell.part.kind.one_space().min(most);
+        count += cell.kids.spaces_up_to(most - count);
+        count += cell.floats.spaces_up_to(most - count);
+        count + cell.rest.spaces_up_to(most - count)
+    }
+
     /// How many containers there are, at any depth, but no more than are counted here: `most`.
     pub fn cons_up_to(&self, most: usize) -> usize
         ensures { result ≡ min most (con_count self.now) }

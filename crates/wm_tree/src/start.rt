@@ -9,7 +9,7 @@ use crate::place::short_text;
 use crate::row::{Cell, Row};
 use crate::tree::{ROOT, Tree};
 use std::alloc::{AllocError, Global};
-use wm_base::{Border, ConId, Layout, List, NoMemory, OutputPlan};
+use wm_base::{Border, ConId, Layout, List, NoMemory, OutputPlan, Text};
 
 impl Tree {
     /// The opening tree of these outputs: root 1, then an id for each output, then one for each workspace. Output k
@@ -51,7 +51,7 @@ impl Tree {
 }
 
 /// A row of one node over these children.
-fn row_over(alloc: Global, part: Part, kids: Row) -> Result<Row, AllocError>
+pub(crate) fn row_over(alloc: Global, part: Part, kids: Row) -> Result<Row, AllocError>
     ensures { IfOk result (λ row. row ≡ con part kids end end) }
 {
     let cell = Cell {
@@ -95,7 +95,7 @@ fn opening_outputs(
 }
 
 /// An output of this plan.
-fn output_part(
+pub(crate) fn output_part(
     alloc: Global,
     id: ConId,
     plan: &OutputPlan,
@@ -122,18 +122,32 @@ fn space_part(alloc: Global, id: ConId, k: u32, inner: u32, outer: u32) -> Resul
     requires some { 1 ≤ k }
     ensures { IfOk result (λ part. part ≡ space_part id (digit k) inner outer) }
 {
+    let name = short_text(alloc, digit(k))?;
+    Ok(named_space(alloc, id, name, inner, outer))
+}
+
+/// An empty workspace of this name.
+pub(crate) fn named_space(
+    alloc: Global,
+    id: ConId,
+    name: Text,
+    inner: u32,
+    outer: u32,
+) -> Part
+    ensures { result ≡ space_part id name inner outer }
+{
     let space = SpacePart {
-        name: short_text(alloc, digit(k))?,
+        name,
         layout: Layout::SplitH,
         last_split: Layout::SplitH,
         inner,
         outer,
     };
-    Ok(Part {
+    Part {
         id,
         kind: NodeKind::Space(space),
         marks: List::of(Vec::new(alloc)),
-    })
+    }
 }
 
 /// The digit of a number from 1 to 8.
