@@ -1,5 +1,5 @@
 -- The parent of a node holds it.
-use Rattle.std.proofs.Common.{◌≡◌, ℕ, ◌+◌, ◌≤◌, Bool, true, false, cond, ◌||◌, ◌⊎◌, inl, inr, ⊎_elim, Option, None, Some, refl, ap, sym, ◌∙◌, subst, arith}
+use Rattle.std.proofs.Common.{◌≡◌, ◌≤◌, Bool, true, false, cond, ◌||◌, ◌⊎◌, inl, inr, ⊎_elim, Option, None, Some, refl, sym, ◌∙◌, subst, arith}
 use Rattle.std.specs.Prelude.{IfSome, option_and_then}
 use Rattle.wm_base.specs.declared.ids.ConId.{ConId}
 use Rattle.wm_tree.specs.declared.part.Part.{Part}
@@ -8,7 +8,7 @@ use Rattle.wm_tree.specs.declared.part.NodeKind.TheVariants.{Root, Output, Space
 use Rattle.wm_tree.specs.declared.spot.Spot.{Spot}
 use Rattle.wm_tree.specs.Forest.{Forest, end, con}
 use Rattle.wm_tree.specs.Holding.{is_held}
-use Rattle.wm_tree.specs.Look.{first_floats, first_kids, has, in_row, only, same}
+use Rattle.wm_tree.specs.Look.{has, in_row, same}
 use Rattle.wm_tree.specs.Sound.{IsSound, tally}
 use Rattle.wm_tree.specs.Spot.{holder_by, spot_below, spot_in, spot_of, top}
 use Rattle.wm_tree.specs.TreeValue.{TreeValue, parent, spot}

@@ -1,17 +1,21 @@
 -- The words let ids rise, and none that is gone comes back.
-use Rattle.std.proofs.Common.{◌≡◌, ℕ, ◌+◌, ◌≤◌, ◌<◌, Bool, true, false, cond, eqb, not, List, [], ◌∷◌, ◌++◌, filter, ltb, None, refl, ap, arith}
+use Rattle.std.proofs.Common.{◌≡◌, ℕ, ◌+◌, ◌≤◌, ◌<◌, Bool, true, false, cond, not, List, [], ◌∷◌, ◌++◌, filter, ltb, Option, None, Some, refl, ap, arith}
 use Rattle.std.proofs.lemmas.Bool.Decides.{nat_tests}
 use Rattle.wm_base.specs.declared.ids.ConId.{ConId}
 use Rattle.wm_base.specs.declared.plan.Layout.{Layout}
+use Rattle.wm_base.specs.declared.plan.OutputPlan.{OutputPlan}
+use Rattle.wm_tree.specs.declared.kind.KindEdit.{KindEdit}
+use Rattle.wm_tree.specs.declared.kind.KindEdit.TheVariants as edits
 use Rattle.wm_tree.specs.declared.place.NewCon.{NewCon}
 use Rattle.wm_tree.specs.declared.place.Place.{Place}
 use Rattle.wm_tree.specs.Ids.{IdsRise}
 use Rattle.wm_tree.specs.Look.{has, only, same}
-use Rattle.wm_tree.specs.Move.{wrapped}
+use Rattle.wm_tree.specs.Move.{moved, wrapped}
+use Rattle.wm_tree.specs.Outputs.{handed_on, heir, left_to, space_moved, with_output, with_space, without_output, yielded}
 use Rattle.wm_tree.specs.Settle.{vacated}
 use Rattle.wm_tree.specs.Sound.{IsSound, times}
-use Rattle.wm_tree.specs.TreeValue.{TreeValue, id}
-use Rattle.wm_tree.specs.Words.{attached, detached, settled, with_raised}
+use Rattle.wm_tree.specs.TreeValue.{TreeValue, current, id, root}
+use Rattle.wm_tree.specs.Words.{attached, detached, edited, settled, with_raised}
 use Rattle.wm_tree.proofs.CountLemmas.{counted, found_counted, there}
 use Rattle.wm_tree.proofs.TimesLemmas.{times-append, times-dropped, times-raised}
 
@@ -41,14 +45,43 @@ ids_settled t = record { next = omega arith; known = λ v below. filtered _ v t.
 above : (n : ℕ) (v : ConId) → v.0 < n → same (id n) v ≡ false
 above n v below = grind (arith, nat_tests)
 
-grown : (v : ConId) (t : TreeValue) → v.0 < t.next_id → times v (t.recency ++ id t.next_id ∷ []) ≤ times v t.recency
-grown v t below = let new : times v (id t.next_id ∷ []) ≡ 0 = rw (above t.next_id v below) refl in omega (arith, times-append v t.recency (id t.next_id ∷ []), new)
+grown : (n : ℕ) (v : ConId) (t : TreeValue) → v.0 < n → times v (t.recency ++ id n ∷ []) ≤ times v t.recency
+grown n v t below = let new : times v (id n ∷ []) ≡ 0 = rw (above n v below) refl in omega (arith, times-append v t.recency (id n ∷ []), new)
 
 pub ids_wrapped : (c : ConId) (layout : Layout) (t : TreeValue) → IdsRise t (wrapped c layout t)
-ids_wrapped c layout t = record { next = omega arith; known = λ v below. grown v t below }
+ids_wrapped c layout t = record { next = omega arith; known = λ v below. grown t.next_id v t below }
 
 pub ids_attached : (p : Place) (newcomer : NewCon) (t : TreeValue) → IdsRise t (attached p newcomer t)
-ids_attached p newcomer t = record { next = omega arith; known = λ v below. grown v t below }
+ids_attached p newcomer t = record { next = omega arith; known = λ v below. grown t.next_id v t below }
+
+pub ids_edited : (c : ConId) (edit : KindEdit) (t : TreeValue) → IdsRise t (edited c edit t)
+ids_edited c edit t = record { next = omega arith; known = λ v below. omega arith }
+
+pub ids_moved : (c : ConId) (p : Place) (t : TreeValue) → IdsRise t (moved c p t)
+ids_moved c p t = record { next = omega arith; known = λ v below. omega arith }
+
+pub ids_with_output : (plan : OutputPlan) (first : List ℕ) (t : TreeValue) → IdsRise t (with_output plan first t)
+ids_with_output plan first t = record { next = omega arith; known = λ v below. grown (t.next_id + 1) v t (omega (arith, below)) }
+
+pub ids_with_space : (o : ConId) (name : List ℕ) (t : TreeValue) → IdsRise t (with_space o name t)
+ids_with_space o name t = record { next = omega arith; known = λ v below. grown t.next_id v t below }
+
+pub ids_space_moved : (w o : ConId) (t : TreeValue) → IdsRise t (space_moved w o t)
+ids_space_moved w o t = record { next = omega arith; known = λ v below. omega arith }
+
+ids_handed : (o h : ConId) (t : TreeValue) → IdsRise t (handed_on o h (yielded o h t))
+ids_handed o h t = by_test (same (current t) o)
+  where
+    by_test : (b : Bool) → IdsRise t (handed_on o h (cond b (edited root (edits.Current h) t) t))
+    by_test true = record { next = omega arith; known = λ v below. omega arith }
+    by_test false = record { next = omega arith; known = λ v below. omega arith }
+
+pub ids_without_output : (o : ConId) (t : TreeValue) → IdsRise t (without_output o t)
+ids_without_output o t = by_heir (heir o t.nodes)
+  where
+    by_heir : (h : Option ConId) → IdsRise t (left_to h o t)
+    by_heir None = ids_refl t
+    by_heir (Some h) = ids_handed o h t
 
 pub ids_detached : (c : ConId) (t : TreeValue) → IdsRise t (detached c t)
 ids_detached c t = record { next = omega arith; known = λ v below. filtered _ v t.recency }

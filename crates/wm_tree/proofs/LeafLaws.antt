@@ -6,13 +6,11 @@ use Rattle.wm_tree.specs.declared.part.Part.{Part}
 use Rattle.wm_tree.specs.declared.part.NodeKind.{NodeKind}
 use Rattle.wm_tree.specs.declared.part.NodeKind.TheVariants.{Root, Output, Space, Con}
 use Rattle.wm_tree.specs.declared.spot.Spot.{Spot}
-use Rattle.wm_tree.specs.Change.{at}
-use Rattle.wm_tree.specs.Counts.{count}
 use Rattle.wm_tree.specs.Forest.{Forest, end, con}
 use Rattle.wm_tree.specs.Look.{has, only, same}
 use Rattle.wm_tree.specs.Recency.{first_held, lists}
 use Rattle.wm_tree.specs.Sound.{Level, roots, outputs, spaces, containers, below, IsNode, IsSound, IsSoundRow, one_of, rank_of, ranked, tally, times}
-use Rattle.wm_tree.specs.Spot.{room_below, spot_in, top}
+use Rattle.wm_tree.specs.Spot.{room_below, top}
 use Rattle.wm_tree.specs.TreeValue.{TreeValue, follow, leaf, leaf_at, leaf_of, tiled_by, tiled_kids}
 use Rattle.wm_tree.proofs.ChangeLemmas.{by_place}
 use Rattle.wm_tree.proofs.CountLemmas.{count-without, counted}

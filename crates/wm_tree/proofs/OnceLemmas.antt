@@ -1,5 +1,5 @@
 -- Where an id is there once, the node that is found is the one in the part where it is.
-use Rattle.std.proofs.Common.{◌≡◌, ℕ, ◌+◌, ◌≤◌, Bool, true, false, cond, ◌||◌, refl, ap, sym, ◌∙◌, arith}
+use Rattle.std.proofs.Common.{◌≡◌, ◌≤◌, Bool, true, false, cond, ◌||◌, refl, ◌∙◌, arith}
 use Rattle.wm_base.specs.declared.ids.ConId.{ConId}
 use Rattle.wm_tree.specs.declared.part.Part.{Part}
 use Rattle.wm_tree.specs.Forest.{Forest, end, con}

@@ -1,5 +1,5 @@
 -- An output that comes or goes keeps what holds of every tree.
-use Rattle.std.proofs.Common.{◌≡◌, ◌≢◌, ℕ, ◌+◌, ◌≤◌, ◌<◌, Bool, true, false, cond, leb, ltb, ◌⊎◌, ⊎_elim, [], ◌∷◌, List, Option, None, Some, refl, ap, sym, ◌∙◌, subst, arith}
+use Rattle.std.proofs.Common.{◌≡◌, ◌≢◌, ℕ, ◌+◌, ◌≤◌, ◌<◌, Bool, true, false, cond, leb, ltb, ⊎_elim, [], ◌∷◌, List, Option, None, Some, refl, ap, sym, ◌∙◌, subst, arith}
 use Rattle.std.proofs.lemmas.Bool.Decides.{nat_tests}
 use Rattle.wm_base.specs.declared.errors.Limit.TheVariants.{Ids, Outputs, Workspaces}
 use Rattle.wm_base.specs.declared.ids.ConId.{ConId}
@@ -13,7 +13,7 @@ use Rattle.wm_tree.specs.Forest.{Forest, end, con}
 use Rattle.wm_tree.specs.Change.{append, at, nobody, without}
 use Rattle.wm_tree.specs.Counts.{but, con_of, count, marks_of, row_length, space_count, space_of}
 use Rattle.wm_tree.specs.Kinds.{changed, kind_changed}
-use Rattle.wm_tree.specs.Look.{first_floats, first_kids, first_part, has, in_row, kind_by, nth_id, only, output_kind, same}
+use Rattle.wm_tree.specs.Look.{first_floats, first_kids, first_part, has, in_row, kind_by, only, output_kind, same}
 use Rattle.wm_tree.specs.Outputs.{IsOutput, handed_on, heir, left_to, new_output, passed_by_output, taking_in, with_output, without_output, yielded}
 use Rattle.wm_tree.specs.Place.{put}
 use Rattle.wm_tree.specs.Sound.{IsNode, IsOutputRect, IsSound, IsSoundRow, one_of, outputs, rank_of, ranks, roots, tally}
@@ -169,8 +169,8 @@ module _ (o h : ConId) (t : TreeValue) (s : IsSound t) (ok : IsOutput o t.nodes)
       omega (
         arith,
         count-more m h taking_in (only o t.nodes) (count m (first_kids (only o t.nodes)) + count m (first_floats (only o t.nodes)))
-        (λ part kids floats rest. omega (arith, count-append m kids (first_kids (only o t.nodes)), count-append m floats (first_floats (only o t.nodes)))) (without o t.nodes)
-        (has_kids h (without o t.nodes) (has_row h (first_kids (without o t.nodes)) other)),
+            (λ part kids floats rest. omega (arith, count-append m kids (first_kids (only o t.nodes)), count-append m floats (first_floats (only o t.nodes)))) (without o t.nodes)
+            (has_kids h (without o t.nodes) (has_row h (first_kids (without o t.nodes)) other)),
         count_alone m (only o t.nodes) (found_alone o t.nodes),
         count-without m o t.nodes,
       )
@@ -238,8 +238,8 @@ sound_by o h t ok next s = by_test (same (current t) o) refl
         sound-handed o h u su (rw y.row ok) (rw (y.now, y.row) first) (rw y.row next)
     by_test false e = sound-handed o h t s ok (but_keeps o (current t) (first_kids t.nodes) e (current_there t.nodes s.shaped s.rooted)) next
 
-pub sound-without_output : (o : ConId) (t : TreeValue) → IsOutput o t.nodes → heir o t.nodes ≢ None → IsSound t → IsSound (without_output o t)
-sound-without_output o t ok others s = by_heir (heir o t.nodes) refl
+pub sound-without_output : (o : ConId) (t : TreeValue) → IsOutput o t.nodes → IsSound t → IsSound (without_output o t)
+sound-without_output o t ok s = by_heir (heir o t.nodes) refl
   where
     by_heir : (h : Option ConId) → heir o t.nodes ≡ h → IsSound (left_to h o t)
     by_heir None e = s

@@ -1,5 +1,5 @@
 -- Settling keeps what holds of every tree.
-use Rattle.std.proofs.Common.{◌≡◌, ℕ, ◌+◌, ◌-◌, ◌≤◌, Bool, true, false, cond, ◌||◌, ◌&&◌, not, List, Option, None, Some, refl, ap, ◌∙◌, arith}
+use Rattle.std.proofs.Common.{◌≡◌, ℕ, ◌+◌, ◌≤◌, Bool, true, false, cond, ◌||◌, ◌&&◌, not, List, Option, None, Some, refl, ap, ◌∙◌, arith}
 use Rattle.wm_base.specs.declared.ids.ConId.{ConId}
 use Rattle.wm_tree.specs.declared.part.Part.{Part}
 use Rattle.wm_tree.specs.declared.part.ConKind.{ConKind}
@@ -12,7 +12,7 @@ use Rattle.wm_tree.specs.Counts.{con_of, count, marks_of, row_length, space_of}
 use Rattle.wm_tree.specs.Look.{has, in_row, same}
 use Rattle.wm_tree.specs.Recency.{outside}
 use Rattle.wm_tree.specs.Settle.{vacated}
-use Rattle.wm_tree.specs.Sound.{Level, roots, outputs, spaces, containers, below, HasKids, IsNode, IsSound, IsSoundRow, one_of, rank_of, ranked, ranks, tally, times}
+use Rattle.wm_tree.specs.Sound.{Level, roots, outputs, spaces, containers, below, HasKids, IsNode, IsSound, IsSoundRow, one_of, rank_of, ranked, tally, times}
 use Rattle.wm_tree.specs.Spot.{room_below}
 use Rattle.wm_tree.specs.TreeValue.{TreeValue, root}
 use Rattle.wm_tree.specs.Words.{settled}

@@ -1,12 +1,12 @@
 -- What settling leaves: nothing vacant, and the order of recency of what stays.
-use Rattle.std.proofs.Common.{◌≡◌, ℕ, ◌+◌, ◌≤◌, Bool, true, false, cond, ◌&&◌, not, List, [], ◌∷◌, Option, None, Some, filter, refl, ap, ap₂, sym, ◌∙◌, arith}
+use Rattle.std.proofs.Common.{◌≡◌, ◌+◌, ◌≤◌, Bool, true, false, cond, ◌&&◌, not, List, [], ◌∷◌, Option, None, filter, refl, ap, ap₂, ◌∙◌, arith}
 use Rattle.std.proofs.lemmas.Bool.{and_parts}
 use Rattle.wm_base.specs.declared.ids.ConId.{ConId}
 use Rattle.wm_tree.specs.declared.part.Part.{Part}
 use Rattle.wm_tree.specs.Forest.{Forest, end, con}
-use Rattle.wm_tree.specs.Change.{append, is_vacant, settled_row, shown_of}
+use Rattle.wm_tree.specs.Change.{is_vacant, settled_row, shown_of}
 use Rattle.wm_tree.specs.Settle.{is_settled, vacated}
-use Rattle.wm_tree.specs.Look.{has, same}
+use Rattle.wm_tree.specs.Look.{has}
 use Rattle.wm_tree.specs.Recency.{inside, outside}
 use Rattle.wm_tree.specs.Sound.{IsSound, one_of, ranked, tally, times}
 use Rattle.wm_tree.specs.TreeValue.{TreeValue}

@@ -1,5 +1,5 @@
 -- A workspace that comes, or moves to another output, keeps what holds of every tree.
-use Rattle.std.proofs.Common.{◌≡◌, ◌≢◌, ℕ, ◌+◌, ◌≤◌, ◌<◌, Bool, true, false, cond, leb, ltb, List, Option, None, Some, refl, ap, sym, ◌∙◌, subst, arith}
+use Rattle.std.proofs.Common.{◌≡◌, ◌≢◌, ℕ, ◌+◌, ◌≤◌, ◌<◌, Bool, true, false, cond, leb, ltb, List, None, Some, refl, ap, sym, ◌∙◌, arith}
 use Rattle.std.proofs.lemmas.Bool.Decides.{nat_tests}
 use Rattle.wm_base.specs.declared.errors.Limit.TheVariants.{Ids, Workspaces}
 use Rattle.wm_base.specs.declared.ids.ConId.{ConId}
@@ -19,7 +19,6 @@ use Rattle.wm_tree.proofs.CountLemmas.{count-put, count-without}
 use Rattle.wm_tree.proofs.FocusLemmas.{has_kids}
 use Rattle.wm_tree.proofs.ForestLemmas.{append_end}
 use Rattle.wm_tree.proofs.LookLemmas.{seen-without}
-use Rattle.wm_tree.proofs.MoveLemmas.{found_alone}
 use Rattle.wm_tree.proofs.OutputRows.{Taken, output_found, sound-taking, spaces_counted}
 use Rattle.wm_tree.proofs.PlaceLemmas.{count_kids}
 use Rattle.wm_tree.proofs.SpaceRows.{found_space, is_apart, sound-left}

@@ -1,5 +1,5 @@
 -- A workspace that is taken from its output: what is left of the rows of a tree, and what was taken.
-use Rattle.std.proofs.Common.{◌≡◌, ◌≢◌, ℕ, ◌+◌, ◌≤◌, Bool, true, false, cond, ◌||◌, List, Option, None, Some, refl, ap, sym, ◌∙◌, subst, arith}
+use Rattle.std.proofs.Common.{◌≡◌, ◌≢◌, ℕ, ◌≤◌, Bool, true, false, cond, ◌||◌, List, Option, None, Some, refl, ap, sym, ◌∙◌, subst, arith}
 use Rattle.wm_base.specs.declared.ids.ConId.{ConId}
 use Rattle.wm_tree.specs.declared.part.Part.{Part}
 use Rattle.wm_tree.specs.declared.part.NodeKind.{NodeKind}
@@ -11,7 +11,7 @@ use Rattle.wm_tree.specs.Counts.{count, row_length}
 use Rattle.wm_tree.specs.Look.{first_kids, first_part, has, in_row, kind_by, kind_of, only, output_kind, same, space_kind}
 use Rattle.wm_tree.specs.Outputs.{IsNotShown, IsOutput, shows}
 use Rattle.wm_tree.specs.Sound.{Level, roots, outputs, spaces, containers, below, IsNode, IsSound, IsSoundRow}
-use Rattle.wm_tree.specs.Spot.{room_below, spot_below, spot_of, top}
+use Rattle.wm_tree.specs.Spot.{room_below, spot_of, top}
 use Rattle.wm_tree.specs.TreeValue.{TreeValue}
 use Rattle.wm_tree.proofs.ChangeLemmas.{by_place}
 use Rattle.wm_tree.proofs.OnceLemmas.{within}

@@ -1,5 +1,5 @@
 -- Ids rise, and none that is gone comes back.
-use Rattle.std.specs.Prelude.{ℕ, ◌≤◌, ◌<◌}
+use Rattle.std.specs.Prelude.{◌≤◌, ◌<◌}
 use Rattle.wm_base.specs.declared.ids.ConId.{ConId}
 use Rattle.wm_tree.specs.Sound.{times}
 use Rattle.wm_tree.specs.TreeValue.{TreeValue}

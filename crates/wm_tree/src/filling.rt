@@ -16,7 +16,13 @@ use wm_base::{ConId, Props, Size};
 impl Tree {
     /// Makes the placeholder a window of the caller with the number `owner`, with these properties and this natural
     /// size. It keeps the rest: its place, share, state, marks and title format.
-    pub fn fill(&mut self, con: ConId, props: &Props, owner: u32, natural: Size) -> Result<(), TreeRefusal>
+    pub fn fill(
+        &mut self,
+        con: ConId,
+        props: &Props,
+        owner: u32,
+        natural: Size,
+    ) -> Result<(), TreeRefusal>
         ensures ok { OnOk result (self.new ≡ edited con (edits.Fill props.now owner natural) self.old) }
         ensures sound { IsSound self.old → IsSound self.new }
         ensures err { OnErr result (self.new ≡ self.old) }
@@ -27,7 +33,8 @@ impl Tree {
             return Err(TreeRefusal::Missing(con));
         }
         let props = copy_props(props)?;
-        self.nodes.change(con, KindEdit::Fill(props, owner, natural));
+        self.nodes
+            .change(con, KindEdit::Fill(props, owner, natural));
         Ok(())
     }
 }

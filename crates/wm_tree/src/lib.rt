@@ -27,6 +27,8 @@ mod start;
 #[cfg(test)]
 mod tests;
 #[cfg(test)]
+mod tests_outputs;
+#[cfg(test)]
 mod tests_parts;
 mod tree;
 mod words;

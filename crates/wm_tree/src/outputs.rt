@@ -167,8 +167,7 @@ impl Tree {
         ensures there { has o self.old.nodes ≡ true → IsOk result }
         ensures ok { OnOk result (self.new ≡ without_output o self.old) }
         ensures err { OnErr result (self.new ≡ self.old) }
-        ensures sound { (has o self.old.nodes ≡ true → IsOutput o self.old.nodes × (heir o self.old.nodes ≢ None)) →
-            IsSound self.old → IsSound self.new }
+        ensures sound { (has o self.old.nodes ≡ true → IsOutput o self.old.nodes) → IsSound self.old → IsSound self.new }
     {
         if !self.nodes.has(o) {
             return Err(TreeRefusal::Missing(o));

@@ -127,13 +127,7 @@ fn space_part(alloc: Global, id: ConId, k: u32, inner: u32, outer: u32) -> Resul
 }
 
 /// An empty workspace of this name.
-pub(crate) fn named_space(
-    alloc: Global,
-    id: ConId,
-    name: Text,
-    inner: u32,
-    outer: u32,
-) -> Part
+pub(crate) fn named_space(alloc: Global, id: ConId, name: Text, inner: u32, outer: u32) -> Part
     ensures { result ≡ space_part id name inner outer }
 {
     let space = SpacePart {

@@ -12,7 +12,8 @@ const SCREEN: Rect = Rect {
     h: 800,
 };
 
-fn plan(alloc: Global, name: &str) -> Result<OutputPlan, Fail> {
+/// An output of this name.
+pub fn plan(alloc: Global, name: &str) -> Result<OutputPlan, Fail> {
     Ok(OutputPlan {
         name: Text::new(alloc, name)?,
         rect: SCREEN,
