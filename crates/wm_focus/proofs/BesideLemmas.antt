@@ -4,7 +4,7 @@ use Rattle.std.specs.Option.{option_or}
 use Rattle.std.specs.Prelude.{option_and_then}
 use Rattle.wm_base.specs.declared.geometry.Dir.{Dir}
 use Rattle.wm_base.specs.declared.ids.ConId.{ConId}
-use Rattle.wm_focus.proofs.DownLemmas.{Once, down_kids, down_rest, has_only, none, not_below, once_only, once_rest, only_below}
+use Rattle.wm_showing.proofs.DownLemmas.{Once, down_kids, down_rest, has_only, none, not_below, once_only, once_rest, only_below}
 use Rattle.wm_focus.proofs.KidLemmas.{child_there}
 use Rattle.wm_focus.specs.declared.rungs.Aim.TheVariants.{Beside}
 use Rattle.wm_focus.specs.Moves.{beside, neighbour_below}

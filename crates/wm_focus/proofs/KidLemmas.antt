@@ -3,7 +3,7 @@ use Rattle.std.proofs.Common.{◌≡◌, ◌≢◌, ℕ, Bool, true, false, cond
 use Rattle.std.specs.Option.{option_or}
 use Rattle.wm_base.specs.declared.geometry.Dir.{Dir}
 use Rattle.wm_base.specs.declared.ids.ConId.{ConId}
-use Rattle.wm_focus.proofs.DownLemmas.{Once, down_floats, down_kids, down_rest, in_floats, in_kids, in_rest, once_floats, once_kids, once_rest}
+use Rattle.wm_showing.proofs.DownLemmas.{Once, down_floats, down_kids, down_rest, in_floats, in_kids, in_rest, once_floats, once_kids, once_rest}
 use Rattle.wm_focus.proofs.RungLemmas.{first_aimed-append, holder_is}
 use Rattle.wm_focus.specs.declared.rungs.Aim.TheVariants.{Out}
 use Rattle.wm_focus.specs.Rungs.{first_aimed, nearest, rung, rungs, runs}

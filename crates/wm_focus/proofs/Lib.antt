@@ -1,7 +1,6 @@
 pub mod AllLemmas
 pub mod BearerLemmas
 pub mod BesideLemmas
-pub mod DownLemmas
 pub mod GiveLemmas
 pub mod KidLemmas
 pub mod LawLemmas

@@ -4,7 +4,7 @@ use Rattle.std.specs.Prelude.{option_and_then}
 use Rattle.wm_base.specs.declared.geometry.Dir.{Dir}
 use Rattle.wm_base.specs.declared.ids.ConId.{ConId}
 use Rattle.wm_focus.proofs.BesideLemmas.{apart_below, below_two, turned}
-use Rattle.wm_focus.proofs.DownLemmas.{below_both, held_below, not_above, once_only}
+use Rattle.wm_showing.proofs.DownLemmas.{below_both, held_below, not_above, once_only}
 use Rattle.wm_focus.proofs.KidLemmas.{IsAbove, IsKid, child_there, holder_in_row, kid_of, kid_there, kid_tiled, out_above}
 use Rattle.wm_focus.proofs.SubjectLemmas.{tiled_is}
 use Rattle.wm_focus.proofs.SwapLemmas.{tiled_there}

@@ -4,7 +4,7 @@ use Rattle.std.specs.Option.{option_or}
 use Rattle.wm_base.specs.declared.geometry.Dir.{Dir}
 use Rattle.wm_base.specs.declared.ids.ConId.{ConId}
 use Rattle.wm_focus.proofs.BesideLemmas.{neighbour_two}
-use Rattle.wm_focus.proofs.DownLemmas.{Once, in_floats, in_kids, in_rest, once_floats, once_kids, once_only, once_rest}
+use Rattle.wm_showing.proofs.DownLemmas.{Once, in_floats, in_kids, in_rest, once_floats, once_kids, once_only, once_rest}
 use Rattle.wm_focus.proofs.KidLemmas.{holder_in_row, kid_of, spot_tiled, tiled_in}
 use Rattle.wm_laws.proofs.RaiseKeeps.{Stands, raise_differs}
 use Rattle.wm_focus.proofs.RungLemmas.{first_aimed-append, holder_is}

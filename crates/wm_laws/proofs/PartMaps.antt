@@ -1,7 +1,7 @@
 -- Forests whose parts are changed node by node.
 use Rattle.std.proofs.Common.{◌≡◌, ℕ, ◌+◌, ◌≤◌, Bool, true, false, cond, ◌||◌, ◌⊎◌, inl, inr, Option, None, Some, refl, ap, sym, ◌∙◌, arith}
 use Rattle.wm_base.specs.declared.ids.ConId.{ConId}
-use Rattle.wm_focus.proofs.DownLemmas.{none}
+use Rattle.wm_showing.proofs.DownLemmas.{none}
 use Rattle.wm_tree.proofs.CountLemmas.{counted}
 use Rattle.wm_tree.proofs.LookLemmas.{none_of_four}
 use Rattle.wm_tree.specs.Change.{at, in_place, replaced}

@@ -1,7 +1,7 @@
 -- Two containers without others below them that change places: their parts are traded.
 use Rattle.std.proofs.Common.{◌≡◌, ℕ, ◌+◌, ◌≤◌, Bool, true, false, cond, ◌||◌, ◌⊎◌, inl, inr, [], Option, None, Some, refl, ap, sym, ◌∙◌, arith}
 use Rattle.wm_base.specs.declared.ids.ConId.{ConId}
-use Rattle.wm_focus.proofs.DownLemmas.{Once, down_floats, down_kids, down_rest, in_floats, in_kids, in_rest, none, once_floats, once_kids, once_rest}
+use Rattle.wm_showing.proofs.DownLemmas.{Once, down_floats, down_kids, down_rest, in_floats, in_kids, in_rest, none, once_floats, once_kids, once_rest}
 use Rattle.wm_focus.proofs.OnlyLemmas.{found_there}
 use Rattle.wm_laws.proofs.PartMaps.{Light, count-mapped, has_mapped, mapped, mapped-mapped, mapped_alike, mapped_all, only_mapped, put, put_back, replaced_leaf}
 use Rattle.wm_laws.proofs.RowLemmas.{heads, heads_only}

@@ -5,7 +5,7 @@ use Rattle.wm_base.specs.declared.geometry.Dir.{Dir}
 use Rattle.wm_base.specs.declared.geometry.Dir.TheVariants.{Left, Right, Up, Down}
 use Rattle.wm_base.specs.declared.ids.ConId.{ConId}
 use Rattle.wm_focus.proofs.BesideLemmas.{AreTwo, below_two, neighbour_two}
-use Rattle.wm_focus.proofs.DownLemmas.{Once, has_only, in_floats, in_kids, in_rest, not_below, once_floats, once_kids, once_only, once_rest}
+use Rattle.wm_showing.proofs.DownLemmas.{Once, has_only, in_floats, in_kids, in_rest, not_below, once_floats, once_kids, once_only, once_rest}
 use Rattle.wm_focus.proofs.GiveLemmas.{container_there}
 use Rattle.wm_focus.proofs.KidLemmas.{child_there, in_tiled, kid_of, kid_there, takes_containers}
 use Rattle.wm_focus.proofs.SwapLemmas.{tiled_there}

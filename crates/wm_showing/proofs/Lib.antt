@@ -1,3 +1,4 @@
+pub mod DownLemmas
 pub mod KeyLemmas
 pub mod ShowLemmas
 pub mod SpaceLemmas

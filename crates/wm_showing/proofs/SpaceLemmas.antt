@@ -2,9 +2,13 @@
 use Rattle.std.proofs.Common.{◌≡◌, ◌≢◌, ℕ, ◌+◌, ◌≤◌, Bool, true, false, cond, ◌||◌, ◌⊎◌, inl, inr, List, Option, None, Some, refl, ap, sym, ◌∙◌, arith}
 use Rattle.std.specs.Prelude.{option_and_then}
 use Rattle.wm_base.specs.declared.ids.ConId.{ConId}
+use Rattle.wm_showing.proofs.DownLemmas.{only_below}
 use Rattle.wm_showing.specs.Showing.{shown_on}
 use Rattle.wm_tree.proofs.AttachLemmas.{has_row}
 use Rattle.wm_tree.proofs.ForestLemmas.{only_absent}
+use Rattle.wm_tree.proofs.MoveLemmas.{SoundFound, found_sound}
+use Rattle.wm_tree.proofs.PutLemmas.{IsConFirst}
+use Rattle.wm_tree.proofs.StandLemmas.{HasSpot, has_spot}
 use Rattle.wm_tree.proofs.OnceLemmas.{only_floats, only_kids, only_rest}
 use Rattle.wm_tree.proofs.RecencyLemmas.{same_self}
 use Rattle.wm_tree.specs.Change.{shown_of}
@@ -13,7 +17,7 @@ use Rattle.wm_tree.specs.declared.part.NodeKind.TheVariants.{Root, Output, Space
 use Rattle.wm_tree.specs.declared.part.Part.{Part}
 use Rattle.wm_tree.specs.declared.spot.Spot.{Spot}
 use Rattle.wm_tree.specs.Forest.{Forest, end, con}
-use Rattle.wm_tree.specs.Look.{first_kids, first_part, has, in_row, kind_by, only, same, space_kind}
+use Rattle.wm_tree.specs.Look.{first_kids, first_part, has, in_row, con_kind, kind_by, only, same, space_kind}
 use Rattle.wm_tree.specs.Sound.{IsNode, IsSound, IsSoundRow, containers, outputs, roots, spaces, tally}
 use Rattle.wm_tree.specs.Spot.{room_below, space_at, space_by, spot_below, spot_in, spot_of, top}
 use Rattle.wm_tree.specs.TreeValue.{TreeValue, parent, root, workspace_of}
@@ -252,3 +256,26 @@ space_of_node c w t s h = by (space_of_spot c top t.nodes s.once w h) where
   by : (top.space ≡ Some w) ⊎ IsSpaceIn w t.nodes → IsSpaceIn w t.nodes
   by (inl e) = cc
   by (inr ok) = ok
+
+-- a workspace is not within a container
+pub not_within : (c w : ConId) (t : TreeValue) → IsSound t → kind_by con_kind (first_part (only c t.nodes)) ≢ None → IsSpaceIn w t.nodes → has w (only c t.nodes) ≡ false
+not_within c w t s ok_c ok_w = by (has w (only c t.nodes)) refl where
+  -- what is found below c is what is found in the whole
+  inner : has w (only c t.nodes) ≡ true → only w (only c t.nodes) ≡ only w t.nodes
+  inner h = only_below w c t.nodes s.once h
+
+  found : (sp : Option Spot) (g : Forest) → SoundFound sp g → HasSpot sp → IsConFirst g → kind_by space_kind (first_part (only w g)) ≡ None
+  found None g p spot con_first = absurd spot
+  found (Some sp) g p spot con_first = no_space w sp.tiled sp.room g (p con_first)
+
+  there : has c t.nodes ≡ true
+  there = by_has (has c t.nodes) refl where
+    by_has : (b : Bool) → has c t.nodes ≡ b → has c t.nodes ≡ true
+    by_has true e = e
+    by_has false e = absurd (ok_c (ap (λ g. kind_by con_kind (first_part g)) (only_absent c t.nodes e)))
+
+  by : (b : Bool) → has w (only c t.nodes) ≡ b → has w (only c t.nodes) ≡ false
+  by false e = e
+  by true e =
+      let none = found (spot_in top c t.nodes) (only c t.nodes) (found_sound c roots top t.nodes s.shaped) (has_spot c top t.nodes there) ok_c in
+      absurd (ok_w (ap (λ g. kind_by space_kind (first_part g)) (sym (inner e)) ∙ none))

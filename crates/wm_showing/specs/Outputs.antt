@@ -11,7 +11,7 @@ use Rattle.wm_showing.specs.Keys.{least, with_key}
 use Rattle.wm_tree.specs.declared.part.OutputPart.{OutputPart}
 use Rattle.wm_tree.specs.Forest.{Forest, end, con}
 use Rattle.wm_tree.specs.Look.{first_kids, kind_of, output_kind}
-use Rattle.wm_tree.specs.TreeValue.{TreeValue}
+use Rattle.wm_tree.specs.TreeValue.{TreeValue, parent, workspace_of}
 
 -- the place behind the last of a span
 abbrev pub end_of : ℤ → ℕ → ℤ
@@ -51,6 +51,14 @@ keys_beyond d a (con part kids floats rest) = with_key (key_beyond d a part.id (
 abbrev pub nearest_to : Dir → Forest → OutputPart → Option ConId
 nearest_to d outputs o = option_map (λ (k : Key). k.id) (least (keys_beyond d o.rect outputs))
 
+-- the output of a container's or workspace's workspace
+abbrev pub output_of : ConId → TreeValue → Option ConId
+output_of c t = option_and_then (parent t) (workspace_of t c)
+
 -- the output in a direction of the output o
 abbrev pub output_in : Dir → ConId → TreeValue → Option ConId
 output_in d o t = option_and_then (nearest_to d (first_kids t.nodes)) (kind_of output_kind o t.nodes)
+
+-- the output in a direction of the one on which c stands
+abbrev pub output_from : Dir → ConId → TreeValue → Option ConId
+output_from d c t = option_and_then (λ (o : ConId). output_in d o t) (output_of c t)

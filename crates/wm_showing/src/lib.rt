@@ -8,7 +8,7 @@ mod showing;
 mod subject;
 
 pub use keys::{Key, lesser};
-pub use outputs::output_in;
+pub use outputs::{output_from, output_in, output_of};
 pub use refusing::refused;
-pub use showing::{enter_output, focus, show_space, shown_on};
+pub use showing::{enter_output, focus, remember, show_space, shown_on, space_name};
 pub use subject::{is_hidden, is_space, is_subject};

@@ -1,8 +1,8 @@
 //! The output in a direction.
-ghost use Rattle.std.specs.Prelude.{◌≡◌, ◌≤◌, ◌+ℤ◌, ◌-ℤ◌, pos};
-ghost use Rattle.wm_showing.specs.Outputs.{end_of, gap, is_beyond, key_beyond, keys_beyond, output_in, spans_meet, stands_beside};
-ghost use Rattle.wm_showing.specs.Keys.{least, lesser};
-ghost use Rattle.wm_tree.specs.Look.{output_kind};
+ghost use Rattle.std.specs.Prelude.{◌≡◌, true, IfSome};
+ghost use Rattle.wm_showing.specs.Outputs.{end_of, gap, key_beyond, keys_beyond, output_from, output_in, output_of, spans_meet, stands_beside};
+ghost use Rattle.wm_showing.specs.Keys.{least};
+ghost use Rattle.wm_tree.specs.Look.{first_kids, in_row, output_kind};
 
 use crate::keys::{Key, lesser};
 use wm_base::{ConId, Dir, Rect};
@@ -74,10 +74,27 @@ fn nearest(d: Dir, a: Rect, outputs: Cursor<'_>) -> Option<Key>
     best
 }
 
+/// The output of a container's or workspace's workspace. `None` exactly where it has none, as in the scratchpad.
+pub fn output_of(t: &Tree, con: ConId) -> Option<ConId>
+    ensures { result ≡ output_of con t.now }
+{
+    t.parent(t.workspace_of(con)?)
+}
+
+/// The output in a direction of the one on which a container or workspace stands.
+pub fn output_from(t: &Tree, con: ConId, d: Dir) -> Option<ConId>
+    ensures value { result ≡ output_from d con t.now }
+    ensures listed { IfSome result (λ o. in_row o (first_kids t.now.nodes) ≡ true) }
+{
+    output_in(t, output_of(t, con)?, d)
+}
+
 /// The output in a direction of another one: of those that lie wholly beyond that edge and overlap it on the other axis
 /// the nearest, then the one of least id. `None` exactly where there is none.
+#[tactic(auto, using(crate::proofs::KeyLemmas::listed_by))]
 pub fn output_in(t: &Tree, output: ConId, d: Dir) -> Option<ConId>
-    ensures { result ≡ output_in d output t.now }
+    ensures value { result ≡ output_in d output t.now }
+    ensures listed { IfSome result (λ o. in_row o (first_kids t.now.nodes) ≡ true) }
 {
     let rect = t.output(output)?.rect;
     let key = nearest(d, rect, t.nodes().kids())?;

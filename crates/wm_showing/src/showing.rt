@@ -10,7 +10,7 @@ use wm_base::{ConId, NoMemory, Text};
 use wm_tree::Tree;
 
 /// The name of a workspace. `None` where there is none.
-fn space_name(t: &Tree, w: ConId) -> Result<Option<Text>, NoMemory>
+pub fn space_name(t: &Tree, w: ConId) -> Result<Option<Text>, NoMemory>
     ensures { IfOk result (λ name. name ≡ space_name w t.now) }
 {
     match t.space(w) {
@@ -38,8 +38,9 @@ fn follow(t: &mut Tree, was: Option<ConId>, w: ConId)
 }
 
 /// Keeps the name of the workspace that was focused as the previous one, where another is focused now.
-fn remember(t: &mut Tree, was: ConId, name: Option<Text>)
-    ensures { t.new ≡ remembered was name t.old }
+pub fn remember(t: &mut Tree, was: ConId, name: Option<Text>)
+    ensures tree { t.new ≡ remembered was name t.old }
+    ensures sound { IsSound t.old → IsSound t.new }
 {
     if t.shown() != was {
         t.set_previous(name);
