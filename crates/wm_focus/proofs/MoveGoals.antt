@@ -1,5 +1,5 @@
 -- Where a container may go in a direction.
-use Rattle.std.proofs.Common.{◌≡◌, Bool, true, false, cond, ◌⊎◌, inl, inr, Option, None, Some, refl, ap, sym, ◌∙◌}
+use Rattle.std.proofs.Common.{◌≡◌, ◌≢◌, Bool, true, false, cond, ◌⊎◌, inl, inr, Option, None, Some, refl, ap, sym, ◌∙◌}
 use Rattle.std.specs.Prelude.{option_and_then}
 use Rattle.wm_base.specs.declared.geometry.Dir.{Dir}
 use Rattle.wm_base.specs.declared.ids.ConId.{ConId}
@@ -9,8 +9,12 @@ use Rattle.wm_focus.proofs.KidLemmas.{IsAbove, IsKid, child_there, holder_in_row
 use Rattle.wm_focus.proofs.SubjectLemmas.{tiled_is}
 use Rattle.wm_focus.proofs.SwapLemmas.{tiled_there}
 use Rattle.wm_focus.specs.declared.rungs.Aim.TheVariants.{Out}
-use Rattle.wm_focus.specs.Moves.{IsGoal, IsTurn, after_child, beside, entry, held_out, is_split_con, is_split_part, near_end, neighbour_below, runs_split, side_of}
+use Rattle.wm_focus.specs.Moves.{IsGoal, IsTurn, after_child, beside, entry, held_out, is_split_con, is_split_part, near_end, neighbour_below, runs_split, side_of, space_over}
 use Rattle.wm_focus.specs.Rungs.{is_forward, nearest}
+use Rattle.wm_showing.proofs.SpaceLemmas.{not_within, shown_is_space}
+use Rattle.wm_showing.specs.Outputs.{output_from}
+use Rattle.wm_showing.specs.Showing.{shown_on}
+use Rattle.wm_tree.proofs.AlongLemmas.{space_there}
 use Rattle.wm_tree.proofs.CountLemmas.{found_counted, there}
 use Rattle.wm_tree.proofs.RecencyLemmas.{same_is}
 use Rattle.wm_tree.specs.Change.{is_split}
@@ -21,7 +25,7 @@ use Rattle.wm_tree.specs.declared.part.NodeKind.TheVariants.{Root, Output, Space
 use Rattle.wm_tree.specs.declared.part.Part.{Part}
 use Rattle.wm_tree.specs.declared.place.Place.TheVariants.{After, Before, First, Last}
 use Rattle.wm_tree.specs.Forest.{Forest}
-use Rattle.wm_tree.specs.Look.{con_kind, first_part, has, kind_by, only, same}
+use Rattle.wm_tree.specs.Look.{con_kind, first_part, has, kind_by, only, same, space_kind}
 use Rattle.wm_tree.specs.Place.{IsSplit, TakesFirst, TakesKids}
 use Rattle.wm_tree.specs.Recency.{first_held}
 use Rattle.wm_tree.specs.Sound.{IsSound, roots}
@@ -30,7 +34,7 @@ use Rattle.wm_tree.specs.TreeValue.{TreeValue, focused_child, is_tiled_con, pare
 
 -- ---- what options say
 
-chained : {A B : Type 0} (f : A → Option B) (o : Option A) (y : B) → option_and_then f o ≡ Some y → (x : A) × (o ≡ Some x) × (f x ≡ Some y)
+pub chained : {A B : Type 0} (f : A → Option B) (o : Option A) (y : B) → option_and_then f o ≡ Some y → (x : A) × (o ≡ Some x) × (f x ≡ Some y)
 chained f None y h = cc
 chained f (Some x) y h = (x, refl, h)
 
@@ -152,3 +156,32 @@ side_fits d c x t s own h = step (is_forward d) where
   step : (b : Bool) → IsGoal c (cond b (After x) (Before x)) t
   step true = (tiled_there t c own, kid_there false x t.nodes above.0, ((λ g. (tiled_is t c own).0), (λ g. kid_tiled x t.nodes above.0), λ g l. apart))
   step false = (tiled_there t c own, kid_there false x t.nodes above.0, ((λ g. (tiled_is t c own).0), (λ g. kid_tiled x t.nodes above.0), λ g l. apart))
+
+-- ---- over the edge of the output
+
+takes_space : (part : Option Part) → kind_by space_kind part ≢ None → TakesFirst part
+takes_space None h = absurd (h refl)
+takes_space (Some part) h = by part.kind h where
+  by : (kind : NodeKind) → space_kind kind ≢ None → TakesKids kind
+  by (Root c) h = absurd (h refl)
+  by (Output o) h = absurd (h refl)
+  by (Space w) h = tt
+  by (Con c) h = absurd (h refl)
+
+pub cross_fits : (d : Dir) (c w : ConId) (t : TreeValue) → IsSound t → is_tiled_con t c ≡ true → space_over d c t ≡ Some w → IsGoal c (near_end d w) t
+cross_fits d c w t s own h = step (is_forward d) where
+  k : (o : ConId) × (output_from d c t ≡ Some o) × (shown_on o t ≡ Some w)
+  k = chained (λ (o : ConId). shown_on o t) (output_from d c t) w h
+
+  ok : kind_by space_kind (first_part (only w t.nodes)) ≢ None
+  ok = shown_is_space k.0 w t s k.2
+
+  here : has w t.nodes ≡ true
+  here = space_there w t.nodes ok
+
+  outside : has w (only c t.nodes) ≡ false
+  outside = not_within c w t s (tiled_is t c own).0 ok
+
+  step : (b : Bool) → IsGoal c (cond b (First w) (Last w)) t
+  step true = (tiled_there t c own, here, ((λ e. (tiled_is t c own).0), (λ e. takes_space (first_part (only w t.nodes)) ok), λ e g. outside))
+  step false = (tiled_there t c own, here, ((λ e. (tiled_is t c own).0), (λ e. takes_space (first_part (only w t.nodes)) ok), λ e g. outside))

@@ -1,30 +1,64 @@
 -- Focusing in a direction.
-use Rattle.std.specs.Prelude.{Option, None, is_none}
-use Rattle.std.specs.Option.{option_or}
+use Rattle.std.specs.Prelude.{◌≡◌, Bool, true, ◌&&◌, not, if◌then◌else◌, Option, None, Some, is_none, option_and_then}
 use Rattle.wm_base.specs.declared.errors.ErrorText.TheVariants as texts
 use Rattle.wm_base.specs.declared.errors.Refusal.{Refusal}
 use Rattle.wm_base.specs.declared.geometry.Dir.{Dir}
 use Rattle.wm_base.specs.declared.ids.ConId.{ConId}
+use Rattle.wm_focus.specs.declared.direction.Goal.{Goal}
+use Rattle.wm_focus.specs.declared.direction.Goal.TheVariants as goals
 use Rattle.wm_focus.specs.declared.rungs.Aim.TheVariants.{Around, Beside}
-use Rattle.wm_focus.specs.Parents.{raised_some}
-use Rattle.wm_showing.specs.Refusing.{error_if}
 use Rattle.wm_focus.specs.Rungs.{nearest}
-use Rattle.wm_showing.specs.Subject.{is_hidden}
-use Rattle.wm_tree.specs.TreeValue.{TreeValue, leaf}
-use Rattle.std.specs.Prelude.{option_and_then}
+use Rattle.wm_showing.specs.Outputs.{output_from}
+use Rattle.wm_showing.specs.Refusing.{error_if}
+use Rattle.wm_showing.specs.Showing.{focusing, output_focused}
+use Rattle.wm_showing.specs.Subject.{is_container, is_hidden}
+use Rattle.wm_tree.specs.Look.{first_kids, in_row}
+use Rattle.wm_tree.specs.TreeValue.{TreeValue, is_tiled_con, leaf}
 
--- the node to go to: at the nearest node above c along the axis in which there is a neighbour on that side, that
--- neighbour, and else, at the nearest one with two or more children, the child at the other end
-abbrev pub goal_of : Dir → ConId → TreeValue → Option ConId
-goal_of d c t = option_or (nearest Beside d c t.nodes) (nearest Around d c t.nodes)
+abbrev pub round_goal : Option ConId → Option Goal
+round_goal None = None
+round_goal (Some n) = Some (goals.Node n)
 
--- what is focused there: by the focused child until there is none
-abbrev pub focused_at : Dir → ConId → TreeValue → Option ConId
-focused_at d c t = option_and_then (leaf t) (goal_of d c t)
+abbrev pub output_goal : Option ConId → Option ConId → Option Goal
+output_goal None around = round_goal around
+output_goal (Some o) around = Some (goals.Output o)
 
--- one in the scratchpad has no workspace, and where there is no node to go to nothing is focused
+abbrev pub first_goal : Option ConId → Option ConId → Option ConId → Option Goal
+first_goal None output around = output_goal output around
+first_goal (Some n) output around = Some (goals.Node n)
+
+-- where to go: at the nearest node above c along the axis in which there is a neighbour on that side, to that neighbour;
+-- else to the output in that direction; else, at the nearest one with two or more children, to the child at the other
+-- end
+abbrev pub goal_of : Dir → ConId → TreeValue → Option Goal
+goal_of d c t = first_goal (nearest Beside d c t.nodes) (output_from d c t) (nearest Around d c t.nodes)
+
+-- an output to which to go is one of the root's
+abbrev pub IsListed : Option Goal → TreeValue → Type 0
+IsListed None t = Unit {0}
+IsListed (Some (goals.Node n)) t = Unit {0}
+IsListed (Some (goals.Output o)) t = in_row o (first_kids t.nodes) ≡ true
+
+-- a window that floats on a workspace
+abbrev pub is_floating : TreeValue → ConId → Bool
+is_floating t c = is_container t c && not (is_tiled_con t c)
+
+-- one in the scratchpad has no workspace; what is done from a floating window is not built; and where there is nothing
+-- to go to nothing is focused
 abbrev pub focus_dir_refusal : ConId → Dir → TreeValue → Option Refusal
-focus_dir_refusal c d t = error_if (is_hidden t c) texts.NoWorkspace (error_if (is_none (goal_of d c t)) texts.NoNeighbour None)
+focus_dir_refusal c d t =
+    error_if (is_hidden t c) texts.NoWorkspace (error_if (is_floating t c) texts.NotBuilt (error_if (is_none (goal_of d c t)) texts.NoNeighbour None))
+
+-- the container is focused, where there is one
+abbrev pub focusing_some : Option ConId → TreeValue → TreeValue
+focusing_some None t = t
+focusing_some (Some c) t = focusing c t
+
+-- from a node on the leaf is focused, by the focused child until there is none; an output becomes the current one
+abbrev pub gone_to : Option Goal → TreeValue → TreeValue
+gone_to None t = t
+gone_to (Some (goals.Node n)) t = focusing_some (leaf t n) t
+gone_to (Some (goals.Output o)) t = output_focused o t
 
 abbrev pub focus_dir_tree : ConId → Dir → TreeValue → TreeValue
-focus_dir_tree c d t = raised_some (focused_at d c t) t
+focus_dir_tree c d t = gone_to (goal_of d c t) t

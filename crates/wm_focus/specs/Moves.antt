@@ -6,7 +6,9 @@ use Rattle.wm_base.specs.declared.errors.Refusal.TheVariants.{NoTarget}
 use Rattle.wm_base.specs.declared.geometry.Dir.{Dir}
 use Rattle.wm_base.specs.declared.ids.ConId.{ConId}
 use Rattle.wm_focus.specs.declared.rungs.Aim.TheVariants.{Beside, Out}
+use Rattle.wm_showing.specs.Outputs.{output_from}
 use Rattle.wm_showing.specs.Refusing.{error_if, full_error}
+use Rattle.wm_showing.specs.Showing.{entered, remembering, shown_on}
 use Rattle.wm_focus.specs.Rungs.{aimed, is_forward, nearest, rung, runs_con}
 use Rattle.wm_showing.specs.Subject.{is_hidden, is_space}
 use Rattle.wm_focus.specs.Swaps.{deep_error}
@@ -85,8 +87,16 @@ IsGoal c p t = (has c t.nodes ≡ true) × (has (named p) t.nodes ≡ true) × I
 abbrev pub turned : ConId → ConId → TreeValue → TreeValue
 turned c n t = edited n (edits.Share (share_in n t.nodes)) (edited c (edits.Share (share_in c t.nodes)) (exchanged c n t))
 
+-- what the output in that direction shows
+abbrev pub space_over : Dir → ConId → TreeValue → Option ConId
+space_over d c t = option_and_then (λ (o : ConId). shown_on o t) (output_from d c t)
+
+abbrev pub over_refusal : Dir → ConId → Option ConId → TreeValue → Option Refusal
+over_refusal d c None t = Some (NoTarget texts.NoNeighbour)
+over_refusal d c (Some w) t = full_error (passed_by_move c (near_end d w) t.nodes)
+
 abbrev pub out_refusal : Dir → ConId → Option ConId → TreeValue → Option Refusal
-out_refusal d c None t = Some (NoTarget texts.NoNeighbour)
+out_refusal d c None t = over_refusal d c (space_over d c t) t
 out_refusal d c (Some child) t = full_error (passed_by_move c (side_of d child) t.nodes)
 
 abbrev pub step_refusal : Dir → ConId → Option ConId → TreeValue → Option Refusal
@@ -94,20 +104,26 @@ step_refusal d c None t = out_refusal d c (held_out d c t) t
 step_refusal d c (Some n) t = if is_split_con t n then full_error (passed_by_move c (entry d n t) t.nodes) else deep_error (is_too_deep c n t.nodes)
 
 -- one in the scratchpad has no workspace, a workspace does not move, and what a floating window does is not built; no
--- limit is passed, and there is a neighbour or a node above to go to
+-- limit is passed, and there is a neighbour, a node above or an output to go to
 abbrev pub move_dir_refusal : ConId → Dir → ℕ → TreeValue → Option Refusal
 move_dir_refusal c d px t =
     error_if (is_hidden t c) texts.NoWorkspace (error_if (is_space t c) texts.AtWorkspace
     (error_if (not (is_tiled_con t c)) texts.NotBuilt (step_refusal d c (beside d c t) t)))
 
+-- at the near end of that workspace, whose output becomes the current one
+abbrev pub over_tree : Dir → ConId → Option ConId → TreeValue → TreeValue
+over_tree d c None t = t
+over_tree d c (Some w) t = remembering t (entered c (moved c (near_end d w) t))
+
 abbrev pub out_tree : Dir → ConId → Option ConId → TreeValue → TreeValue
-out_tree d c None t = t
+out_tree d c None t = over_tree d c (space_over d c t) t
 out_tree d c (Some child) t = moved c (side_of d child) t
 
 abbrev pub step_tree : Dir → ConId → Option ConId → TreeValue → TreeValue
 step_tree d c None t = out_tree d c (held_out d c t) t
 step_tree d c (Some n) t = if is_split_con t n then moved c (entry d n t) t else turned c n t
 
--- c changes places with a window or placeholder beside it, goes into a split beside it, or out of its parent
+-- c changes places with a window or placeholder beside it, goes into a split beside it, out of its parent, or to the
+-- output in that direction
 abbrev pub move_dir_tree : ConId → Dir → ℕ → TreeValue → TreeValue
 move_dir_tree c d px t = step_tree d c (beside d c t) t

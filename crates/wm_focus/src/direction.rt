@@ -1,42 +1,83 @@
 //! Focusing in a direction.
-ghost use Rattle.std.specs.Prelude.{◌≡◌, None, Some, OnOk, OnErr, IfErr};
-ghost use Rattle.wm_focus.specs.Direction.{focus_dir_refusal, focus_dir_tree, focused_at, goal_of};
+ghost use Rattle.std.specs.Prelude.{◌≡◌, true, None, Some, OnOk, OnErr, IfErr, IfOk};
+ghost use Rattle.wm_focus.specs.Direction.{IsListed, focus_dir_refusal, focus_dir_tree, focusing_some, goal_of, gone_to, is_floating};
+ghost use Rattle.wm_showing.specs.Refusing.{IsCause};
 ghost use Rattle.wm_showing.specs.Subject.{IsSubject};
 ghost use Rattle.wm_tree.specs.Sound.{IsSound};
+ghost use Rattle.wm_tree.specs.TreeValue.{leaf};
 
 use crate::rungs::{Aim, nearest};
-use wm_showing::is_hidden;
-use wm_base::{ConId, Dir, ErrorText, Refusal};
+use wm_base::{ConId, Dir, ErrorText, NoMemory, Refusal};
+use wm_showing::{enter_output, focus, is_hidden, output_from};
 use wm_tree::Tree;
 
-/// Focuses the neighbour in a direction of the container or of the nearest node above it that has one there, or goes
-/// round to the other end. Other outputs are not looked for yet, and from a floating window nothing is focused yet.
+/// Where focus goes in a direction: to a node, or to another output.
+#[derive(Clone, Copy, Debug)]
+pub enum Goal {
+    Node(ConId),
+    Output(ConId),
+}
+
+/// Focuses the neighbour in a direction of the container or of the nearest node above it that has one there; else the
+/// output in that direction becomes the current one; else it goes round to the other end. What is done from a floating
+/// window is not built yet.
 pub fn focus_dir(t: &mut Tree, from: ConId, d: Dir) -> Result<(), Refusal>
     requires { IsSubject t.old from }
     ensures tree { OnOk result (t.new ≡ focus_dir_tree from d t.old) }
     ensures fine { OnOk result (focus_dir_refusal from d t.old ≡ None) }
     ensures err { OnErr result (t.new ≡ t.old) }
-    ensures cause { IfErr result (λ e. focus_dir_refusal from d t.old ≡ Some e) }
-    ensures sound { IsSound t.old → IsSound t.new }
+    ensures cause { IfErr result (IsCause (focus_dir_refusal from d t.old)) }
+    ensures sound { IsSound t.new }
 {
     if is_hidden(t, from) {
         return Err(Refusal::NoTarget(ErrorText::NoWorkspace));
     }
-    let Some(next) = next_to(t, from, d) else {
+    if is_floating(t, from) {
+        return Err(Refusal::NoTarget(ErrorText::NotBuilt));
+    }
+    let Some(goal) = find_goal(t, from, d) else {
         return Err(Refusal::NoTarget(ErrorText::NoNeighbour));
     };
-    if let Some(leaf) = t.leaf(next) {
-        t.raise(leaf);
+    match go(t, goal) {
+        Ok(()) => Ok(()),
+        Err(NoMemory) => Err(Refusal::NoMemory),
     }
-    Ok(())
 }
 
-/// The node to go to from the container.
-fn next_to(t: &Tree, from: ConId, d: Dir) -> Option<ConId>
-    ensures { result ≡ goal_of d from t.now }
+/// Whether it is a container that floats on a workspace, or is in the scratchpad.
+pub(crate) fn is_floating(t: &Tree, con: ConId) -> bool
+    ensures { result ≡ is_floating t.now con }
+{
+    t.container(con).is_some() && !t.is_tiled(con)
+}
+
+/// Where to go from the container.
+fn find_goal(t: &Tree, from: ConId, d: Dir) -> Option<Goal>
+    ensures value { result ≡ goal_of d from t.now }
+    ensures listed { IsListed result t.now }
 {
     if let Some(beside) = nearest(t.nodes(), from, Aim::Beside, d) {
-        return Some(beside);
+        return Some(Goal::Node(beside));
     }
-    nearest(t.nodes(), from, Aim::Around, d)
+    if let Some(output) = output_from(t, from, d) {
+        return Some(Goal::Output(output));
+    }
+    Some(Goal::Node(nearest(t.nodes(), from, Aim::Around, d)?))
+}
+
+/// Focuses the leaf of a node, or makes an output the current one.
+fn go(t: &mut Tree, goal: Goal) -> Result<(), NoMemory>
+    requires sound { IsSound t.old }
+    requires listed { IsListed (Some goal) t.old }
+    ensures tree { OnOk result (t.new ≡ gone_to (Some goal) t.old) }
+    ensures err { OnErr result (t.new ≡ t.old) }
+    ensures sound { IsSound t.new }
+{
+    match goal {
+        Goal::Node(node) => match t.leaf(node) {
+            Some(leaf) => focus(t, leaf),
+            None => Ok(()),
+        },
+        Goal::Output(output) => enter_output(t, output),
+    }
 }

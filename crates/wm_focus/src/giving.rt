@@ -10,8 +10,8 @@ ghost use Rattle.wm_tree.specs.Move.{is_full_of_marks, marks_in, unmarked, with_
 ghost use Rattle.wm_tree.specs.Sound.{IsSound};
 
 use crate::bearers::{bearer, bears, marks_of};
-use wm_showing::refused;
 use wm_base::{ConId, NoMemory, Refusal, Text};
+use wm_showing::refused;
 use wm_tree::{Cursor, Tree, TreeRefusal};
 
 /// Takes the mark off all nodes but the one to be kept.

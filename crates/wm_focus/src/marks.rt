@@ -9,9 +9,8 @@ ghost use Rattle.wm_tree.specs.Sound.{IsSound};
 
 use crate::bearers::{bearer, bears, marks_of};
 use crate::giving::{give, replace_from, take_all_off, take_off};
-use wm_showing::refused;
-use wm_showing::is_space;
 use wm_base::{ConId, ErrorText, NoMemory, Refusal, Text};
+use wm_showing::{is_space, refused};
 use wm_tree::Tree;
 
 /// How many bytes a mark has at most.

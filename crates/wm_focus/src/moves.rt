@@ -1,7 +1,7 @@
 //! Moving a container in a direction.
 ghost use Rattle.std.specs.Prelude.{◌≡◌, Some, None, OnOk, OnErr, IfErr, false, true};
-ghost use Rattle.wm_focus.specs.Moves.{IsGoal, IsTurn, after_child, beside, entry, held_out, is_split_con, move_dir_refusal, move_dir_tree, near_end, out_refusal, out_tree, runs_split, side_of, step_refusal, step_tree, turned};
-ghost use Rattle.wm_showing.specs.Refusing.{full_error};
+ghost use Rattle.wm_focus.specs.Moves.{IsGoal, IsTurn, after_child, beside, entry, held_out, is_split_con, move_dir_refusal, move_dir_tree, near_end, out_refusal, out_tree, over_refusal, over_tree, runs_split, side_of, space_over, step_refusal, step_tree, turned};
+ghost use Rattle.wm_showing.specs.Refusing.{IsCause, full_error};
 ghost use Rattle.wm_showing.specs.Subject.{IsSubject};
 ghost use Rattle.wm_focus.specs.Swaps.{deep_error};
 ghost use Rattle.wm_focus.specs.Walks.{neighbour_at};
@@ -10,22 +10,23 @@ ghost use Rattle.wm_tree.specs.Move.{is_too_deep, moved, passed_by_move, share_i
 ghost use Rattle.wm_tree.specs.Sound.{IsSound};
 ghost use Rattle.wm_tree.specs.TreeValue.{is_tiled_con};
 
-use wm_showing::refused;
 use crate::rungs::{Aim, aimed, is_forward, nearest, runs_con};
-use wm_showing::{is_hidden, is_space};
 use wm_base::{ConId, Dir, ErrorText, Refusal};
+use wm_showing::{
+    enter, is_hidden, is_space, output_from, refused, remember, shown_on, space_name,
+};
 use wm_tree::{ConKind, Cursor, Place, Tree};
 
-/// Moves the container in a direction: past a window or placeholder beside it, into a split beside it, or out of its
-/// parent. Other outputs are not looked for yet, and what the command does to a floating window, which it shifts by
-/// `px` pixels, is not built yet. It may leave a split without children, which settling removes.
+/// Moves the container in a direction: past a window or placeholder beside it, into a split beside it, out of its
+/// parent, or to what the output in that direction shows. What the command does to a floating window, which it shifts
+/// by `px` pixels, is not built yet. It may leave a split without children, which settling removes.
 pub fn move_dir(t: &mut Tree, con: ConId, d: Dir, px: u32) -> Result<(), Refusal>
     requires { IsSubject t.old con }
     ensures tree { OnOk result (t.new ≡ move_dir_tree con d px t.old) }
     ensures fine { OnOk result (move_dir_refusal con d px t.old ≡ None) }
     ensures err { OnErr result (t.new ≡ t.old) }
-    ensures cause { IfErr result (λ e. move_dir_refusal con d px t.old ≡ Some e) }
-    ensures sound { IsSound t.old → IsSound t.new }
+    ensures cause { IfErr result (IsCause (move_dir_refusal con d px t.old)) }
+    ensures sound { IsSound t.new }
 {
     if is_hidden(t, con) {
         return Err(Refusal::NoTarget(ErrorText::NoWorkspace));
@@ -75,7 +76,7 @@ fn pass(t: &mut Tree, con: ConId, next: ConId, d: Dir) -> Result<(), Refusal>
     ensures tree { OnOk result (t.new ≡ step_tree d con (Some next) t.old) }
     ensures fine { OnOk result (step_refusal d con (Some next) t.old ≡ None) }
     ensures err { OnErr result (t.new ≡ t.old) }
-    ensures cause { IfErr result (λ e. step_refusal d con (Some next) t.old ≡ Some e) }
+    ensures cause { IfErr result (IsCause (step_refusal d con (Some next) t.old)) }
     ensures sound { IsSound t.new }
 {
     if is_split_con(t, next) {
@@ -93,13 +94,43 @@ fn leave(t: &mut Tree, con: ConId, d: Dir) -> Result<(), Refusal>
     ensures tree { OnOk result (t.new ≡ out_tree d con (held_out d con t.old) t.old) }
     ensures fine { OnOk result (out_refusal d con (held_out d con t.old) t.old ≡ None) }
     ensures err { OnErr result (t.new ≡ t.old) }
-    ensures cause { IfErr result (λ e. out_refusal d con (held_out d con t.old) t.old ≡ Some e) }
+    ensures cause { IfErr result (IsCause (out_refusal d con (held_out d con t.old) t.old)) }
     ensures sound { IsSound t.new }
 {
     match held_out(t, con, d) {
         Some(child) => go(t, con, side_of(d, child)),
-        None => Err(Refusal::NoTarget(ErrorText::NoNeighbour)),
+        None => cross(t, con, d),
     }
+}
+
+/// What the output in that direction shows.
+fn space_over(t: &Tree, con: ConId, d: Dir) -> Option<ConId>
+    ensures { result ≡ space_over d con t.now }
+{
+    shown_on(t, output_from(t, con, d)?)
+}
+
+/// Moves the container to the near end of what the output in that direction shows, which becomes the current one.
+fn cross(t: &mut Tree, con: ConId, d: Dir) -> Result<(), Refusal>
+    requires sound { IsSound t.old }
+    requires tiled { is_tiled_con t.old con ≡ true }
+    ensures tree { OnOk result (t.new ≡ over_tree d con (space_over d con t.old) t.old) }
+    ensures fine { OnOk result (over_refusal d con (space_over d con t.old) t.old ≡ None) }
+    ensures err { OnErr result (t.new ≡ t.old) }
+    ensures cause { IfErr result (IsCause (over_refusal d con (space_over d con t.old) t.old)) }
+    ensures sound { IsSound t.new }
+{
+    let Some(space) = space_over(t, con, d) else {
+        return Err(Refusal::NoTarget(ErrorText::NoNeighbour));
+    };
+    let was = t.shown();
+    let Ok(name) = space_name(t, was) else {
+        return Err(Refusal::NoMemory);
+    };
+    go(t, con, near_end(d, space))?;
+    enter(t, con);
+    remember(t, was, name);
+    Ok(())
 }
 
 /// Puts the container at the place.
@@ -109,7 +140,7 @@ fn go(t: &mut Tree, con: ConId, at: Place) -> Result<(), Refusal>
     ensures tree { OnOk result (t.new ≡ moved con at t.old) }
     ensures fine { OnOk result (full_error (passed_by_move con at t.old.nodes) ≡ None) }
     ensures err { OnErr result (t.new ≡ t.old) }
-    ensures cause { IfErr result (λ e. full_error (passed_by_move con at t.old.nodes) ≡ Some e) }
+    ensures cause { IfErr result (IsCause (full_error (passed_by_move con at t.old.nodes))) }
     ensures sound { IsSound t.new }
 {
     match t.move_to(con, at) {
@@ -125,7 +156,7 @@ fn turn(t: &mut Tree, con: ConId, next: ConId) -> Result<(), Refusal>
     ensures tree { OnOk result (t.new ≡ turned con next t.old) }
     ensures fine { OnOk result (deep_error (is_too_deep con next t.old.nodes) ≡ None) }
     ensures err { OnErr result (t.new ≡ t.old) }
-    ensures cause { IfErr result (λ e. deep_error (is_too_deep con next t.old.nodes) ≡ Some e) }
+    ensures cause { IfErr result (IsCause (deep_error (is_too_deep con next t.old.nodes))) }
     ensures sound { IsSound t.new }
 {
     let own = share(t, con);

@@ -6,10 +6,9 @@ ghost use Rattle.wm_showing.specs.Subject.{IsSubject};
 ghost use Rattle.wm_tree.specs.Sound.{IsSound};
 ghost use Rattle.wm_tree.specs.declared.part.ConPart.{ConPart};
 
-use wm_showing::refused;
-use wm_showing::{is_hidden, is_space};
 use wm_base::{ConId, ErrorText, Layout, Refusal};
 use wm_grammar::{Cycle, LayoutArg, SplitArg};
+use wm_showing::{is_hidden, is_space, refused};
 use wm_tree::{ConKind, Tree};
 
 /// A layout, and the last split layout.

@@ -7,11 +7,10 @@ ghost use Rattle.wm_tree.specs.Look.{has, only};
 ghost use Rattle.wm_tree.specs.Sound.{IsSound};
 
 use crate::marks::marked;
-use wm_showing::refused;
-use wm_showing::{is_hidden, is_space};
 use crate::within::is_within;
 use wm_base::{ConId, ErrorText, Refusal, Text};
 use wm_grammar::SwapArg;
+use wm_showing::{is_hidden, is_space, refused};
 use wm_tree::{ConKind, Place, Tree};
 
 /// The container that the command names.

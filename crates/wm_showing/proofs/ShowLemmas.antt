@@ -1,9 +1,10 @@
 -- Showing a workspace keeps what holds of every tree.
 use Rattle.std.proofs.Common.{◌≡◌, ◌≢◌, ℕ, Bool, true, false, cond, ◌||◌, List, Option, None, Some, refl, ap, sym, ◌∙◌}
-use Rattle.std.specs.Prelude.{is_some}
+use Rattle.std.specs.Prelude.{is_some, option_and_then}
 use Rattle.wm_base.specs.declared.ids.ConId.{ConId}
 use Rattle.wm_showing.proofs.SpaceLemmas.{IsSpaceIn, Placed, placed, space_of_node}
-use Rattle.wm_showing.specs.Showing.{followed, focusing, output_focused, remembering, showing, showing_some, shown_on, shown_there, space_name, with_current}
+use Rattle.wm_showing.specs.Outputs.{output_of}
+use Rattle.wm_showing.specs.Showing.{current_some, entered, followed, focusing, output_focused, remembering, showing, showing_some, shown_on, shown_there, space_name, with_current}
 use Rattle.wm_showing.specs.Subject.{is_space}
 use Rattle.wm_tree.proofs.AlongLemmas.{sound-along}
 use Rattle.wm_tree.proofs.EditLemmas.{fits_current}
@@ -159,3 +160,21 @@ sound_focusing c t s = sound-raised c (showing_some (workspace_of t c) t) (by (w
   by : (o : Option ConId) → workspace_of t c ≡ o → IsSound (showing_some o t)
   by None e = s
   by (Some w) e = sound_showing w t (workspace_is c w t s e) s
+
+-- ---- the output of a node
+
+-- the output on which a node stands is one of the root's
+pub entered_listed : (c o : ConId) (t : TreeValue) → IsSound t → output_of c t ≡ Some o → in_row o (first_kids t.nodes) ≡ true
+entered_listed c o t s h = by (workspace_of t c) refl h where
+  by : (x : Option ConId) → workspace_of t c ≡ x → option_and_then (parent t) x ≡ Some o → in_row o (first_kids t.nodes) ≡ true
+  by None e h = cc
+  by (Some w) e h =
+      let p = placed w t s (space_of_node c w t s e) in
+      let one : p.output ≡ o = let z : Some p.output ≡ Some o = sym p.held_by ∙ h in cc in
+      rw (← one) p.listed
+
+pub sound_entered : (c : ConId) (t : TreeValue) → IsSound t → IsSound (entered c t)
+sound_entered c t s = by (output_of c t) refl where
+  by : (x : Option ConId) → output_of c t ≡ x → IsSound (current_some x t)
+  by None e = s
+  by (Some o) e = sound_current o t (entered_listed c o t s e) s

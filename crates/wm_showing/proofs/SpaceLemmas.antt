@@ -2,14 +2,14 @@
 use Rattle.std.proofs.Common.{◌≡◌, ◌≢◌, ℕ, ◌+◌, ◌≤◌, Bool, true, false, cond, ◌||◌, ◌⊎◌, inl, inr, List, Option, None, Some, refl, ap, sym, ◌∙◌, arith}
 use Rattle.std.specs.Prelude.{option_and_then}
 use Rattle.wm_base.specs.declared.ids.ConId.{ConId}
-use Rattle.wm_showing.proofs.DownLemmas.{only_below}
+use Rattle.wm_showing.proofs.DownLemmas.{once_only, only_below}
 use Rattle.wm_showing.specs.Showing.{shown_on}
 use Rattle.wm_tree.proofs.AttachLemmas.{has_row}
 use Rattle.wm_tree.proofs.ForestLemmas.{only_absent}
 use Rattle.wm_tree.proofs.MoveLemmas.{SoundFound, found_sound}
 use Rattle.wm_tree.proofs.PutLemmas.{IsConFirst}
 use Rattle.wm_tree.proofs.StandLemmas.{HasSpot, has_spot}
-use Rattle.wm_tree.proofs.OnceLemmas.{only_floats, only_kids, only_rest}
+use Rattle.wm_tree.proofs.OnceLemmas.{in_kids, only_floats, only_kids, only_rest}
 use Rattle.wm_tree.proofs.RecencyLemmas.{same_self}
 use Rattle.wm_tree.specs.Change.{shown_of}
 use Rattle.wm_tree.specs.declared.part.NodeKind.{NodeKind}
@@ -18,7 +18,8 @@ use Rattle.wm_tree.specs.declared.part.Part.{Part}
 use Rattle.wm_tree.specs.declared.spot.Spot.{Spot}
 use Rattle.wm_tree.specs.Forest.{Forest, end, con}
 use Rattle.wm_tree.specs.Look.{first_kids, first_part, has, in_row, con_kind, kind_by, only, same, space_kind}
-use Rattle.wm_tree.specs.Sound.{IsNode, IsSound, IsSoundRow, containers, outputs, roots, spaces, tally}
+use Rattle.wm_tree.proofs.ChangeLemmas.{by_place}
+use Rattle.wm_tree.specs.Sound.{IsNode, IsSound, IsSoundRow, Level, below as level_below, containers, outputs, roots, spaces, tally}
 use Rattle.wm_tree.specs.Spot.{room_below, space_at, space_by, spot_below, spot_in, spot_of, top}
 use Rattle.wm_tree.specs.TreeValue.{TreeValue, parent, root, workspace_of}
 
@@ -279,3 +280,44 @@ not_within c w t s ok_c ok_w = by (has w (only c t.nodes)) refl where
   by true e =
       let none = found (spot_in top c t.nodes) (only c t.nodes) (found_sound c roots top t.nodes s.shaped) (has_spot c top t.nodes there) ok_c in
       absurd (ok_w (ap (λ g. kind_by space_kind (first_part g)) (sym (inner e)) ∙ none))
+
+-- ---- what outputs show
+
+abbrev FindsShown : Level → Spot → Forest → Forest → Forest → Forest → Option Spot → Forest → Type 0
+FindsShown l s whole old new found sp st =
+    IsSoundRow l s.tiled s.room old → (v : ConId) → kind_by shown_of (first_part found) ≡ Some v → (in_row v (first_kids found) ≡ true) × ((room : ℕ) × IsSoundRow spaces true room (first_kids found))
+
+shown_rows : (o : ConId) (f : Forest) → IsSoundRow roots false 0 f → (v : ConId) → kind_by shown_of (first_part (only o f)) ≡ Some v
+    → (in_row v (first_kids (only o f)) ≡ true) × ((room : ℕ) × IsSoundRow spaces true room (first_kids (only o f)))
+shown_rows o f =
+    by_place o (λ row part kids floats rest. rest) end FindsShown
+    (λ l s whole p v h. cc)
+    (λ l s whole part kids floats rest p v h. here l s.tiled s.room part kids part.kind refl p.0 p.2 v h)
+    (λ l s whole part kids floats rest new found sp st k p. k p.2)
+    (λ l s whole part kids floats rest new found sp st k p. k p.3)
+    (λ l s whole part kids floats rest new found sp st k p. k p.4) roots top f f
+  where
+    here : (l : Level) (tiled : Bool) (room : ℕ) (part : Part) (kids : Forest) (kind : NodeKind) → part.kind ≡ kind → IsNode l tiled room part.id kind part.marks kids → IsSoundRow (level_below l) true (room_below room kind) kids
+        → (v : ConId) → shown_of kind ≡ Some v → (in_row v kids ≡ true) × ((n : ℕ) × IsSoundRow spaces true n kids)
+    here l tiled room part kids (Root c) e n p v h = cc
+    here l tiled room part kids (Space x) e n p v h = cc
+    here l tiled room part kids (Con c) e n p v h = cc
+    here roots tiled room part kids (Output x) e n p v h = absurd n
+    here outputs tiled room part kids (Output x) e n p v h = let one : x.shown ≡ v = cc in (rw (← one) n.1, (room_below room (Output x), p))
+    here spaces tiled room part kids (Output x) e n p v h = absurd n
+    here containers tiled room part kids (Output x) e n p v h = absurd n
+
+-- what an output shows is a workspace
+pub shown_is_space : (o w : ConId) (t : TreeValue) → IsSound t → shown_on o t ≡ Some w → IsSpaceIn w t.nodes
+shown_is_space o w t s h = by (only o t.nodes) refl (shown_rows o t.nodes s.shaped w h) (once_only o t.nodes s.once) where
+  by : (g : Forest) → only o t.nodes ≡ g → (in_row w (first_kids (only o t.nodes)) ≡ true) × ((n : ℕ) × IsSoundRow spaces true n (first_kids (only o t.nodes))) → Once (only o t.nodes) → IsSpaceIn w t.nodes
+  by end e k once = let bad : in_row w end ≡ true = rw e at k.0 in cc
+  by (con part kids floats rest) e k once =
+      let listed : in_row w kids ≡ true = rw e at k.0 in
+      let row : IsSoundRow spaces true k.1.0 kids = rw e at k.1.1 in
+      let own : Once (con part kids floats rest) = rw e at once in
+      let there = has_row w kids listed in
+      let ok = listed_space w true k.1.0 kids row (λ i. omega (arith, own i)) listed in
+      let inner : has w (only o t.nodes) ≡ true = rw e (in_kids w part kids floats rest there) in
+      let found : only w t.nodes ≡ only w kids = sym (only_below w o t.nodes s.once inner) ∙ (ap (only w) e ∙ only_kids w part kids floats rest (own w) there) in
+      rw found ok

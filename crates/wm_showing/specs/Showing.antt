@@ -2,6 +2,7 @@
 use Rattle.std.specs.Prelude.{ℕ, if◌then◌else◌, List, Option, None, Some}
 use Rattle.std.specs.Option.{option_map}
 use Rattle.wm_base.specs.declared.ids.ConId.{ConId}
+use Rattle.wm_showing.specs.Outputs.{output_of}
 use Rattle.wm_tree.specs.declared.kind.KindEdit.TheVariants as edits
 use Rattle.wm_tree.specs.declared.part.SpacePart.{SpacePart}
 use Rattle.wm_tree.specs.Along.{gone_along}
@@ -57,3 +58,11 @@ showing_some (Some w) t = showing w t
 -- the container or workspace c is focused: its workspace is shown, and it is raised
 abbrev pub focusing : ConId → TreeValue → TreeValue
 focusing c t = with_raised c (showing_some (workspace_of t c) t)
+
+abbrev pub current_some : Option ConId → TreeValue → TreeValue
+current_some None t = t
+current_some (Some o) t = with_current o t
+
+-- the output on which c stands is the current one
+abbrev pub entered : ConId → TreeValue → TreeValue
+entered c t = current_some (output_of c t) t

@@ -1,11 +1,12 @@
 //! Showing a workspace on its output, and focusing a container in it.
 ghost use Rattle.std.specs.Prelude.{◌≡◌, true, IfOk, OnOk, OnErr};
-ghost use Rattle.wm_showing.specs.Showing.{focusing, followed, output_focused, remembered, showing, shown_on, shown_there, space_name};
-ghost use Rattle.wm_showing.specs.Subject.{IsSubject, is_space};
+ghost use Rattle.wm_showing.specs.Showing.{entered, focusing, followed, output_focused, remembered, showing, shown_on, shown_there, space_name};
+ghost use Rattle.wm_showing.specs.Subject.{is_space};
 ghost use Rattle.wm_tree.specs.Look.{first_kids, in_row};
 ghost use Rattle.wm_tree.specs.Sound.{IsSound};
 ghost use Rattle.wm_tree.specs.TreeValue.{parent};
 
+use crate::outputs::output_of;
 use wm_base::{ConId, NoMemory, Text};
 use wm_tree::Tree;
 
@@ -94,7 +95,7 @@ pub fn enter_output(t: &mut Tree, output: ConId) -> Result<(), NoMemory>
 /// Focuses a container or workspace: its workspace is shown, and it is raised.
 #[tactic(auto, using(crate::proofs::ShowLemmas::workspace_is))]
 pub fn focus(t: &mut Tree, con: ConId) -> Result<(), NoMemory>
-    requires { IsSubject t.old con }
+    requires { IsSound t.old }
     ensures tree { OnOk result (t.new ≡ focusing con t.old) }
     ensures err { OnErr result (t.new ≡ t.old) }
     ensures sound { IsSound t.new }
@@ -104,4 +105,15 @@ pub fn focus(t: &mut Tree, con: ConId) -> Result<(), NoMemory>
     }
     t.raise(con);
     Ok(())
+}
+
+/// Makes the output on which the container stands the current one.
+#[tactic(auto, using(crate::proofs::ShowLemmas::entered_listed))]
+pub fn enter(t: &mut Tree, con: ConId)
+    ensures tree { t.new ≡ entered con t.old }
+    ensures sound { IsSound t.old → IsSound t.new }
+{
+    if let Some(output) = output_of(t, con) {
+        t.set_current(output);
+    }
 }
