@@ -10,10 +10,12 @@ use Rattle.wm_laws.proofs.RaiseKeeps.{Stands, raise_differs}
 use Rattle.wm_focus.proofs.RungLemmas.{first_aimed-append, holder_is}
 use Rattle.wm_focus.proofs.SubjectLemmas.{tiled_is}
 use Rattle.wm_laws.proofs.RowLemmas.{chained, first_there, heads, heads_only, right}
-use Rattle.wm_focus.specs.Direction.{focused_at, goal_of}
+use Rattle.wm_focus.specs.declared.direction.Goal.TheVariants.{Node}
+use Rattle.wm_focus.specs.Direction.{first_goal, focus_dir_tree, focusing_some, goal_of, gone_to}
 use Rattle.wm_laws.specs.Focusing.{ChildKeeps, DifferInFocus, DirectionKeeps, ParentKeeps}
 use Rattle.wm_focus.specs.Parents.{raised_some}
 use Rattle.wm_focus.specs.Rungs.{aimed, far_end, first_aimed, first_id, is_forward, last_id, nearest, neighbour, rung, rungs, runs}
+use Rattle.wm_showing.specs.Outputs.{output_from}
 use Rattle.wm_showing.specs.Subject.{is_space}
 use Rattle.wm_focus.specs.declared.rungs.Aim.{Aim}
 use Rattle.wm_focus.specs.declared.rungs.Aim.TheVariants.{Around, Beside, Out}
@@ -28,6 +30,7 @@ use Rattle.wm_tree.specs.Look.{first_kids, has, in_row, only, rest_of, same}
 use Rattle.wm_tree.specs.Recency.{first_held}
 use Rattle.wm_tree.specs.Sound.{IsSound, roots}
 use Rattle.wm_tree.specs.Spot.{top}
+use Rattle.wm_tree.specs.Words.{with_raised}
 use Rattle.wm_tree.specs.TreeValue.{TreeValue, focused_child, follow, leaf, leaf_at, leaf_of, is_tiled_con, or_id, parent, row_holder, tiled_by, tiled_kids, workspace_of}
 
 -- ---- tiled nodes
@@ -202,16 +205,20 @@ child_keeps c x t s h =
     let k = chained (λ (y : ConId). row_holder y row) (first_held row t.recency) x h in
     raised_differs x (focused_child t c) t s h (inl (kid_of c x roots false 0 t.nodes s.shaped s.once (holder_in_row k.0 x row k.2)).1)
 
-goal_tiled : (d : Dir) (c g : ConId) (t : TreeValue) → IsSound t → goal_of d c t ≡ Some g → tiled_in false g t.nodes ≡ true
-goal_tiled d c g t s h = step (nearest Beside d c t.nodes) refl h where
-  step : (o : Option ConId) → nearest Beside d c t.nodes ≡ o → option_or o (nearest Around d c t.nodes) ≡ Some g → tiled_in false g t.nodes ≡ true
-  step (Some y) e h = near_tiled Beside d c g false t.nodes s.once (e ∙ h)
-  step None e h = near_tiled Around d c g false t.nodes s.once h
+-- the goal is found beside the nodes above, or round them
+goal_tiled : (d : Dir) (c g : ConId) (t : TreeValue) → IsSound t → goal_of d c t ≡ Some (Node g) → tiled_in false g t.nodes ≡ true
+goal_tiled d c g t s h = step (nearest Beside d c t.nodes) (output_from d c t) (nearest Around d c t.nodes) refl refl h where
+  step : (o p q : Option ConId) → nearest Beside d c t.nodes ≡ o → nearest Around d c t.nodes ≡ q → first_goal o p q ≡ Some (Node g) → tiled_in false g t.nodes ≡ true
+  step (Some y) p q e f h = let one : y ≡ g = cc in near_tiled Beside d c g false t.nodes s.once (e ∙ ap (λ (z : ConId). Some z) one)
+  step None (Some y) q e f h = cc
+  step None None (Some y) e f h = let one : y ≡ g = cc in near_tiled Around d c g false t.nodes s.once (f ∙ ap (λ (z : ConId). Some z) one)
+  step None None None e f h = cc
 
 pub direction_keeps : DirectionKeeps
-direction_keeps c x d t s h =
-    let k = chained (leaf t) (goal_of d c t) x h in
-    raised_differs x (focused_at d c t) t s h (inl (leaf_stands k.0 x t s (goal_tiled d c k.0 t s k.1) k.2))
+direction_keeps c n x d t s h l same_shown =
+    let new : focus_dir_tree c d t ≡ with_raised x t = ap (λ g. gone_to g t) h ∙ (ap (λ o. focusing_some o t) l ∙ ap (with_raised x) same_shown) in
+    let stands = leaf_stands n x t s (goal_tiled d c n t s h) l in
+    rw new (raise_differs x t s (inl stands))
 
 pub parent_keeps : ParentKeeps
 parent_keeps c x t s h stands = raised_differs x (parent t c) t s h (by stands) where

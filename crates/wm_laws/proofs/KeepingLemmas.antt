@@ -5,15 +5,32 @@ use Rattle.wm_base.specs.declared.geometry.Dir.{Dir}
 use Rattle.wm_base.specs.declared.ids.ConId.{ConId}
 use Rattle.wm_grammar.specs.declared.arguments.SwapArg.{SwapArg}
 use Rattle.wm_tree.specs.declared.place.Place.TheVariants.{After}
+use Rattle.wm_tree.specs.Look.{same}
 use Rattle.wm_tree.specs.Move.{exchanged, moved}
 use Rattle.wm_tree.specs.Sound.{IsSound, ranked, times}
-use Rattle.wm_tree.specs.TreeValue.{TreeValue}
-use Rattle.wm_focus.specs.Moves.{beside, entry, held_out, is_split_con, move_dir_tree, out_tree, side_of, step_tree, turned}
+use Rattle.wm_tree.specs.TreeValue.{TreeValue, shown}
+use Rattle.wm_focus.specs.Moves.{beside, entry, held_out, is_split_con, move_dir_tree, near_end, out_tree, over_tree, side_of, space_over, step_tree, turned}
+use Rattle.wm_showing.specs.Outputs.{output_of}
+use Rattle.wm_showing.specs.Showing.{current_some, entered, space_name}
 use Rattle.wm_focus.specs.Marks.{holder_of}
 use Rattle.wm_focus.specs.Swaps.{exchanged_with, move_to_mark_tree, moved_after, partner, swap_tree}
 
+current_recency : (o : Option ConId) (t : TreeValue) → (current_some o t).recency ≡ t.recency
+current_recency None t = refl
+current_recency (Some o) t = refl
+
+over_recency : (d : Dir) (c : ConId) (w : Option ConId) (t : TreeValue) → (over_tree d c w t).recency ≡ t.recency
+over_recency d c None t = refl
+over_recency d c (Some w) t = step (same (shown t) (shown new)) where
+  new : TreeValue
+  new = entered c (moved c (near_end d w) t)
+
+  step : (b : Bool) → (cond b (entered c (moved c (near_end d w) t)) (record (entered c (moved c (near_end d w) t)) { previous = space_name (shown t) t })).recency ≡ t.recency
+  step true = current_recency (output_of c (moved c (near_end d w) t)) (moved c (near_end d w) t)
+  step false = current_recency (output_of c (moved c (near_end d w) t)) (moved c (near_end d w) t)
+
 out_recency : (d : Dir) (c : ConId) (child : Option ConId) (t : TreeValue) → (out_tree d c child t).recency ≡ t.recency
-out_recency d c None t = refl
+out_recency d c None t = over_recency d c (space_over d c t) t
 out_recency d c (Some child) t = refl
 
 step_recency : (d : Dir) (c : ConId) (n : Option ConId) (t : TreeValue) → (step_tree d c n t).recency ≡ t.recency

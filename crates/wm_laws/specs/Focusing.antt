@@ -2,12 +2,14 @@
 use Rattle.std.specs.Prelude.{◌≡◌, ◌⊎◌, true, [], Option, None, Some}
 use Rattle.wm_base.specs.declared.geometry.Dir.{Dir}
 use Rattle.wm_base.specs.declared.ids.ConId.{ConId}
-use Rattle.wm_focus.specs.Direction.{focus_dir_tree, focused_at}
+use Rattle.wm_focus.specs.declared.direction.Goal.TheVariants.{Node}
+use Rattle.wm_focus.specs.Direction.{focus_dir_tree, goal_of}
 use Rattle.wm_focus.specs.Parents.{focus_child_tree, focus_parent_tree}
+use Rattle.wm_showing.specs.Showing.{showing_some}
 use Rattle.wm_showing.specs.Subject.{is_space}
 use Rattle.wm_tree.specs.Change.{nobody, unfull, without}
 use Rattle.wm_tree.specs.Sound.{IsSound}
-use Rattle.wm_tree.specs.TreeValue.{TreeValue, focused_child, is_tiled_con, parent, workspace_of}
+use Rattle.wm_tree.specs.TreeValue.{TreeValue, focused_child, is_tiled_con, leaf, parent, workspace_of}
 
 -- the tree without recency, urgency and fullscreen
 abbrev pub unfocused : TreeValue → TreeValue
@@ -22,9 +24,11 @@ DifferInFocus (Some w) t new = (unfocused new ≡ unfocused t) × (without w new
 abbrev pub ChildKeeps : Type 0
 ChildKeeps = (c x : ConId) (t : TreeValue) → IsSound t → focused_child t c ≡ Some x → DifferInFocus (workspace_of t x) t (focus_child_tree c t)
 
--- focusing in a direction changes nothing else, in the workspace of what is focused
+-- focusing a node in a direction changes nothing else, in the workspace of what is focused, where that is shown and focused
+-- already
 abbrev pub DirectionKeeps : Type 0
-DirectionKeeps = (c x : ConId) (d : Dir) (t : TreeValue) → IsSound t → focused_at d c t ≡ Some x → DifferInFocus (workspace_of t x) t (focus_dir_tree c d t)
+DirectionKeeps =
+    (c n x : ConId) (d : Dir) (t : TreeValue) → IsSound t → goal_of d c t ≡ Some (Node n) → leaf t n ≡ Some x → showing_some (workspace_of t x) t ≡ t → DifferInFocus (workspace_of t x) t (focus_dir_tree c d t)
 
 -- focusing a parent that is tiled or a workspace changes nothing else, in its workspace
 abbrev pub ParentKeeps : Type 0
