@@ -72,7 +72,7 @@ pub record AreTwo (c n : ConId) (row : Forest) : Type 0 where
   pub second : in_row n row ≡ true
   pub two : same c n ≡ false
 
-right : (a b : Bool) → b ≡ true → (a || b) ≡ true
+pub right : (a b : Bool) → b ≡ true → (a || b) ≡ true
 right true b h = refl
 right false b h = h
 
@@ -99,7 +99,7 @@ turned_two c n h = by (same n c) refl where
 pub turned : {c n : ConId} {row : Forest} → AreTwo c n row → AreTwo n c row
 turned {c} {n} t = record { first = t.second; second = t.first; two = turned_two c n t.two }
 
-first_there : (n : ConId) (row : Forest) → first_id row ≡ Some n → in_row n row ≡ true
+pub first_there : (n : ConId) (row : Forest) → first_id row ≡ Some n → in_row n row ≡ true
 first_there n end h = cc
 first_there n (con part kids floats rest) h = let one : part.id ≡ n = cc in rw (same_self part.id n one) refl
 

@@ -35,7 +35,7 @@ use Rattle.wm_tree.specs.Words.{edited}
 -- ---- a node in the place of another one
 
 -- the first node of the row is i
-abbrev heads : ConId → Forest → Bool
+abbrev pub heads : ConId → Forest → Bool
 heads i end = false
 heads i (con part kids floats rest) = same part.id i
 
@@ -104,7 +104,7 @@ holed_fewer i a f other =
 comes : (i : ConId) (share : ℕ) (away : Bool) (f : Forest) → tally i (arriving share None away f) ≡ tally i f
 comes i share away f = count-arriving (one_of i) share None (λ part. refl) (λ part. refl) away f
 
-heads_only : (c : ConId) (f : Forest) → has c f ≡ true → heads c (only c f) ≡ true
+pub heads_only : (c : ConId) (f : Forest) → has c f ≡ true → heads c (only c f) ≡ true
 heads_only c end h = cc
 heads_only c (con part kids floats rest) h =
     step (same part.id c) (has c kids) (has c floats) (has c rest) refl (heads_only c kids) (heads_only c floats) (heads_only c rest) h

@@ -4,7 +4,7 @@ use Rattle.wm_base.specs.declared.ids.ConId.{ConId}
 use Rattle.wm_showing.proofs.DownLemmas.{Once, down_floats, down_kids, down_rest, in_floats, in_kids, in_rest, none, once_floats, once_kids, once_rest}
 use Rattle.wm_focus.proofs.OnlyLemmas.{found_there}
 use Rattle.wm_laws.proofs.PartMaps.{Light, count-mapped, has_mapped, mapped, mapped-mapped, mapped_alike, mapped_all, only_mapped, put, put_back, replaced_leaf}
-use Rattle.wm_laws.proofs.RowLemmas.{heads, heads_only}
+use Rattle.wm_focus.proofs.TurnLemmas.{heads, heads_only}
 use Rattle.wm_tree.proofs.CountLemmas.{tally-absent}
 use Rattle.wm_tree.proofs.ExchangeSound.{Apart, Steps, count_filled, other_than_nobody, steps, zero_has}
 use Rattle.wm_tree.proofs.MoveLemmas.{count-arriving}

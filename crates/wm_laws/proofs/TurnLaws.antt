@@ -16,7 +16,8 @@ use Rattle.wm_focus.specs.Swaps.{con_named, exchanged_with, partner, swap_tree}
 use Rattle.wm_focus.specs.declared.rungs.Aim.TheVariants.{Beside}
 use Rattle.wm_grammar.specs.declared.arguments.SwapArg.TheVariants as swaps
 use Rattle.wm_laws.proofs.PartMaps.{count-mapped, edited_mapped, mapped, mapped-mapped, mapped_all, only_mapped, spot_mapped, tuned}
-use Rattle.wm_laws.proofs.RowLemmas.{chained, heads, heads_only}
+use Rattle.wm_focus.proofs.MoveGoals.{chained}
+use Rattle.wm_focus.proofs.TurnLemmas.{heads, heads_only}
 use Rattle.wm_laws.proofs.TradeLemmas.{Leaves, apart, came, came_back, came_con, came_share, first_id as first_own, first_there, leaves_traded, light, not_other, once_traded, same_sym, second_id as second_own, second_there, share_kept, trade, trade_back, traded, was_a, was_b, was_same}
 use Rattle.wm_laws.specs.Turning.{IsAlone, MovesBack, SwapsBack, is_full, is_full_part, opposite}
 use Rattle.wm_tree.proofs.AttachLemmas.{has_row}
