@@ -5,7 +5,10 @@ use Rattle.wm_base.specs.declared.geometry.Dir.{Dir}
 use Rattle.wm_base.specs.declared.ids.ConId.{ConId}
 use Rattle.wm_base.specs.declared.plan.Layout.{Layout}
 use Rattle.wm_criteria.specs.declared.verdict.Verdict.{Verdict}
-use Rattle.wm_focus.specs.Moves.{beside, entry, held_out, is_split_con, out_tree, side_of, step_tree, turned}
+use Rattle.wm_focus.specs.declared.direction.Goal.{Goal}
+use Rattle.wm_focus.specs.declared.direction.Goal.TheVariants as goals
+use Rattle.wm_focus.specs.Direction.{focusing_some, gone_to}
+use Rattle.wm_focus.specs.Moves.{beside, entry, held_out, is_split_con, near_end, out_tree, over_tree, side_of, space_over, step_tree, turned}
 use Rattle.wm_focus.specs.Parents.{raised_some}
 use Rattle.wm_focus.specs.Marks.{given_mark, is_marked, mark_tree, unmark_all, unmark_one, unmark_tree}
 use Rattle.wm_focus.specs.Swaps.{exchanged_with, moved_after}
@@ -13,10 +16,12 @@ use Rattle.wm_focus.specs.Splits.{gives_layout, laid_as, split_as}
 use Rattle.wm_grammar.specs.declared.batch.Group.{Group}
 use Rattle.wm_grammar.specs.declared.command.Command.{Command}
 use Rattle.wm_grammar.specs.declared.command.Command.TheVariants as commands
+use Rattle.wm_showing.proofs.RiseLemmas.{ids_focusing, ids_same as as_same, output_same, over_same}
+use Rattle.wm_showing.specs.Showing.{output_focused}
 use Rattle.wm_tree.specs.Ids.{IdsRise}
 use Rattle.wm_tree.specs.declared.place.Place.TheVariants.{After}
 use Rattle.wm_tree.specs.Move.{exchanged, moved, unmarked, with_marks, wrapped}
-use Rattle.wm_tree.specs.TreeValue.{TreeValue, id}
+use Rattle.wm_tree.specs.TreeValue.{TreeValue, id, leaf}
 use Rattle.wm_tree.specs.Words.{settled, with_raised}
 use Rattle.wm_tree.proofs.IdLemmas.{ids_raised, ids_refl, ids_settled, ids_trans, ids_wrapped}
 use Rattle.wm_apply.specs.declared.rows.How.{How}
@@ -75,8 +80,14 @@ ids_mark c n add toggle t = step (toggle && is_marked c n t)
 ids_turned : (c n : ConId) (t : TreeValue) → IdsRise t (turned c n t)
 ids_turned c n t = ids_same t (turned c n t) refl refl
 
+ids_over : (d : Dir) (c : ConId) (w : Option ConId) (t : TreeValue) → IdsRise t (over_tree d c w t)
+ids_over d c None t = ids_refl t
+ids_over d c (Some w) t =
+    let went : TreeValue = moved c (near_end d w) t in
+    as_same t (over_tree d c (Some w) t) (over_same c t went (record { next = refl; recency = refl }))
+
 ids_out : (d : Dir) (c : ConId) (child : Option ConId) (t : TreeValue) → IdsRise t (out_tree d c child t)
-ids_out d c None t = ids_refl t
+ids_out d c None t = ids_over d c (space_over d c t) t
 ids_out d c (Some child) t = ids_same t (moved c (side_of d child) t) refl refl
 
 ids_step : (d : Dir) (c : ConId) (n : Option ConId) (t : TreeValue) → IdsRise t (step_tree d c n t)
@@ -87,12 +98,21 @@ ids_step d c (Some n) t = step (is_split_con t n)
     step true = ids_same t (moved c (entry d n t) t) refl refl
     step false = ids_turned c n t
 
+ids_focusing_some : (c : Option ConId) (t : TreeValue) → IdsRise t (focusing_some c t)
+ids_focusing_some None t = ids_refl t
+ids_focusing_some (Some c) t = ids_focusing c t
+
+ids_gone : (g : Option Goal) (t : TreeValue) → IdsRise t (gone_to g t)
+ids_gone None t = ids_refl t
+ids_gone (Some (goals.Node n)) t = ids_focusing_some (leaf t n) t
+ids_gone (Some (goals.Output o)) t = as_same t (output_focused o t) (output_same o t)
+
 pub ids_row : (how : How) (command : Command) (c : ConId) (t : TreeValue) → IdsRise t (row_tree how command c t)
 ids_row how (commands.Split arg) c t = ids_split c _ t
 ids_row how (commands.SetLayout arg) c t = ids_laid c _ t
 ids_row how (commands.CycleLayout cycle) c t = ids_laid c _ t
-ids_row how commands.Focus c t = ids_raised c t
-ids_row how (commands.FocusDir d) c t = ids_raised_some _ t
+ids_row how commands.Focus c t = ids_focusing c t
+ids_row how (commands.FocusDir d) c t = ids_gone _ t
 ids_row how commands.FocusParent c t = ids_raised_some _ t
 ids_row how commands.FocusChild c t = ids_raised_some _ t
 ids_row how (commands.MoveDir d px) c t = ids_step d c (beside d c t) t

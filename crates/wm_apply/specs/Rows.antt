@@ -13,7 +13,7 @@ use Rattle.wm_focus.specs.Parents.{focus_child_refusal, focus_child_tree, focus_
 use Rattle.wm_focus.specs.Splits.{cycle_layout_refusal, cycle_layout_tree, set_layout_refusal, set_layout_tree, split_refusal, split_tree}
 use Rattle.wm_focus.specs.Swaps.{move_to_mark_refusal, move_to_mark_tree, swap_refusal, swap_tree}
 use Rattle.wm_tree.specs.TreeValue.{TreeValue}
-use Rattle.wm_tree.specs.Words.{with_raised}
+use Rattle.wm_showing.specs.Showing.{focusing}
 use Rattle.wm_apply.specs.declared.rows.How.{How}
 use Rattle.wm_apply.specs.declared.rows.How.TheVariants.{Matched, Handed, Focused}
 
@@ -50,7 +50,7 @@ abbrev pub row_tree : How → Command → ConId → TreeValue → TreeValue
 row_tree how (commands.Split arg) c t = split_tree c arg t
 row_tree how (commands.SetLayout arg) c t = set_layout_tree c arg t
 row_tree how (commands.CycleLayout cycle) c t = cycle_layout_tree c cycle t
-row_tree how commands.Focus c t = with_raised c t
+row_tree how commands.Focus c t = focusing c t
 row_tree how (commands.FocusDir d) c t = focus_dir_tree c d t
 row_tree how commands.FocusParent c t = focus_parent_tree c t
 row_tree how commands.FocusChild c t = focus_child_tree c t

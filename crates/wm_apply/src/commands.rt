@@ -6,10 +6,11 @@ ghost use Rattle.wm_tree.specs.Sound.{IsSound};
 
 use crate::applied::CommandReply;
 use crate::rows::How;
-use crate::subjects::{is_there, run_each};
+use crate::subjects::run_each;
 use crate::targets::Targets;
 use wm_base::{ConId, ErrorText, NoMemory};
 use wm_grammar::Command;
+use wm_showing::is_subject;
 use wm_tree::Tree;
 
 /// Whether the command is built.
@@ -53,7 +54,7 @@ fn count_there(t: &Tree, cons: &[ConId]) -> usize
     let mut there = 0;
     let mut rest = cons;
     while let [con, after @ ..] = rest {
-        if is_there(t, *con) {
+        if is_subject(t, *con) {
             there += 1;
         }
         rest = after;
@@ -65,7 +66,7 @@ fn count_there(t: &Tree, cons: &[ConId]) -> usize
 fn subject(t: &Tree, con: ConId) -> ConId
     ensures { result ≡ subject con t.now }
 {
-    if is_there(t, con) { con } else { t.focused() }
+    if is_subject(t, con) { con } else { t.focused() }
 }
 
 /// Runs one command on what its group acts on.

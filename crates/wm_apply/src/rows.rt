@@ -2,11 +2,11 @@
 ghost use Rattle.std.specs.Prelude.{◌≡◌, None, OnOk, OnErr, IfErr};
 ghost use Rattle.wm_apply.specs.Rows.{focus_refusal, row_refusal, row_tree, unmark_subject};
 ghost use Rattle.wm_showing.specs.Refusing.{IsCause};
+ghost use Rattle.wm_showing.specs.Showing.{focusing};
 ghost use Rattle.wm_showing.specs.Subject.{IsSubject};
 ghost use Rattle.wm_tree.specs.Sound.{IsSound};
-ghost use Rattle.wm_tree.specs.Words.{with_raised};
 
-use wm_base::{ConId, ErrorText, Refusal};
+use wm_base::{ConId, ErrorText, NoMemory, Refusal};
 use wm_focus::{
     cycle_layout, focus_child, focus_dir, focus_parent, mark, move_dir, move_to_mark, set_layout,
     split, swap, unmark,
@@ -50,17 +50,18 @@ pub fn run_row(t: &mut Tree, how: How, command: &Command, con: ConId) -> Result<
 
 /// Focuses a container that criteria matched or that was handed in.
 fn focus(t: &mut Tree, how: How, con: ConId) -> Result<(), Refusal>
-    ensures tree { OnOk result (t.new ≡ with_raised con t.old) }
+    requires { IsSound t.old }
+    ensures tree { OnOk result (t.new ≡ focusing con t.old) }
     ensures fine { OnOk result (focus_refusal how ≡ None) }
     ensures err { OnErr result (t.new ≡ t.old) }
     ensures cause { IfErr result (IsCause (focus_refusal how)) }
-    ensures sound { IsSound t.old → IsSound t.new }
+    ensures sound { IsSound t.new }
 {
     match how {
-        How::Matched | How::Handed => {
-            t.raise(con);
-            Ok(())
-        }
+        How::Matched | How::Handed => match wm_showing::focus(t, con) {
+            Ok(()) => Ok(()),
+            Err(NoMemory) => Err(Refusal::NoMemory),
+        },
         How::Focused => Err(Refusal::NoTarget(ErrorText::NoCriteria)),
     }
 }

@@ -1,6 +1,6 @@
 //! One command on its subjects, one after another.
 ghost use Rattle.std.specs.Prelude.{◌≡◌, ◌∷◌, [], true, IfOk, OnOk};
-ghost use Rattle.wm_apply.specs.Subjects.{each_error, each_tree, error_of, full_text, is_there, one_error, one_tree, or_error, reply_of};
+ghost use Rattle.wm_apply.specs.Subjects.{each_error, each_tree, error_of, full_text, one_error, one_tree, or_error, reply_of};
 ghost use Rattle.wm_showing.specs.Subject.{IsSubject};
 ghost use Rattle.wm_tree.specs.Sound.{IsSound};
 
@@ -8,6 +8,7 @@ use crate::applied::CommandReply;
 use crate::rows::{How, run_row};
 use wm_base::{ConId, ErrorText, Limit, NoMemory, Refusal};
 use wm_grammar::Command;
+use wm_showing::is_subject;
 use wm_tree::Tree;
 
 /// The text of a limit that a command would pass.
@@ -25,13 +26,6 @@ fn full_text(limit: Limit) -> ErrorText
     }
 }
 
-/// Whether this is a workspace or a container of the tree.
-pub fn is_there(t: &Tree, con: ConId) -> bool
-    ensures { result ≡ is_there con t.now }
-{
-    t.container(con).is_some() || t.space(con).is_some()
-}
-
 /// Does a command to one subject, and settles the tree. Gives the error of a subject that refuses; one that is gone is
 /// passed over.
 fn run_one(
@@ -45,7 +39,7 @@ fn run_one(
     ensures error { IfOk result (λ e. e ≡ one_error how command.now con t.old) }
     ensures sound { IsSound t.new }
 {
-    if !is_there(t, con) {
+    if !is_subject(t, con) {
         return Ok(None);
     }
     match run_row(t, how, command, con) {
