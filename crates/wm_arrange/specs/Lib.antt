@@ -3,6 +3,7 @@ pub mod Arranged
 pub mod Borders
 pub mod Gaps
 pub mod Parts
+pub mod Same
 pub mod Scene
 pub mod Sizes
 pub mod Slots

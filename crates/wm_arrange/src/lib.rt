@@ -5,6 +5,7 @@ mod areas;
 mod arranging;
 mod borders;
 mod children;
+mod comparing;
 mod cutting;
 mod filling;
 mod parts;
