@@ -8,7 +8,7 @@ use Rattle.wm_defs.specs.Cut.{cut}
 use Rattle.wm_tree.specs.declared.part.Part.{Part}
 use Rattle.wm_tree.specs.Counts.{row_length, share_of, share_sum}
 use Rattle.wm_tree.specs.Forest.{Forest, end, con, node_count}
-use Rattle.wm_tree.specs.Look.{first_part, first_kids, rest_of}
+use Rattle.wm_tree.specs.Look.{first_floats, first_kids, first_part, rest_of}
 use Rattle.wm_arrange.specs.declared.children.Slots.{Slots}
 use Rattle.wm_arrange.specs.declared.children.Slots.TheVariants.{Beside, Alone}
 use Rattle.wm_arrange.specs.Areas.{cut_between, shares, side_of, slice_of, some_area}
@@ -19,34 +19,31 @@ use Rattle.wm_arrange.specs.Scene.{Seen}
 use Rattle.wm_base.specs.Rect.{inset}
 
 -- what one turn along the row does
-pub record Turn (s : Seen) (slots : Slots) (first : Bool) (before : ℕ) (row : Forest) (part : Part) : Type 0 where
+pub record Turn (row : Forest) (part : Part) : Type 0 where
   pub sum : share_sum row ≡ share_of part.kind + share_sum (rest_of row)
   pub kids : IsTiledRow (first_kids row)
   pub few : row_length (first_kids row) ≤ 256
   pub rest : IsTiledRow (rest_of row)
   pub below : node_count (first_kids row) < node_count row
   pub behind : node_count (rest_of row) < node_count row
-  pub parts : parts_from s slots first before row
-      ≡ shown_parts s (own_in slots) part (first_kids row) (kids_parts s (first_kids row)) (slot_between s.inner slots first (is_last (rest_of row)) before (before + share_of part.kind) part.id)
-      ++ parts_from s slots false (before + share_of part.kind) (rest_of row)
+  pub whole : row ≡ con part (first_kids row) (first_floats row) (rest_of row)
 
-turn_at : (s : Seen) (slots : Slots) (first : Bool) (before : ℕ) (part : Part) (kids floats rest : Forest) → IsTiledRow (con part kids floats rest) → Turn s slots first before (con part kids floats rest) part
-turn_at s slots first before part kids floats rest (room, t) = record {
+turn_at : (part : Part) (kids floats rest : Forest) → IsTiledRow (con part kids floats rest) → Turn (con part kids floats rest) part
+turn_at part kids floats rest (room, t) = record {
   sum = refl;
   kids = (_, t.2);
   few = t.1;
   rest = (room, t.4);
   below = omega arith;
   behind = omega arith;
-  parts = refl;
+  whole = refl;
 }
 
-pub turn : (s : Seen) (slots : Slots) (first : Bool) (before : ℕ) (row : Forest) (part : Part) → first_part row ≡ Some part → IsTiledRow row → Turn s slots first before row part
-turn s slots first before end part h t = cc
-turn s slots first before (con p kids floats rest) part h t =
+pub turn : (row : Forest) (part : Part) → first_part row ≡ Some part → IsTiledRow row → Turn row part
+turn end part h t = cc
+turn (con p kids floats rest) part h t =
     let same_part : p ≡ part = cc in
-    let At : Part → Type 0 = λ q. Turn s slots first before (con p kids floats rest) q in
-    subst At same_part (turn_at s slots first before p kids floats rest t)
+    subst (Turn (con p kids floats rest)) same_part (turn_at p kids floats rest t)
 
 -- ---- the parts told by sums of shares are those told by the shares
 
@@ -55,7 +52,7 @@ sum-shares end = refl
 sum-shares (con part kids floats rest) = omega (arith, sum_by-cons (λ n. n) (share_of part.kind) (shares rest), sum-shares rest)
 
 -- the next item of a list, and the sum with it
-next_item : (all : List ℕ) (i item : ℕ) (rest : List ℕ) → drop i all ≡ item ∷ rest → (drop (suc i) all ≡ rest) × (sum (take (suc i) all) ≡ sum (take i all) + item)
+pub next_item : (all : List ℕ) (i item : ℕ) (rest : List ℕ) → drop i all ≡ item ∷ rest → (drop (suc i) all ≡ rest) × (sum (take (suc i) all) ≡ sum (take i all) + item)
 next_item [] zero item rest h = cc
 next_item [] (suc i) item rest h = cc
 next_item (x ∷ xs) zero item rest h =
@@ -67,7 +64,7 @@ next_item (x ∷ xs) (suc i) item rest h =
     (n.0, omega (arith, n.1, sum_by-cons (λ n. n) x (take (suc i) xs), sum_by-cons (λ n. n) x (take i xs)))
 
 -- a child's area by its place, and by the sums of the shares
-child : (axis : Axis) (area : Rect) (kids : Forest) (i after : ℕ) → sum (take (suc i) (shares kids)) ≡ after
+pub child : (axis : Axis) (area : Rect) (kids : Forest) (i after : ℕ) → sum (take (suc i) (shares kids)) ≡ after
     → slice_of axis area (cut (side_of axis area) (shares kids) i) ≡ cut_between axis area (sum (take i (shares kids))) after (share_sum kids)
 child axis area kids i after e = rw (add-one, e, sum-shares) refl
 
@@ -91,12 +88,12 @@ alone_is s area chosen first before i (con part kids floats rest) =
 -- ---- one turn's parts
 
 -- what one turn placed, told by what it found
-pub turn_parts : (s : Seen) (slots : Slots) (first : Bool) (before : ℕ) (row : Forest) (part : Part) → Turn s slots first before row part
+pub turn_parts : (s : Seen) (slots : Slots) (first : Bool) (before : ℕ) (row : Forest) (part : Part) → Turn row part
     → (own last : Bool) (after : ℕ) (kids rest : Forest) (slot : Option Rect)
     → own ≡ own_in slots → last ≡ is_last rest → after ≡ before + share_of part.kind → kids ≡ first_kids row → rest ≡ rest_of row
     → slot ≡ slot_between s.inner slots first last before after part.id
     → parts_from s slots first before row ≡ shown_parts s own part kids (kids_parts s kids) slot ++ parts_from s slots false after rest
-turn_parts s slots first before row part t own last after kids rest slot e1 e2 e3 e4 e5 e6 = rw (e6, e1, e2, e3, e4, e5) t.parts
+turn_parts s slots first before row part t own last after kids rest slot e1 e2 e3 e4 e5 e6 = rw (e6, e1, e2, e3, e4, e5) (ap (parts_from s slots first before) t.whole)
 
 -- two additions make one
 pub joined : {X : Type 0} (old mid new a b all : List X) → mid ≡ old ++ a → all ≡ a ++ b → new ≡ mid ++ b → new ≡ old ++ all

@@ -1,7 +1,9 @@
+pub mod AreaOf
 pub mod Areas
 pub mod Arranged
 pub mod Borders
 pub mod Gaps
+pub mod Lots
 pub mod Parts
 pub mod Same
 pub mod Scene

@@ -1,6 +1,7 @@
 //! Areas in whole pixels, and how they are cut and made smaller.
 ghost use Rattle.std.specs.Prelude.{◌≡◌, ◌+◌, ◌-◌, ◌≤◌, ◌+ℤ◌, pos, IfSome, IsTrue};
 ghost use Rattle.wm_base.specs.Rect.{inset};
+ghost use Rattle.wm_arrange.specs.AreaOf.{as_area};
 ghost use Rattle.wm_arrange.specs.Areas.{cut_between, edges_of, is_near_span, near_area, side_of, slice_of, some_area, some_span, IsArea, IsFitMargins, IsStretch};
 ghost use Rattle.wm_arrange.specs.Titles.{lower, upper};
 
@@ -28,6 +29,34 @@ pub fn trim(area: Rect, margins: Margins) -> Option<Rect>
     Some(Rect { x, y, w, h })
 }
 
+/// The area without its margins. It is taken at 0,0 where nothing is left of it.
+pub fn keep(area: Rect, margins: Margins) -> Rect
+    requires area { IsArea area }
+    requires margins { IsFitMargins margins }
+    ensures value { result ≡ as_area (inset area (edges_of margins)) }
+    ensures area { IsArea result }
+{
+    match trim(area, margins) {
+        Some(area) => area,
+        None => Rect {
+            x: 0,
+            y: 0,
+            w: left_of(area.w, margins.left, margins.right),
+            h: left_of(area.h, margins.top, margins.bottom),
+        },
+    }
+}
+
+/// How many places are left of so many without those before and after.
+fn left_of(width: u32, before: u64, after: u64) -> u32
+    requires fit { before ≤ 1099511627776 }
+    requires fit_after { after ≤ 1099511627776 }
+    ensures value { result ≡ width - (before + after) }
+    ensures less { result ≤ width }
+{
+    u64::from(width).saturating_sub(before + after) as u32
+}
+
 /// What is left of a span without so many pixels before and after it. `None` where nothing is.
 fn shrink(start: i32, width: u32, before: u64, after: u64) -> Option<(i32, u32)>
     requires stretch { IsStretch start width }
@@ -36,11 +65,11 @@ fn shrink(start: i32, width: u32, before: u64, after: u64) -> Option<(i32, u32)>
     ensures value { result ≡ some_span (start +ℤ pos before) (width - (before + after)) }
     ensures stretch { IfSome result (λ s. IsStretch s.0 s.1) }
 {
-    let left = u64::from(width).saturating_sub(before + after);
+    let left = left_of(width, before, after);
     if left == 0 {
         return None;
     }
-    Some((start + before as i32, left as u32))
+    Some((start + before as i32, left))
 }
 
 /// The cut of an area along an axis, from the sum of the shares before a child to that with its own.
@@ -121,6 +150,21 @@ pub fn below(rows: u32, area: Rect) -> Option<Rect>
     ensures area { IfSome result (λ area. IsArea area) }
 {
     some_area(lower(rows, area))
+}
+
+/// What is below the upper rows of pixels of an area. It is taken at 0,0 where nothing is.
+pub fn keep_below(rows: u32, area: Rect) -> Rect
+    requires area { IsArea area }
+    requires few { rows ≤ 1000000 }
+    ensures value { result ≡ as_area (lower rows area) }
+    ensures area { IsArea result }
+{
+    let rect = lower(rows, area);
+    if rect.w == 0 || rect.h == 0 {
+        Rect { x: 0, y: 0, ..rect }
+    } else {
+        rect
+    }
 }
 
 /// The area, unless it is empty.

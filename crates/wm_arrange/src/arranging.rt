@@ -1,6 +1,8 @@
 //! The arrangement: the shares of a tree as rectangles in whole pixels.
 ghost use Rattle.std.specs.Prelude.{◌≡◌, ◌≤◌, ◌++◌, true, IfOk, IfSome, OnOk};
-ghost use Rattle.wm_arrange.specs.Areas.{some_area, IsArea};
+ghost use Rattle.wm_arrange.specs.Areas.{edges_of, some_area, IsArea, IsFitMargins};
+ghost use Rattle.wm_base.specs.declared.geometry.Rect.{Rect};
+ghost use Rattle.wm_base.specs.Rect.{inset};
 ghost use Rattle.wm_arrange.specs.Arranged.{arranged, first_space, fullscreen_in, is_fullscreen, is_window_kind, on_space, or_else, tiled_parts};
 ghost use Rattle.wm_arrange.specs.Gaps.{ground};
 ghost use Rattle.wm_arrange.specs.Scene.{seen};
@@ -136,14 +138,21 @@ fn ground(rect: Rect, reserved: Edges, outer: u32, inner: u32) -> Option<Rect>
     ensures value { result ≡ some_area (ground rect reserved outer inner) }
     ensures area { IfSome result (λ area. IsArea area) }
 {
+    trim(rect, ground_margins(reserved, outer, inner))
+}
+
+/// What the area of a workspace lacks of the output's rectangle: the reserved edges, and the gaps along all sides.
+pub fn ground_margins(reserved: Edges, outer: u32, inner: u32) -> Margins
+    ensures value { (rect : Rect) → inset rect (edges_of result) ≡ ground rect reserved outer inner }
+    ensures fit { IsFitMargins result }
+{
     let gap = u64::from(outer) + u64::from(inner);
-    let margins = Margins {
+    Margins {
         top: u64::from(reserved.top) + gap,
         right: u64::from(reserved.right) + gap,
         bottom: u64::from(reserved.bottom) + gap,
         left: u64::from(reserved.left) + gap,
-    };
-    trim(rect, margins)
+    }
 }
 
 /// The first fullscreen window of the row, at any depth.

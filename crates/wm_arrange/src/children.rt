@@ -37,10 +37,10 @@ pub enum Slots {
 /// with its own.
 #[derive(Clone, Copy, Debug)]
 pub struct Stretch {
-    first: bool,
-    last: bool,
-    before: u64,
-    after: u64,
+    pub first: bool,
+    pub last: bool,
+    pub before: u64,
+    pub after: u64,
 }
 
 impl Slots {
@@ -72,7 +72,7 @@ impl Slots {
 }
 
 /// What a child loses for the inner gap: the half before it is rounded up, and the half behind it down.
-fn gaps(axis: Axis, inner: u32, first: bool, last: bool) -> Margins
+pub fn gaps(axis: Axis, inner: u32, first: bool, last: bool) -> Margins
     ensures value { edges_of result ≡ gaps axis inner first last }
     ensures fit { IsFitMargins result }
 {
@@ -197,7 +197,7 @@ fn place_row(
     place_row(parts, scene, slots, false, after, &rest)
 }
 
-fn is_end(row: &Cursor<'_>) -> bool
+pub fn is_end(row: &Cursor<'_>) -> bool
     ensures { result ≡ is_last row.now }
 {
     row.part().is_none()

@@ -8,15 +8,20 @@ mod children;
 mod comparing;
 mod cutting;
 mod filling;
+mod finding;
+mod lots;
 mod parts;
 mod placing;
 mod rows;
 mod scene;
 #[cfg(test)]
 mod tests;
+#[cfg(test)]
+mod tests_places;
 mod texts;
 mod titles;
 
 pub use arranging::arrange;
 pub use cutting::cut;
+pub use finding::area_of;
 pub use parts::{Arrangement, Placed, PlacedPart};

@@ -2,7 +2,7 @@
 ghost use Rattle.std.specs.Prelude.{IfOk, OnOk};
 ghost use Rattle.wm_tree.specs.Sound.{IsOutputRect, IsSound};
 
-use crate::{Arrangement, Placed, PlacedPart, arrange, cut};
+use crate::{Arrangement, Placed, PlacedPart, arrange};
 use std::alloc::Global;
 use std::process::Abort;
 use std::test::Fail;
@@ -41,7 +41,7 @@ fn edges(width: u32) -> Edges {
 }
 
 /// A tree of the windows 4 and 5 in the workspace 3 of the output 2. The second window is focused.
-fn windows(alloc: Global, border: Border, gaps: (u32, u32)) -> Result<Tree, Fail>
+pub fn windows(alloc: Global, border: Border, gaps: (u32, u32)) -> Result<Tree, Fail>
     ensures { IfOk result (λ tree. IsSound tree) }
 {
     let plans = [plan(alloc)?];
@@ -51,34 +51,40 @@ fn windows(alloc: Global, border: Border, gaps: (u32, u32)) -> Result<Tree, Fail
     Ok(tree)
 }
 
-/// Puts a window where a new one goes, and raises it.
-fn add(tree: &mut Tree, alloc: Global) -> Result<(), Fail>
-    requires { IsSound tree.old }
-    ensures { OnOk result (IsSound tree.new) }
-{
+/// The properties of a window whose texts are all `w`.
+pub fn props(alloc: Global) -> Result<Props, Fail> {
     let title = Text::new(alloc, "w")?;
-    let props = Props {
+    Ok(Props {
         class: title.clone()?,
         instance: title.clone()?,
         role: title.clone()?,
         kind: title.clone()?,
         machine: title.clone()?,
         title,
-    };
-    let natural = Size { w: 30, h: 20 };
-    let new = NewCon::Window {
-        props,
+    })
+}
+
+pub fn window(alloc: Global) -> Result<NewCon, Fail> {
+    Ok(NewCon::Window {
+        props: props(alloc)?,
         owner: 1,
-        natural,
-    };
-    let id = tree.attach(tree.newcomer_place(), new)?;
+        natural: Size { w: 30, h: 20 },
+    })
+}
+
+/// Puts a window where a new one goes, and raises it.
+pub fn add(tree: &mut Tree, alloc: Global) -> Result<(), Fail>
+    requires { IsSound tree.old }
+    ensures { OnOk result (IsSound tree.new) }
+{
+    let id = tree.attach(tree.newcomer_place(), window(alloc)?)?;
     tree.raise(id);
     Ok(())
 }
 
 /// What a part is, without the text of a title.
 #[derive(Clone, Copy, Debug, PartialEq, Eq)]
-enum Kind {
+pub enum Kind {
     Back,
     Area,
     Title(Ink),
@@ -97,7 +103,7 @@ fn kind_of(part: &PlacedPart) -> Kind {
 }
 
 /// A part of a node, its place, and its width and height.
-type Row = (Kind, u32, (i32, i32), (u32, u32));
+pub type Row = (Kind, u32, (i32, i32), (u32, u32));
 
 fn told(placed: &Placed) -> Row {
     let Rect { x, y, w, h } = placed.rect;
@@ -105,7 +111,7 @@ fn told(placed: &Placed) -> Row {
 }
 
 /// That behind the ground of the workspace, the arrangement has these parts and no others.
-fn expect(rt: &impl Abort, arrangement: &Arrangement, table: &[Row]) {
+pub fn expect(rt: &impl Abort, arrangement: &Arrangement, table: &[Row]) {
     let mut parts = arrangement.parts.items();
     if let [ground, above @ ..] = parts {
         assert_eq!(rt; told(ground), (Kind::Back, 3, (0, 0), (1000, 800)));
@@ -115,15 +121,6 @@ fn expect(rt: &impl Abort, arrangement: &Arrangement, table: &[Row]) {
     for (part, want) in parts.iter().zip(table) {
         assert_eq!(rt; told(part), *want);
     }
-}
-
-#[test]
-fn cuts(rt: HostRuntime) -> Result<(), Fail> {
-    let shares = [333, 333, 334];
-    assert_eq!(rt; cut(1000, &shares, 0), (0, 333));
-    assert_eq!(rt; cut(1000, &shares, 1), (333, 333));
-    assert_eq!(rt; cut(1000, &shares, 2), (666, 334));
-    Ok(())
 }
 
 #[test]
@@ -173,7 +170,7 @@ fn borders_and_inks(rt: HostRuntime) -> Result<(), Fail> {
     Ok(())
 }
 
-fn state(border: Border) -> ConState {
+pub fn state(border: Border) -> ConState {
     ConState {
         border,
         sticky: false,

@@ -10,7 +10,7 @@ use Rattle.wm_arrange.proofs.children.+place.Goals as goal
 
 pub place_row-place_row-requires : goal.place_row-place_row-requires
 place_row-place_row-requires t c =
-    let s = turn (seen c.args.scene.now) c.args.slots c.args.first c.args.before c.args.row.now c.in-Some.part.now (sym c.part.ensures ∙ ap option_copied c.in-Some.is) c.requires.sound in
+    let s = turn c.args.row.now c.in-Some.part.now (sym c.part.ensures ∙ ap option_copied c.in-Some.is) c.requires.sound in
     let rest : share_sum c.rest-rest.result ≡ share_sum _ = ap share_sum c.rest-rest.ensures in
     let all : c.args.before + share_sum c.args.row.now ≡ c.args.before + c.from.result + share_sum c.rest-rest.result = omega (arith, rest, s.sum, c.from.ensures, c.share.ensures) in
     let fewer : node_count c.rest-rest.result ≡ node_count _ = ap node_count c.rest-rest.ensures in
@@ -20,7 +20,7 @@ pub place_row-returns : goal.place_row-returns
 place_row-returns t c =
     let s = seen c.args.scene.now in
     let part = c.in-Some.part.now in
-    let found = turn s c.args.slots c.args.first c.args.before c.args.row.now part (sym c.part.ensures ∙ ap option_copied c.in-Some.is) c.requires.sound in
+    let found = turn c.args.row.now part (sym c.part.ensures ∙ ap option_copied c.in-Some.is) c.requires.sound in
     let after : c.args.before + c.from.result ≡ c.args.before + share_of part.kind = omega (arith, c.from.ensures, c.share.ensures) in
     let split = turn_parts s c.args.slots c.args.first c.args.before c.args.row.now part found c.own.result c.is_end.result (c.args.before + c.from.result) c.kids.result c.rest-rest.result c.slot-slot.result
     c.own.ensures c.is_end.ensures after c.kids.ensures c.rest-rest.ensures c.slot-slot.ensures.value in

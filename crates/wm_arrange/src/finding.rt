@@ -1,0 +1,126 @@
+//! Finding the area of a workspace or container, whether it is shown or not.
+ghost use Rattle.std.specs.Prelude.{◌≡◌, ◌+◌, ◌≤◌, true};
+ghost use Rattle.wm_arrange.specs.AreaOf.{area_among, area_in_output, area_in_outputs, area_in_space, area_in_spaces, area_of, area_on, as_area};
+ghost use Rattle.wm_arrange.specs.Areas.{IsArea};
+ghost use Rattle.wm_arrange.specs.Gaps.{ground};
+ghost use Rattle.wm_arrange.specs.Lots.{area_from, HasLots};
+ghost use Rattle.wm_arrange.specs.Slots.{IsTiledRow};
+ghost use Rattle.wm_tree.specs.Counts.{row_length, share_sum};
+ghost use Rattle.wm_tree.specs.Sound.{outputs, spaces, IsOutputRect, IsSound, IsSoundRow};
+
+use crate::areas::keep;
+use crate::arranging::ground_margins;
+use crate::children::{Stretch, is_end};
+use crate::lots::{Lots, layout_of, lots_for};
+use wm_base::{ConId, Edges, Rect};
+use wm_tree::{Cursor, NodeKind, OutputPart, SpacePart, Tree};
+
+/// The area of a workspace or tiled container, as if its workspace were shown without a fullscreen window, and each
+/// container on the way to it were the focused child. It has no pixels, at 0,0, where the id names no such node.
+pub fn area_of(tree: &Tree, con: ConId) -> Rect
+    requires { IsSound tree.now }
+    ensures { result ≡ area_of tree.now con }
+{
+    match in_outputs(con, &tree.nodes().kids()) {
+        Some(area) => area,
+        None => Rect {
+            x: 0,
+            y: 0,
+            w: 0,
+            h: 0,
+        },
+    }
+}
+
+/// The area on one of a row of outputs.
+fn in_outputs(con: ConId, row: &Cursor<'_>) -> Option<Rect>
+    requires { IsSoundRow outputs true 32 row.now }
+    ensures { result ≡ area_in_outputs con row.now }
+{
+    let part = row.part()?;
+    if let NodeKind::Output(output) = &part.kind {
+        if let Some(area) = in_spaces(con, output, &row.kids()) {
+            return Some(area);
+        }
+    }
+    in_outputs(con, &row.rest())
+}
+
+/// The area in one of a row of workspaces.
+fn in_spaces(con: ConId, output: &OutputPart, row: &Cursor<'_>) -> Option<Rect>
+    requires sound { IsSoundRow spaces true 32 row.now }
+    requires placed { IsOutputRect output.now.rect }
+    ensures { result ≡ area_in_spaces con output.now row.now }
+{
+    let part = row.part()?;
+    if let NodeKind::Space(space) = &part.kind {
+        let ground = ground(output.rect, output.reserved, space.outer, space.inner);
+        if let Some(area) = on_space(con, part.id, space, &row.kids(), ground) {
+            return Some(area);
+        }
+    }
+    in_spaces(con, output, &row.rest())
+}
+
+/// The area of a workspace, at 0,0 where it has no pixels.
+fn ground(rect: Rect, reserved: Edges, outer: u32, inner: u32) -> Rect
+    requires { IsOutputRect rect }
+    ensures value { result ≡ as_area (ground rect reserved outer inner) }
+    ensures area { IsArea result }
+{
+    keep(rect, ground_margins(reserved, outer, inner))
+}
+
+/// The area in a workspace on which the children stand in this area.
+fn on_space(con: ConId, id: ConId, space: &SpacePart, kids: &Cursor<'_>, area: Rect) -> Option<Rect>
+    requires few { row_length kids.now ≤ 256 }
+    requires sound { IsTiledRow kids.now }
+    requires area { IsArea area }
+    ensures { result ≡ area_on con id space.now kids.now area }
+{
+    if id == con {
+        return Some(area);
+    }
+    among(
+        con,
+        space.inner,
+        lots_for(space.layout, area, kids),
+        true,
+        0,
+        kids,
+    )
+}
+
+/// The area among the nodes of a row and below them, the shares of those before it having this sum.
+fn among(
+    con: ConId,
+    inner: u32,
+    lots: Lots,
+    first: bool,
+    before: u64,
+    row: &Cursor<'_>,
+) -> Option<Rect>
+    requires few { before + share_sum row.now ≤ 268435456 }
+    requires sound { IsTiledRow row.now }
+    requires fit { HasLots lots (before + share_sum row.now) }
+    ensures { result ≡ area_from inner con lots first before row.now }
+{
+    let part = row.part()?;
+    let (kids, rest) = (row.kids(), row.rest());
+    let after = before + u64::from(part.kind.share());
+    let child = Stretch {
+        first,
+        last: is_end(&rest),
+        before,
+        after,
+    };
+    let area = lots.area(inner, child);
+    if part.id == con {
+        return Some(area);
+    }
+    let below = lots_for(layout_of(&part.kind), area, &kids);
+    if let Some(found) = among(con, inner, below, true, 0, &kids) {
+        return Some(found);
+    }
+    among(con, inner, lots, false, after, &rest)
+}
