@@ -1,32 +1,47 @@
 -- The contents of an arrangement are windows of its tree, so buffers that agree there paint one frame.
-use Rattle.std.proofs.Common.{◌≡◌, ℕ, ◌+◌, ◌≤◌, eqb, Bool, true, false, cond, ◌||◌, List, [], ◌∷◌, ◌++◌, Option, Some, None, refl, ap, ap₂, arith}
+use Rattle.std.proofs.Common.{◌≡◌, ℕ, ◌+◌, ◌≤◌, eqb, Bool, true, false, cond, ◌||◌, List, [], ◌∷◌, ◌++◌, Option, Some, None, option_and_then, refl, ap, ap₂, arith}
 use Rattle.std.proofs.lemmas.Bool.{eq-eqb}
 use Rattle.wm_base.specs.declared.geometry.Rect.{Rect}
 use Rattle.wm_base.specs.declared.ids.Buffer.{Buffer}
 use Rattle.wm_base.specs.declared.ids.ConId.{ConId}
+use Rattle.wm_base.specs.declared.plan.Border.{Border}
+use Rattle.wm_base.specs.declared.plan.Border.TheVariants as borders
 use Rattle.wm_base.specs.declared.plan.Layout.{Layout}
+use Rattle.wm_base.specs.declared.plan.Layout.TheVariants.{SplitH, SplitV, Tabbed, Stacked}
 use Rattle.wm_tree.specs.declared.part.ConKind.{ConKind}
 use Rattle.wm_tree.specs.declared.part.ConKind.TheVariants.{Split, Window, Placeholder}
+use Rattle.wm_tree.specs.declared.part.ConPart.{ConPart}
 use Rattle.wm_tree.specs.declared.part.NodeKind.{NodeKind}
 use Rattle.wm_tree.specs.declared.part.NodeKind.TheVariants.{Root, Output, Space, Con}
 use Rattle.wm_tree.specs.declared.part.OutputPart.{OutputPart}
 use Rattle.wm_tree.specs.declared.part.Part.{Part}
 use Rattle.wm_tree.specs.declared.part.SpacePart.{SpacePart}
+use Rattle.wm_tree.specs.Counts.{row_length}
 use Rattle.wm_tree.specs.Forest.{Forest, end, con}
 use Rattle.wm_tree.specs.Look.{first_kids, same, node_in, output_kind, space_kind}
 use Rattle.wm_tree.specs.Sound.{IsSound, ranked, ranks}
-use Rattle.wm_tree.specs.TreeValue.{TreeValue}
-use Rattle.wm_core.specs.declared.arrange.Placed.{Placed}
-use Rattle.wm_core.specs.declared.arrange.PartKind.{PartKind}
-use Rattle.wm_core.specs.declared.arrange.PartKind.TheVariants.{Back, Area, Content}
-use Rattle.wm_core.specs.Arranged.{Standing, placed, standing, slot, con_parts, node_parts, shown_parts, row_parts, kids_parts, rect_of, floats_parts, is_fullscreen, or_else, fullscreen_in, on_ground, space_parts, first_space, output_parts, outputs_parts, arranged}
+use Rattle.wm_tree.specs.TreeValue.{TreeValue, focused}
+use Rattle.wm_arrange.specs.declared.parts.Placed.{Placed}
+use Rattle.wm_arrange.specs.declared.parts.PlacedPart.{PlacedPart}
+use Rattle.wm_arrange.specs.declared.parts.PlacedPart.TheVariants.{Back, Area, Title, Content}
+use Rattle.wm_arrange.specs.declared.parts.PlacedPart.TheVariants as parts
+use Rattle.wm_arrange.specs.Areas.{near_area, some_area}
+use Rattle.wm_arrange.specs.Arranged.{Standing, standing, has_own_title, slot, con_parts, node_parts, shown_parts, row_parts, kids_parts, rect_of, floats_parts, is_fullscreen, or_else, fullscreen_in, tiled_parts, on_space, space_parts, first_space, output_parts, outputs_parts, arranged}
+use Rattle.wm_arrange.specs.Borders.{below_title, border_part, bordered, width, window_parts, within_border}
+use Rattle.wm_arrange.specs.Gaps.{ground}
+use Rattle.wm_arrange.specs.Parts.{placed}
+use Rattle.wm_arrange.specs.Scene.{Seen, ink, seen_in}
+use Rattle.wm_arrange.specs.Titles.{kids_titles, line, lower, own_title, tab, title_part, titles, upper}
+use Rattle.wm_arrange.specs.TitleText.{title_text}
 use Rattle.wm_core.specs.DeskValue.{IsNotGone}
 use Rattle.wm_core.specs.Frame.{what_of, quad_of, quads}
 
 -- the fact holds of a content
-abbrev OfContent : PartKind → Type 0 → Type 0
+abbrev OfContent : PlacedPart → Type 0 → Type 0
 OfContent Back P = Unit {0}
 OfContent Area P = Unit {0}
+OfContent (Title ink text) P = Unit {0}
+OfContent (parts.Border ink) P = Unit {0}
 OfContent Content P = P
 
 -- the fact holds of each window with a content among the parts
@@ -34,9 +49,11 @@ abbrev pub AllContents : (ConId → Type 0) → List Placed → Type 0
 AllContents P [] = Unit {0}
 AllContents P (p ∷ parts) = OfContent p.part (P p.con) × AllContents P parts
 
-of_weaker : (part : PartKind) (P Q : Type 0) → (P → Q) → OfContent part P → OfContent part Q
+of_weaker : (part : PlacedPart) (P Q : Type 0) → (P → Q) → OfContent part P → OfContent part Q
 of_weaker Back P Q f h = tt
 of_weaker Area P Q f h = tt
+of_weaker (Title ink text) P Q f h = tt
+of_weaker (parts.Border ink) P Q f h = tt
 of_weaker Content P Q f h = f h
 
 pub all_weaker : (P Q : ConId → Type 0) (parts : List Placed) → ((v : ConId) → P v → Q v) → AllContents P parts → AllContents Q parts
@@ -51,7 +68,7 @@ placed_step : (P : ConId → Type 0) (b : Bool) (p : Placed) → OfContent p.par
 placed_step P true p h = tt
 placed_step P false p h = (h, tt)
 
-all_placed : (P : ConId → Type 0) (id : ConId) (part : PartKind) (rect : Rect) → OfContent part (P id) → AllContents P (placed id part rect)
+all_placed : (P : ConId → Type 0) (id : ConId) (part : PlacedPart) (rect : Rect) → OfContent part (P id) → AllContents P (placed id part rect)
 all_placed P id part rect h = placed_step P (eqb rect.w 0 || eqb rect.h 0) (record { con = id; part = part; rect = rect }) h
 
 -- v is a workspace or container of the forest
@@ -75,41 +92,88 @@ in_floats part kids floats rest v h = omega (arith, h)
 in_rest : (part : Part) (kids floats rest : Forest) (v : ConId) → Ranked rest v → Ranked (con part kids floats rest) v
 in_rest part kids floats rest v h = omega (arith, h)
 
-con_all : (P : ConId → Type 0) (id : ConId) (kind : ConKind) (area : Rect) (children : Layout → List Placed) → P id → ((layout : Layout) → AllContents P (children layout)) → AllContents P (con_parts id kind area children)
-con_all P id (Split layout last) area children p below = below layout
-con_all P id (Window props owner natural) area children p below = all_placed P id Content area p
-con_all P id (Placeholder props swallows) area children p below = tt
+-- ---- titles and borders have no content
 
-node_all : (P : ConId → Type 0) (id : ConId) (kind : NodeKind) (area : Rect) (children : Layout → List Placed) → (ranks kind ≡ 1 → P id) → ((layout : Layout) → AllContents P (children layout)) → AllContents P (node_parts id kind area children)
-node_all P id (Root c) area children p below = tt
-node_all P id (Output o) area children p below = tt
-node_all P id (Space s) area children p below = tt
-node_all P id (Con c) area children p below = con_all P id c.kind area children (p refl) below
+either_all : (P : ConId → Type 0) (b : Bool) (xs ys : List Placed) → AllContents P xs → AllContents P ys → AllContents P (cond b xs ys)
+either_all P true xs ys p q = p
+either_all P false xs ys p q = q
 
-shown_all : (P : ConId → Type 0) (id : ConId) (kind : NodeKind) (children : Rect → Layout → List Placed) (slot : Option Rect) → (ranks kind ≡ 1 → P id) → ((area : Rect) (layout : Layout) → AllContents P (children area layout))
-    → AllContents P (shown_parts id kind children slot)
-shown_all P id kind children None p below = tt
-shown_all P id kind children (Some area) p below =
-    all_append P (placed id Area area) (node_parts id kind area (children area)) (all_placed P id Area area tt) (node_all P id kind area (children area) p (below area))
+module _ (P : ConId → Type 0) (s : Seen) where
+  title_all : (part : Part) (kids : Forest) (rect : Rect) → AllContents P (title_part s part kids rect)
+  title_all part kids rect = all_placed P part.id (Title (ink s part.id) (title_text part kids)) rect tt
 
-row_all : (recency : List ConId) (s : Standing) (i : ℕ) (row : Forest) → AllContents (Ranked row) (row_parts recency s i row)
-row_all recency s i end = tt
-row_all recency s i (con part kids floats rest) =
+  titles_all : (at : ℕ → Rect) (i : ℕ) (row : Forest) → AllContents P (titles s at i row)
+  titles_all at i end = tt
+  titles_all at i (con part kids floats rest) = all_append P (title_part s part kids (at i)) (titles s at (i + 1) rest) (title_all part kids (at i)) (titles_all at (i + 1) rest)
+
+  kids_titles_all : (layout : Layout) (area : Rect) (kids : Forest) → AllContents P (kids_titles s layout area kids)
+  kids_titles_all SplitH area kids = tt
+  kids_titles_all SplitV area kids = tt
+  kids_titles_all Tabbed area kids = titles_all (tab (row_length kids) area) 0 kids
+  kids_titles_all Stacked area kids = titles_all (line area) 0 kids
+
+  own_all : (own : Bool) (part : Part) (kids : Forest) (border : Border) (area : Rect) → AllContents P (own_title s own part kids border area)
+  own_all own part kids (borders.Normal n) area = either_all P own (title_part s part kids (upper 20 area)) [] (title_all part kids (upper 20 area)) tt
+  own_all own part kids (borders.Pixel n) area = tt
+  own_all own part kids borders.Bare area = tt
+
+  border_all : (part : Part) (border : Border) (rect : Rect) → AllContents P (border_part s part border rect)
+  border_all part border rect =
+      either_all P (eqb (width border) 0) [] (placed part.id (parts.Border (ink s part.id)) rect) tt (all_placed P part.id (parts.Border (ink s part.id)) rect tt)
+
+  bordered_all : (own : Bool) (part : Part) (kids : Forest) (border : Border) (area rect content : Rect) → P part.id → AllContents P (bordered s own part kids border area rect content)
+  bordered_all own part kids border area rect content p =
+      let frame = border_part s part border rect in
+      let inside = placed part.id Content content in
+      either_all P (eqb content.w 0 || eqb content.h 0) [] (own_title s own part kids border area ++ (frame ++ inside)) tt
+      (all_append P (own_title s own part kids border area) (frame ++ inside) (own_all own part kids border area) (all_append P frame inside (border_all part border rect) (all_placed P part.id Content content p)))
+
+  con_all : (own : Bool) (part : Part) (c : ConPart) (kind : ConKind) (kids : Forest) (area : Rect) (children : Layout → List Placed) → P part.id → ((layout : Layout) → AllContents P (children layout))
+      → AllContents P (con_parts s own part c kind kids area children)
+  con_all own part c (Split layout last) kids area children p below = below layout
+  con_all own part c (Window props owner natural) kids area children p below =
+      let rect = below_title own c.state.border area in
+      bordered_all own part kids c.state.border area rect (within_border c.state.border rect) p
+  con_all own part c (Placeholder props swallows) kids area children p below = own_all own part kids c.state.border area
+
+  node_all : (own : Bool) (part : Part) (kind : NodeKind) (kids : Forest) (area : Rect) (children : Layout → List Placed) → (ranks kind ≡ 1 → P part.id) → ((layout : Layout) → AllContents P (children layout))
+      → AllContents P (node_parts s own part kind kids area children)
+  node_all own part (Root c) kids area children p below = tt
+  node_all own part (Output o) kids area children p below = tt
+  node_all own part (Space w) kids area children p below = tt
+  node_all own part (Con c) kids area children p below = con_all own part c c.kind kids area children (p refl) below
+
+  shown_all : (own : Bool) (part : Part) (kids : Forest) (children : Rect → Layout → List Placed) (slot : Option Rect) → (ranks part.kind ≡ 1 → P part.id) → ((area : Rect) (layout : Layout) → AllContents P (children area layout))
+      → AllContents P (shown_parts s own part kids children slot)
+  shown_all own part kids children None p below = tt
+  shown_all own part kids children (Some area) p below =
+      all_append P (placed part.id Area area) (node_parts s own part part.kind kids area (children area)) (all_placed P part.id Area area tt) (node_all own part part.kind kids area (children area) p (below area))
+
+row_all : (s : Seen) (st : Standing) (i : ℕ) (row : Forest) → AllContents (Ranked row) (row_parts s st i row)
+row_all s st i end = tt
+row_all s st i (con part kids floats rest) =
     let row = con part kids floats rest in
-    let below : Rect → Layout → List Placed = λ area layout. row_parts recency (standing recency layout area kids) 0 kids in
-    all_append (Ranked row) (shown_parts part.id part.kind below (slot s i part.id)) (row_parts recency s (i + 1) rest)
-    (shown_all (Ranked row) part.id part.kind below (slot s i part.id) (here part kids floats rest)
-    (λ area layout. all_weaker (Ranked kids) (Ranked row) (below area layout) (in_kids part kids floats rest) (row_all recency (standing recency layout area kids) 0 kids)))
-    (all_weaker (Ranked rest) (Ranked row) (row_parts recency s (i + 1) rest) (in_rest part kids floats rest) (row_all recency s (i + 1) rest))
+    let below : Rect → Layout → List Placed = λ area layout. kids_titles s layout area kids ++ row_parts s (standing s.recency layout area kids) 0 kids in
+    let here_at = slot s.inner st i part.id rest in
+    all_append (Ranked row) (shown_parts s (has_own_title st) part kids below here_at) (row_parts s st (i + 1) rest)
+    (shown_all (Ranked row) s (has_own_title st) part kids below here_at (here part kids floats rest)
+    (λ area layout. all_append (Ranked row) (kids_titles s layout area kids) (row_parts s (standing s.recency layout area kids) 0 kids) (kids_titles_all (Ranked row) s layout area kids)
+    (all_weaker (Ranked kids) (Ranked row) (row_parts s (standing s.recency layout area kids) 0 kids) (in_kids part kids floats rest) (row_all s (standing s.recency layout area kids) 0 kids))))
+    (all_weaker (Ranked rest) (Ranked row) (row_parts s st (i + 1) rest) (in_rest part kids floats rest) (row_all s st (i + 1) rest))
 
-floats_all : (row : Forest) → AllContents (Ranked row) (floats_parts row)
-floats_all end = tt
-floats_all (con part kids floats rest) =
+kids_all : (s : Seen) (kids : Forest) (area : Rect) (layout : Layout) → AllContents (Ranked kids) (kids_parts s kids area layout)
+kids_all s kids area layout =
+    all_append (Ranked kids) (kids_titles s layout area kids) (row_parts s (standing s.recency layout area kids) 0 kids) (kids_titles_all (Ranked kids) s layout area kids) (row_all s (standing s.recency layout area kids) 0 kids)
+
+floats_all : (s : Seen) (row : Forest) → AllContents (Ranked row) (floats_parts s row)
+floats_all s end = tt
+floats_all s (con part kids floats rest) =
     let row = con part kids floats rest in
     let below : Rect → Layout → List Placed = λ area layout. [] in
-    all_append (Ranked row) (shown_parts part.id part.kind below (rect_of part.kind)) (floats_parts rest)
-    (shown_all (Ranked row) part.id part.kind below (rect_of part.kind) (here part kids floats rest) (λ area layout. tt))
-    (all_weaker (Ranked rest) (Ranked row) (floats_parts rest) (in_rest part kids floats rest) (floats_all rest))
+    let here_at = option_and_then near_area (rect_of part.kind) in
+    all_append (Ranked row) (shown_parts s true part kids below here_at) (floats_parts s rest)
+    (shown_all (Ranked row) s true part kids below here_at (here part kids floats rest) (λ area layout. tt))
+    (all_weaker (Ranked rest) (Ranked row) (floats_parts s rest) (in_rest part kids floats rest) (floats_all s rest))
 
 -- the fact holds of the one that was found
 abbrev OfFound : (ConId → Type 0) → Option ConId → Type 0
@@ -144,29 +208,33 @@ fullscreen_all (con part kids floats rest) =
     (found_weaker (Ranked floats) (Ranked row) (fullscreen_in floats) (in_floats part kids floats rest) (fullscreen_all floats))
     (found_weaker (Ranked rest) (Ranked row) (fullscreen_in rest) (in_rest part kids floats rest) (fullscreen_all rest))
 
-ground_all : (P : ConId → Type 0) (recency : List ConId) (rect : Rect) (id : ConId) (space : SpacePart) (kids floats : Forest) (found : Option ConId)
-    → OfFound P found → ((v : ConId) → Ranked kids v → P v) → ((v : ConId) → Ranked floats v → P v) → AllContents P (on_ground recency rect id space kids floats found)
-ground_all P recency rect id space kids floats None p f g =
-    all_append P (placed id Area rect) (kids_parts recency kids rect space.layout ++ floats_parts floats) (all_placed P id Area rect tt)
-    (all_append P (kids_parts recency kids rect space.layout) (floats_parts floats)
-    (all_weaker (Ranked kids) P (kids_parts recency kids rect space.layout) f (row_all recency (standing recency space.layout rect kids) 0 kids))
-    (all_weaker (Ranked floats) P (floats_parts floats) g (floats_all floats)))
-ground_all P recency rect id space kids floats (Some c) p f g = all_placed P c Content rect p
+tiled_all : (P : ConId → Type 0) (s : Seen) (id : ConId) (space : SpacePart) (kids : Forest) (area : Option Rect) → ((v : ConId) → Ranked kids v → P v) → AllContents P (tiled_parts s id space kids area)
+tiled_all P s id space kids None f = tt
+tiled_all P s id space kids (Some area) f =
+    all_append P (placed id Area area) (kids_parts s kids area space.layout) (all_placed P id Area area tt) (all_weaker (Ranked kids) P (kids_parts s kids area space.layout) f (kids_all s kids area space.layout))
 
-space_all : (P : ConId → Type 0) (recency : List ConId) (rect : Rect) (id : ConId) (space : Option SpacePart) (kids floats : Forest)
-    → ((v : ConId) → Ranked kids v → P v) → ((v : ConId) → Ranked floats v → P v) → AllContents P (space_parts recency rect id space kids floats)
-space_all P recency rect id None kids floats f g = tt
-space_all P recency rect id (Some space) kids floats f g =
+on_space_all : (P : ConId → Type 0) (s : Seen) (output : OutputPart) (id : ConId) (space : SpacePart) (kids floats : Forest) (found : Option ConId)
+    → OfFound P found → ((v : ConId) → Ranked kids v → P v) → ((v : ConId) → Ranked floats v → P v) → AllContents P (on_space s output id space kids floats found)
+on_space_all P s output id space kids floats None p f g =
+    let area = some_area (ground output.rect output.reserved space.outer space.inner) in
+    all_append P (tiled_parts s id space kids area) (floats_parts s floats) (tiled_all P s id space kids area f) (all_weaker (Ranked floats) P (floats_parts s floats) g (floats_all s floats))
+on_space_all P s output id space kids floats (Some c) p f g = all_placed P c Content output.rect p
+
+space_all : (P : ConId → Type 0) (t : TreeValue) (c : ConId) (output : OutputPart) (id : ConId) (space : Option SpacePart) (kids floats : Forest)
+    → ((v : ConId) → Ranked kids v → P v) → ((v : ConId) → Ranked floats v → P v) → AllContents P (space_parts t c output id space kids floats)
+space_all P t c output id None kids floats f g = tt
+space_all P t c output id (Some space) kids floats f g =
     let found = or_else (fullscreen_in kids) (fullscreen_in floats) in
-    all_append P (placed id Back rect) (on_ground recency rect id space kids floats found) (all_placed P id Back rect tt)
-    (ground_all P recency rect id space kids floats found
+    let s = seen_in t c space.inner in
+    all_append P (placed id Back output.rect) (on_space s output id space kids floats found) (all_placed P id Back output.rect tt)
+    (on_space_all P s output id space kids floats found
     (or_found P (fullscreen_in kids) (fullscreen_in floats) (found_weaker (Ranked kids) P (fullscreen_in kids) f (fullscreen_all kids)) (found_weaker (Ranked floats) P (fullscreen_in floats) g (fullscreen_all floats)))
     f g)
 
-first_all : (recency : List ConId) (rect : Rect) (row : Forest) → AllContents (Ranked row) (first_space recency rect row)
-first_all recency rect end = tt
-first_all recency rect (con part kids floats rest) =
-    space_all (Ranked (con part kids floats rest)) recency rect part.id (space_kind part.kind) kids floats (in_kids part kids floats rest) (in_floats part kids floats rest)
+first_all : (t : TreeValue) (c : ConId) (output : OutputPart) (row : Forest) → AllContents (Ranked row) (first_space t c output row)
+first_all t c output end = tt
+first_all t c output (con part kids floats rest) =
+    space_all (Ranked (con part kids floats rest)) t c output part.id (space_kind part.kind) kids floats (in_kids part kids floats rest) (in_floats part kids floats rest)
 
 node_step : (b : Bool) (x y z : Forest) (v : ConId) → (Ranked x v → Ranked z v) → (Ranked y v → Ranked z v) → Ranked (cond b x y) v → Ranked z v
 node_step true x y z v f g h = f h
@@ -177,19 +245,19 @@ in_row id end v h = h
 in_row id (con part kids floats rest) v h =
     node_step (same part.id id) (con part kids floats rest) (node_in id rest) (con part kids floats rest) v (λ x. x) (λ x. in_rest part kids floats rest v (in_row id rest v x)) h
 
-output_all : (recency : List ConId) (output : Option OutputPart) (spaces : Forest) → AllContents (Ranked spaces) (output_parts recency output spaces)
-output_all recency None spaces = tt
-output_all recency (Some o) spaces =
-    all_weaker (Ranked (node_in o.shown spaces)) (Ranked spaces) (first_space recency o.rect (node_in o.shown spaces)) (in_row o.shown spaces) (first_all recency o.rect (node_in o.shown spaces))
+output_all : (t : TreeValue) (c : ConId) (output : Option OutputPart) (spaces : Forest) → AllContents (Ranked spaces) (output_parts t c output spaces)
+output_all t c None spaces = tt
+output_all t c (Some o) spaces =
+    all_weaker (Ranked (node_in o.shown spaces)) (Ranked spaces) (first_space t c o (node_in o.shown spaces)) (in_row o.shown spaces) (first_all t c o (node_in o.shown spaces))
 
-outputs_all : (recency : List ConId) (f : Forest) → AllContents (Ranked f) (outputs_parts recency f)
-outputs_all recency end = tt
-outputs_all recency (con part kids floats rest) =
+outputs_all : (t : TreeValue) (c : ConId) (f : Forest) → AllContents (Ranked f) (outputs_parts t c f)
+outputs_all t c end = tt
+outputs_all t c (con part kids floats rest) =
     let row = con part kids floats rest in
-    let first = output_parts recency (output_kind part.kind) kids in
-    all_append (Ranked row) first (outputs_parts recency rest)
-    (all_weaker (Ranked kids) (Ranked row) first (in_kids part kids floats rest) (output_all recency (output_kind part.kind) kids))
-    (all_weaker (Ranked rest) (Ranked row) (outputs_parts recency rest) (in_rest part kids floats rest) (outputs_all recency rest))
+    let first = output_parts t c (output_kind part.kind) kids in
+    all_append (Ranked row) first (outputs_parts t c rest)
+    (all_weaker (Ranked kids) (Ranked row) first (in_kids part kids floats rest) (output_all t c (output_kind part.kind) kids))
+    (all_weaker (Ranked rest) (Ranked row) (outputs_parts t c rest) (in_rest part kids floats rest) (outputs_all t c rest))
 
 below_first : (v : ConId) (f : Forest) → Ranked (first_kids f) v → Ranked f v
 below_first v end h = h
@@ -197,11 +265,13 @@ below_first v (con part kids floats rest) h = in_kids part kids floats rest v h
 
 -- each window with a content is not gone
 pub contents_known : (t : TreeValue) → IsSound t → AllContents (IsNotGone t) (arranged t)
-contents_known t s = all_weaker (Ranked (first_kids t.nodes)) (IsNotGone t) (arranged t) (λ v h below. omega (arith, s.known v, below_first v t.nodes h)) (outputs_all t.recency (first_kids t.nodes))
+contents_known t s = all_weaker (Ranked (first_kids t.nodes)) (IsNotGone t) (arranged t) (λ v h below. omega (arith, s.known v, below_first v t.nodes h)) (outputs_all t (focused t) (first_kids t.nodes))
 
-what_same : (part : PartKind) (a b : Option Buffer) → OfContent part (a ≡ b) → what_of part a ≡ what_of part b
+what_same : (part : PlacedPart) (a b : Option Buffer) → OfContent part (a ≡ b) → what_of part a ≡ what_of part b
 what_same Back a b h = refl
 what_same Area a b h = refl
+what_same (Title ink text) a b h = refl
+what_same (parts.Border ink) a b h = refl
 what_same Content a b h = ap (what_of Content) h
 
 -- buffers that agree on the contents make the same quads

@@ -1,7 +1,5 @@
-pub mod ArrangedLemmas
 pub mod ContentLemmas
 pub mod LookLemmas
-pub mod RowLemmas
+pub mod OpeningLemmas
 pub mod ScheduleLemmas
 pub mod StandsLemmas
-pub mod TreeLemmas

@@ -3,10 +3,10 @@ use Rattle.std.proofs.Common.{◌≡◌, ℕ, zero, suc, ◌+◌, ◌≤◌, ◌
 use Rattle.std.specs.Option.{option_map}
 use Rattle.std.proofs.lemmas.Bool.{le-leb, lt-leb, cases_lt}
 use Rattle.wm_tree.specs.TreeValue.{TreeValue}
-use Rattle.wm_core.specs.Arranged.{same_parts}
+use Rattle.wm_arrange.specs.Same.{same_parts}
 use Rattle.wm_core.specs.History.{Entry}
 use Rattle.wm_core.specs.Schedule.{arrangement, or_here, first_when, Turn, turn_from, differs, next_turn, turn, greatest, done}
-use Rattle.wm_core.proofs.ArrangedLemmas.{parts-decide}
+use Rattle.wm_arrange.proofs.SameLemmas.{parts-decide}
 
 -- ---- the first place at which a test holds
 

@@ -12,15 +12,16 @@ use Rattle.wm_tree.specs.Sound.{IsSound, times}
 use Rattle.wm_tree.specs.Ids.{IdsRise}
 use Rattle.wm_tree.specs.TreeValue.{TreeValue}
 use Rattle.wm_layouts.specs.declared.plan.Plan.{Plan}
-use Rattle.wm_core.specs.declared.arrange.Placed.{Placed}
-use Rattle.wm_core.specs.declared.frame.Frame.{Frame}
-use Rattle.wm_core.specs.declared.frame.Quad.{Quad}
-use Rattle.wm_core.specs.Arranged.{arranged, same_parts}
+use Rattle.wm_arrange.specs.declared.parts.Placed.{Placed}
+use Rattle.wm_arrange.specs.Arranged.{arranged}
+use Rattle.wm_arrange.specs.Same.{same_parts}
+use Rattle.wm_arrange.proofs.SameLemmas.{parts-decide}
+use Rattle.wm_paint.specs.declared.frame.Frame.{Frame}
+use Rattle.wm_paint.specs.declared.frame.Quad.{Quad}
 use Rattle.wm_core.specs.DeskValue.{DeskValue, IsNotGone, Stands, buffer_in, next_desk}
 use Rattle.wm_core.specs.Frame.{shown, buffer_after, frame, frame_at, quads}
 use Rattle.wm_core.specs.History.{Entry, opening_of, tree, tree_after}
 use Rattle.wm_core.specs.Schedule.{Turn, arrangement, turn}
-use Rattle.wm_core.proofs.ArrangedLemmas.{parts-decide}
 use Rattle.wm_core.proofs.ContentLemmas.{contents_known, quads_same, all_weaker, AllContents}
 use Rattle.wm_core.proofs.ScheduleLemmas.{turn_stays, none_begins, one_begins, then_none, done_is}
 

@@ -9,11 +9,12 @@ use Rattle.wm_base.specs.declared.ids.Buffer.{Buffer}
 use Rattle.wm_base.specs.declared.ids.ConId.{ConId}
 use Rattle.wm_tree.specs.Sound.{times}
 use Rattle.wm_tree.specs.TreeValue.{TreeValue, tree_code}
-use Rattle.wm_core.specs.contracts.arrange.Placed as placed
+use Rattle.wm_arrange.specs.contracts.parts.Placed as placed
 use Rattle.wm_layouts.specs.contracts.plan.Plan as plan
-use Rattle.wm_core.specs.declared.arrange.Placed.{Placed}
+use Rattle.wm_arrange.specs.declared.parts.Placed.{Placed}
 use Rattle.wm_layouts.specs.declared.plan.Plan.{Plan}
-use Rattle.wm_core.specs.Arranged.{arranged, same_parts}
+use Rattle.wm_arrange.specs.Arranged.{arranged}
+use Rattle.wm_arrange.specs.Same.{same_parts}
 use Rattle.wm_core.specs.Frame.{shown}
 use Rattle.wm_core.specs.History.{Entry, opening_of, tree}
 use Rattle.wm_core.specs.Schedule.{arrangement, turn}

@@ -5,13 +5,13 @@ use Rattle.wm_base.specs.declared.ids.ConId.{ConId}
 use Rattle.wm_base.specs.declared.errors.Limit.{Limit}
 use Rattle.wm_tree.specs.TreeValue.{TreeValue, id}
 use Rattle.wm_tree.specs.Look.{same}
-use Rattle.wm_core.specs.declared.arrange.Placed.{Placed}
-use Rattle.wm_core.specs.declared.arrange.PartKind.{PartKind}
-use Rattle.wm_core.specs.declared.arrange.PartKind.TheVariants.{Back, Area, Content}
-use Rattle.wm_core.specs.declared.frame.Frame.{Frame}
-use Rattle.wm_core.specs.declared.frame.Quad.{Quad}
-use Rattle.wm_core.specs.declared.frame.What.{What}
-use Rattle.wm_core.specs.declared.frame.What.TheVariants as shows
+use Rattle.wm_arrange.specs.declared.parts.Placed.{Placed}
+use Rattle.wm_arrange.specs.declared.parts.PlacedPart.{PlacedPart}
+use Rattle.wm_arrange.specs.declared.parts.PlacedPart.TheVariants.{Back, Area, Title, Border, Content}
+use Rattle.wm_paint.specs.declared.frame.Frame.{Frame}
+use Rattle.wm_paint.specs.declared.frame.Quad.{Quad}
+use Rattle.wm_paint.specs.declared.frame.What.{What}
+use Rattle.wm_paint.specs.declared.frame.What.TheVariants as shows
 use Rattle.wm_core.specs.Act.{Act, Run, Map, Close, Still}
 use Rattle.wm_core.specs.History.{Entry, tree, has_no_pixels, limit_of}
 use Rattle.wm_core.specs.Schedule.{Turn, turn, done}
@@ -40,10 +40,13 @@ abbrev pub window_of : Option Buffer → Option What
 window_of None = None
 window_of (Some buffer) = Some (shows.Window buffer)
 
--- what a part shows: the ground of a workspace, or a window's content with its buffer; areas are not painted
-abbrev pub what_of : PartKind → Option Buffer → Option What
+-- what a part shows: the ground of a workspace, a title, a border, or a window's content with its buffer; areas are
+-- not painted
+abbrev pub what_of : PlacedPart → Option Buffer → Option What
 what_of Back buffer = Some shows.Back
 what_of Area buffer = None
+what_of (Title ink text) buffer = Some (shows.Title ink text)
+what_of (Border ink) buffer = Some (shows.Border ink)
 what_of Content buffer = window_of buffer
 
 abbrev pub quad_of : Placed → Option What → List Quad

@@ -1,11 +1,7 @@
 pub mod Act
-pub mod Areas
-pub mod Arranged
 pub mod DeskValue
 pub mod Frame
 pub mod History
 pub mod Look
 pub mod Schedule
 pub mod Sizes
-pub mod Slots
-pub mod Text

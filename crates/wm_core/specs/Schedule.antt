@@ -2,8 +2,9 @@
 use Rattle.std.specs.Prelude.{ℕ, zero, suc, ◌+◌, nat_le, Bool, not, ◌&&◌, if◌then◌else◌, List, [], ◌∷◌, length, Option, None, Some, is_some}
 use Rattle.std.specs.Option.{option_map}
 use Rattle.wm_tree.specs.TreeValue.{TreeValue}
-use Rattle.wm_core.specs.declared.arrange.Placed.{Placed}
-use Rattle.wm_core.specs.Arranged.{arranged, same_parts}
+use Rattle.wm_arrange.specs.declared.parts.Placed.{Placed}
+use Rattle.wm_arrange.specs.Arranged.{arranged}
+use Rattle.wm_arrange.specs.Same.{same_parts}
 use Rattle.wm_core.specs.History.{Entry, tree}
 
 -- the arrangement after a history

@@ -1,7 +1,7 @@
 //! The desk: the tree, the buffers of its windows, and the last arrangement that was committed.
 ghost use Rattle.std.specs.Prelude.{◌≡◌, ◌≢◌, ◌+◌, ◌<◌, ◌^◌, [], ◌∷◌, true, map, None, Option, IfOk, IsTrue, OnOk, OnErr};
 ghost use Rattle.wm_base.specs.declared.ids.Buffer.{Buffer};
-ghost use Rattle.wm_core.specs.Arranged.{arranged};
+ghost use Rattle.wm_arrange.specs.Arranged.{arranged};
 ghost use Rattle.wm_core.specs.DeskValue.{next_desk, Stands};
 ghost use Rattle.wm_core.specs.Frame.{buffer_after, frame};
 ghost use Rattle.wm_core.specs.History.{answer, answer_to, has_no_pixels, is_owned, is_window, opening_of, reply_to, tree_after, verdict_replies, verdict_tree, Entry, History};
@@ -15,18 +15,19 @@ ghost use Rattle.wm_apply.specs.Batches.{outcome};
 ghost use Rattle.wm_criteria.specs.Prepared.{is_built};
 ghost use Rattle.wm_core.specs.declared.step.Answer.TheVariants.{Replies};
 
-use crate::arrange::{Placed, arrange, same};
-use crate::frame::{Frame, painted};
+use crate::frame::painted;
 use crate::replies::replies_to;
 use crate::step::{Answer, Step};
 use std::alloc::Global;
 use std::collections::BTreeMap;
 use std::marker::Model;
 use wm_apply::run;
+use wm_arrange::{Arrangement, arrange};
 use wm_base::{Buffer, ConId, List, NoMemory, Props, Size};
 use wm_criteria::{Prepared, Verdict};
 use wm_json::Reply;
 use wm_layouts::Plan;
+use wm_paint::Frame;
 use wm_tree::{ConKind, NewCon, Tree, TreeRefusal, copy_props};
 
 /// A desk. It stands for the history of the steps that were taken on it, from the opening of its plan.
@@ -39,7 +40,7 @@ pub struct Desk {
     buffers: BTreeMap<u32, Buffer>,
     number: u64,
     prefix: u64,
-    parts: Vec<Placed>,
+    arrangement: Arrangement,
 }
 
 impl Model for Desk {
@@ -51,7 +52,7 @@ impl Model for Desk {
 
     ghost coded = { desk_code };
 
-    ghost view = { λ d. record { plan = d.plan; steps = d.steps; tree = d.tree; buffers = d.buffers.entries; number = d.number; prefix = d.prefix; parts = d.parts.items } };
+    ghost view = { λ d. record { plan = d.plan; steps = d.steps; tree = d.tree; buffers = d.buffers.entries; number = d.number; prefix = d.prefix; parts = d.arrangement.parts } };
 
     ghost invariant = { λ d. (d.number ≤ d.steps) × (d.prefix ≤ d.steps) × trees.IsSound d.tree };
 }
@@ -65,7 +66,7 @@ impl Desk {
     {
         let outputs = plan.outputs.items();
         let tree = Tree::start(alloc, outputs, plan.border, plan.inner, plan.outer)?;
-        let parts = arrange(alloc, &tree)?;
+        let arrangement = arrange(alloc, &tree)?;
         Ok(Desk {
             alloc,
             plan,
@@ -74,7 +75,7 @@ impl Desk {
             buffers: BTreeMap::new(alloc),
             number: 0,
             prefix: 0,
-            parts,
+            arrangement,
         })
     }
 
@@ -111,7 +112,7 @@ impl Desk {
         ensures { (history : History) → Stands self.now history →
             IfOk result (λ f. f ≡ frame (opening_of self.now.plan) history) }
     {
-        let quads = painted(self.alloc, &self.parts, &self.buffers)?;
+        let quads = painted(self.alloc, self.arrangement.parts.items(), &self.buffers)?;
         Ok(Frame {
             number: self.number,
             prefix: self.prefix,
@@ -249,18 +250,18 @@ impl Desk {
 
     /// Takes a tree and its arrangement as those after this step: a transaction begins, and ends, where the
     /// arrangement differs from the last one.
-    fn commit(&mut self, tree: Tree, newest: Vec<Placed>)
+    fn commit(&mut self, tree: Tree, newest: Arrangement)
         requires few { self.old.steps < 2 ^ 48 }
-        requires arranged { newest.items ≡ arranged tree }
+        requires arranged { newest.parts ≡ arranged tree }
         requires sound { trees.IsSound tree }
         ensures { self.new ≡ next_desk tree self.old.buffers self.old }
     {
         self.steps += 1;
         self.tree = tree;
-        if !same(&newest, &self.parts) {
+        if !newest.same(&self.arrangement) {
             self.number += 1;
             self.prefix = self.steps;
-            self.parts = newest;
+            self.arrangement = newest;
         }
     }
 }

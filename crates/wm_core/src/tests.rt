@@ -2,11 +2,12 @@
 ghost use Rattle.std.specs.Prelude.{◌≡◌, ◌+◌, ◌≤◌, IfOk, OnOk};
 ghost use Rattle.wm_core.specs.Sizes.{IsFitSize, IsFitStep};
 
-use crate::{Answer, Desk, Step, frame_text};
+use crate::{Answer, Desk, Step};
 use std::alloc::Global;
 use std::test::Fail;
 use wm_base::{Buffer, ConId, Ink, NoMemory, Props, Size, Text};
 use wm_layouts::Plan;
+use wm_paint::frame_text;
 
 const AMBER: Buffer = Buffer {
     ink: Ink(0xe0b030),

@@ -17,7 +17,7 @@ use Rattle.wm_core.specs.declared.look.View.TheVariants as view
 use Rattle.wm_core.specs.Act.{Act, Run, Map, Close}
 use Rattle.wm_core.specs.History.{Entry, History, answer, tree}
 use Rattle.wm_layouts.specs.Plan.{default_outputs}
-use Rattle.wm_core.specs.Text.{frame_text, new_line}
+use Rattle.wm_paint.specs.FrameText.{frame_text, new_line}
 use Rattle.wm_tool.specs.declared.script.Line.{Line}
 use Rattle.wm_tool.specs.declared.script.Line.TheVariants as line
 use Rattle.wm_tool.specs.declared.status.Refused.{Refused}

@@ -103,7 +103,11 @@ fn scripts_on_nested_containers(rt: HostRuntime) -> Result<(), Fail> {
         ),
         (
             "map 000001 9x9\nmap 000002 9x9\nrun layout tabbed; focus left\npaint\nrun layout toggle split, layout toggle all\npaint\n",
-            "window 4 0,0 1000x800 000001 9x9\nend\n[{\"success\":true},{\"success\":true}]\nframe 4 4\nback 3 0,0 1000x800\nwindow 4 0,0 1000x400 000001 9x9\nwindow 5 0,400 1000x400 000002 9x9\nend\n",
+            "title 4 0,0 500x20 4c7899 \"\"\ntitle 5 500,0 500x20 333333 \"\"\nwindow 4 0,20 1000x780 000001 9x9\nend\n[{\"success\":true},{\"success\":true}]\nframe 4 4\nback 3 0,0 1000x800\nwindow 4 0,0 1000x400 000001 9x9\nwindow 5 0,400 1000x400 000002 9x9\nend\n",
+        ),
+        (
+            "map 000001 640x480 title=\"a\"\nmap 00ff00 640x480 title=\"b\"\nrun layout stacked\npaint\n",
+            "frame 3 3\nback 3 0,0 1000x800\ntitle 4 0,0 1000x20 333333 \"a\"\ntitle 5 0,20 1000x20 4c7899 \"b\"\nwindow 5 0,40 1000x760 00ff00 640x480\nend\n",
         ),
     ];
     for (script, text) in cases {

@@ -3,7 +3,7 @@ ghost use Rattle.std.specs.Prelude.{◌≡◌, ℕ, List, Option, ◌+◌, ◌<�
 ghost use Rattle.wm_core.specs.Act.{act_of};
 ghost use Rattle.wm_core.specs.Frame.{frame};
 ghost use Rattle.wm_core.specs.Look.{look};
-ghost use Rattle.wm_core.specs.Text.{frame_text};
+ghost use Rattle.wm_paint.specs.FrameText.{frame_text};
 ghost use Rattle.wm_core.specs.History.{answer, tree, History, opening_of};
 ghost use Rattle.wm_core.specs.Sizes.{IsFitStep};
 ghost use Rattle.wm_defs.specs.Counts.{Rose};
@@ -22,10 +22,11 @@ use crate::judging::run_text;
 use crate::script::Line;
 use std::alloc::{AllocError, Global};
 use wm_base::NoMemory;
-use wm_core::{Desk, Query, Step, View, frame_text};
+use wm_core::{Desk, Query, Step, View};
 use wm_criteria::Build;
 use wm_json::texts_json;
 use wm_layouts::Plan;
+use wm_paint::frame_text;
 use wm_ports::{Failed, Sink, write_all};
 use wm_tree::copy_props;
 

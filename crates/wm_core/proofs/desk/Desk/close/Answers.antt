@@ -16,7 +16,7 @@ use Rattle.wm_core.proofs.desk.Desk.close.Goals as goal
 pub returns-then-not-is_window-clause-stands : goal.returns-then-not-is_window-clause-stands
 returns-then-not-is_window-clause-stands c = λ history s.
     let i = c.self.inside in
-    let d : DeskValue = record { plan = i.plan; steps = i.steps; tree = i.tree; buffers = i.buffers.entries; number = i.number; prefix = i.prefix; parts = i.parts.items } in
+    let d : DeskValue = record { plan = i.plan; steps = i.steps; tree = i.tree; buffers = i.buffers.entries; number = i.number; prefix = i.prefix; parts = i.arrangement.parts } in
     let not_its : is_window d.tree c.args.who c.args.con ≡ false = rw (← c.self.view_is) at (sym c.is_window.ensures.value ∙ c.if-not-is_window.true) in
     stands_counted d history (record { who = c.args.who; act = Close c.args.con }) (rw (← c.self.view_is) at s) c.self.invariant.1 (rw not_its refl) (λ v b. refl)
 
@@ -41,7 +41,7 @@ closed_other c v t new e sound there h =
 pub returns-clause-stands : goal.returns-clause-stands
 returns-clause-stands c = λ history s.
     let i = c.self.inside in
-    let d : DeskValue = record { plan = i.plan; steps = i.steps; tree = i.tree; buffers = i.buffers.entries; number = i.number; prefix = i.prefix; parts = i.parts.items } in
+    let d : DeskValue = record { plan = i.plan; steps = i.steps; tree = i.tree; buffers = i.buffers.entries; number = i.number; prefix = i.prefix; parts = i.arrangement.parts } in
     let stood = rw (← c.self.view_is) at s in
     let its : is_window d.tree c.args.who c.args.con ≡ true = rw (← c.self.view_is) at (sym c.is_window.ensures.value ∙ c.if-not-is_window.false) in
     let sound = rw (← c.in_ok-tree.ensures) at c.self.invariant.2 in

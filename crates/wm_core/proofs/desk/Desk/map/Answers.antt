@@ -37,7 +37,7 @@ mapped_ids t attached_tree raised_tree settled_tree at i newcomer a r s =
 pub returns-then-has_no_pixels-clause-stands : goal.returns-then-has_no_pixels-clause-stands
 returns-then-has_no_pixels-clause-stands c = λ history s.
     let i = c.self.inside in
-    let d : DeskValue = record { plan = i.plan; steps = i.steps; tree = i.tree; buffers = i.buffers.entries; number = i.number; prefix = i.prefix; parts = i.parts.items } in
+    let d : DeskValue = record { plan = i.plan; steps = i.steps; tree = i.tree; buffers = i.buffers.entries; number = i.number; prefix = i.prefix; parts = i.arrangement.parts } in
     let empty : has_no_pixels c.args.buffer.size ≡ true = sym c.has_no_pixels.ensures ∙ c.if-has_no_pixels.true in
     stands_counted d history (record { who = c.args.who; act = Map c.args.props.now c.args.buffer }) (rw (← c.self.view_is) at s) c.self.invariant.1 (rw empty refl) (λ v b. rw empty refl)
 
@@ -45,7 +45,7 @@ returns-then-has_no_pixels-clause-stands c = λ history s.
 pub returns-in-Err-Full-clause-stands : goal.returns-in-Err-Full-clause-stands
 returns-in-Err-Full-clause-stands c = λ history s.
     let i = c.self.inside in
-    let d : DeskValue = record { plan = i.plan; steps = i.steps; tree = i.tree; buffers = i.buffers.entries; number = i.number; prefix = i.prefix; parts = i.parts.items } in
+    let d : DeskValue = record { plan = i.plan; steps = i.steps; tree = i.tree; buffers = i.buffers.entries; number = i.number; prefix = i.prefix; parts = i.arrangement.parts } in
     let pixels : has_no_pixels c.args.buffer.size ≡ false = sym c.has_no_pixels.ensures ∙ c.if-has_no_pixels.false in
     let full : limit_of d.tree ≡ Some c.in-Err-Full.limit = limit_via d.tree c.in_ok-tree.tree c.newcomer_place.result _ c.in_ok-tree.ensures c.newcomer_place.ensures.place (rw c.in-Err-Full.field-0-is at c.in-Err-Full.ensures.cause).1 in
     stands_counted d history (record { who = c.args.who; act = Map c.args.props.now c.args.buffer }) (rw (← c.self.view_is) at s) c.self.invariant.1 (rw (pixels, full) refl) (λ v b. rw (pixels, full) refl)
@@ -54,7 +54,7 @@ returns-in-Err-Full-clause-stands c = λ history s.
 pub returns-clause-stands : goal.returns-clause-stands
 returns-clause-stands c = λ history s.
     let i = c.self.inside in
-    let d : DeskValue = record { plan = i.plan; steps = i.steps; tree = i.tree; buffers = i.buffers.entries; number = i.number; prefix = i.prefix; parts = i.parts.items } in
+    let d : DeskValue = record { plan = i.plan; steps = i.steps; tree = i.tree; buffers = i.buffers.entries; number = i.number; prefix = i.prefix; parts = i.arrangement.parts } in
     let stood = rw (← c.self.view_is) at s in
     let pixels : has_no_pixels c.args.buffer.size ≡ false = sym c.has_no_pixels.ensures ∙ c.if-has_no_pixels.false in
     let room : limit_of d.tree ≡ None = limit_via d.tree c.in_ok-tree.tree c.newcomer_place.result _ c.in_ok-tree.ensures c.newcomer_place.ensures.place c.in-Ok.ensures.room in

@@ -1,5 +1,0 @@
-use Rattle.wm_tree.specs.Forest.{node_count}
-use Rattle.wm_core.proofs.arrange.+fullscreen_in.Given as goal
-
-abbrev pub decreases-fullscreen_in : goal.decreases-fullscreen_in
-decreases-fullscreen_in l = node_count l.row.now
