@@ -1,0 +1,5 @@
+pub mod Commits
+pub mod Heard
+pub mod History
+pub mod Machine
+pub mod Schedule

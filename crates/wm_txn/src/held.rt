@@ -1,0 +1,98 @@
+//! What is kept of a window: its last two buffers and its last two configures.
+ghost use Rattle.std.specs.Prelude.{◌≡◌};
+ghost use Rattle.wm_txn.specs.Machine.{asked_by, buffered_with, committed_serial, held_of, is_unanswered, shown_by};
+
+use wm_base::{Buffer, Size};
+
+/// A window. `under` is the serial under which its newest buffer came, and `older` is the buffer that it shows while
+/// the newest is under a number that is not done. `serial` and `size` are those of its latest configure, and `before`
+/// is the serial of the configure before that. `placed` is the number of the last transaction that has a content of it.
+#[derive(Clone, Copy, Debug)]
+pub struct Held {
+    pub live: bool,
+    pub acked: u64,
+    pub newest: Buffer,
+    pub under: u64,
+    pub older: Buffer,
+    pub serial: u64,
+    pub size: Size,
+    pub before: u64,
+    pub placed: u64,
+}
+
+impl Held {
+    /// A window that was mapped with this buffer.
+    pub(crate) fn mapped(buffer: Buffer) -> Held
+        ensures { result ≡ held_of buffer }
+    {
+        Held {
+            live: true,
+            acked: 0,
+            newest: buffer,
+            under: 0,
+            older: buffer,
+            serial: 0,
+            size: buffer.size,
+            before: 0,
+            placed: 0,
+        }
+    }
+
+    /// Whether transaction `number` awaits it and has no answer.
+    pub(crate) fn is_unanswered(&self, number: u64) -> bool
+        ensures { result ≡ is_unanswered number self.now }
+    {
+        self.live && self.serial == number && self.under < number
+    }
+
+    /// The window after transaction `number` places its content with this size: it is configured where it was not asked
+    /// for that size.
+    pub(crate) fn asked_by(self, number: u64, size: Size) -> Held
+        ensures { result ≡ asked_by number size self }
+    {
+        if self.placed == number {
+            return self;
+        }
+        let mut held = self;
+        held.placed = number;
+        if self.serial == 0 || self.size != size {
+            held.before = self.serial;
+            held.serial = number;
+            held.size = size;
+        }
+        held
+    }
+
+    /// The serial of the latest configure by a transaction up to `done`.
+    pub(crate) fn committed_serial(&self, done: u64) -> u64
+        ensures { result ≡ committed_serial done self.now }
+    {
+        if self.serial <= done {
+            self.serial
+        } else {
+            self.before
+        }
+    }
+
+    /// The window after it gave a buffer, where the transactions up to `done` have ended.
+    pub(crate) fn buffered_with(self, done: u64, buffer: Buffer) -> Held
+        ensures { result ≡ buffered_with done buffer self }
+    {
+        let mut held = self;
+        held.older = self.shown_by(done);
+        held.newest = buffer;
+        held.under = self.acked;
+        held
+    }
+
+    /// The buffer that it shows, where the transactions up to `done` have ended.
+    pub(crate) fn shown_by(&self, done: u64) -> Buffer
+        ensures { result ≡ shown_by done self.now }
+    {
+        if self.under <= done {
+            self.newest
+        } else {
+            self.older
+        }
+    }
+}
