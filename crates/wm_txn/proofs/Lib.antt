@@ -1,0 +1,4 @@
+pub mod FirstLemmas
+pub mod NumberLemmas
+pub mod ScheduleLemmas
+pub mod WindowLemmas

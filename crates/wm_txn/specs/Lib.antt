@@ -3,3 +3,4 @@ pub mod Heard
 pub mod History
 pub mod Machine
 pub mod Schedule
+pub mod Stands

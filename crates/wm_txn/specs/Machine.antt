@@ -1,16 +1,22 @@
 -- The machine of transactions: what it keeps, and its steps. It never looks back.
 use Rattle.std.specs.Prelude.{◌≡◌, ℕ, zero, suc, ◌+◌, ◌-◌, ◌==◌, nat_le, nat_lt, Bool, true, false, not, ◌&&◌, ◌||◌, if◌then◌else◌, List, [], ◌∷◌, Option, None, Some, refl}
-use Rattle.std.specs.BTreeMap.{is_at}
+use Rattle.std.specs.BTreeMap.{insert_entry, is_at}
+use Rattle.std.specs.Coded.{Coded, code_by, coded×, coded_ℕ, coded_list, coded_option}
 use Rattle.std.specs.Map.{lookup, set_value}
 use Rattle.std.specs.Ordering.{nat_cmp}
 use Rattle.wm_base.specs.declared.geometry.Size.{Size}
 use Rattle.wm_base.specs.declared.ids.Buffer.{Buffer}
 use Rattle.wm_base.specs.declared.ids.ConId.{ConId}
+use Rattle.wm_arrange.specs.contracts.parts.Arrangement as arrangement
+use Rattle.wm_txn.specs.contracts.held.Held as held
+use Rattle.wm_txn.specs.contracts.held.Pending as pending
+use Rattle.wm_arrange.specs.declared.parts.Arrangement.{Arrangement}
 use Rattle.wm_arrange.specs.declared.parts.Placed.{Placed}
 use Rattle.wm_arrange.specs.Same.{same_parts}
 use Rattle.wm_arrange.specs.Sizes.{is_content}
 use Rattle.wm_txn.specs.Schedule.{same_size}
 use Rattle.wm_txn.specs.declared.held.Held.{Held}
+use Rattle.wm_txn.specs.declared.held.Pending.{Pending}
 
 -- ---- a window
 
@@ -38,3 +44,189 @@ buffered_with done buffer w = record w { older = shown_by done w; newest = buffe
 
 abbrev pub acked_with : ℕ → Held → Held
 acked_with serial w = record w { acked = serial }
+
+-- ---- the windows, by id
+
+abbrev pub Windows : Type 0
+Windows = List (ℕ × Held)
+
+abbrev pub find : ConId → Windows → Option Held
+find v windows = lookup (is_at (nat_cmp v.0)) windows
+
+-- the windows with another value for v, which is there
+abbrev pub put : ConId → Held → Windows → Windows
+put v w windows = set_value (is_at (nat_cmp v.0)) windows w
+
+abbrev pub size_of : Placed → Size
+size_of p = record { w = p.rect.w; h = p.rect.h }
+
+abbrev pub one_if : Bool → ℕ
+one_if true = 1
+one_if false = 0
+
+-- transaction n awaits the window now, and did not before
+abbrev pub is_newly_asked : ℕ → Size → Held → Bool
+is_newly_asked n size w = not (w.placed == n) && is_unanswered n (asked_by n size w)
+
+abbrev pub ask_found : ℕ → Size → ConId → Option Held → Windows → Windows
+ask_found n size v None windows = windows
+ask_found n size v (Some w) windows = put v (asked_by n size w) windows
+
+abbrev pub count_found : ℕ → Size → Option Held → ℕ
+count_found n size None = 0
+count_found n size (Some w) = one_if (is_newly_asked n size w)
+
+-- the windows after transaction n places this part, and how many it awaits for that
+abbrev pub ask_part : ℕ → Placed → Windows → Windows
+ask_part n p windows = if is_content p.part then ask_found n (size_of p) p.con (find p.con windows) windows else windows
+
+abbrev pub count_part : ℕ → Placed → Windows → ℕ
+count_part n p windows = if is_content p.part then count_found n (size_of p) (find p.con windows) else 0
+
+-- the same for all parts, in order
+abbrev pub ask_all : ℕ → List Placed → Windows → Windows
+ask_all n [] windows = windows
+ask_all n (p ∷ parts) windows = ask_all n parts (ask_part n p windows)
+
+abbrev pub count_all : ℕ → List Placed → Windows → ℕ
+count_all n [] windows = 0
+count_all n (p ∷ parts) windows = count_part n p windows + count_all n parts (ask_part n p windows)
+
+-- how many windows transaction n awaits that have not answered
+abbrev pub count_unanswered : ℕ → Windows → ℕ
+count_unanswered n [] = 0
+count_unanswered n (e ∷ windows) = one_if (is_unanswered n e.1) + count_unanswered n windows
+
+-- ---- windows that close or are mapped
+
+abbrev pub closed_held : Held → Held
+closed_held w = record w { live = false }
+
+abbrev pub close_found : ConId → Option Held → Windows → Windows
+close_found v None windows = windows
+close_found v (Some w) windows = put v (closed_held w) windows
+
+abbrev pub close_all : List ConId → Windows → Windows
+close_all [] windows = windows
+close_all (v ∷ gone) windows = close_all gone (close_found v (find v windows) windows)
+
+abbrev pub count_awaited : ℕ → Option Held → ℕ
+count_awaited n None = 0
+count_awaited n (Some w) = one_if (is_unanswered n w)
+
+-- how many windows that transaction n awaits are among those that close
+abbrev pub count_closed : ℕ → List ConId → Windows → ℕ
+count_closed n [] windows = 0
+count_closed n (v ∷ gone) windows = count_awaited n (find v windows) + count_closed n gone (close_found v (find v windows) windows)
+
+abbrev pub open_fresh : Option (ConId × Buffer) → Windows → Windows
+open_fresh None windows = windows
+open_fresh (Some window) windows = insert_entry nat_cmp windows window.0.0 (held_of window.1)
+
+-- ---- the machine
+
+pub record TxnValue : Type 0 where
+  -- the windows that were ever open, by id
+  pub windows : Windows
+  -- the last transaction that has ended: its number, how many entries had come when it began, and its arrangement
+  pub number : ℕ
+  pub prefix : ℕ
+  pub current : Arrangement
+  -- the one that has begun and not ended
+  pub waiting : Option Pending
+  -- an arrangement that came since
+  pub newest : Option Arrangement
+  -- how many windows the waiting one awaits that have not answered
+  pub left : ℕ
+
+abbrev pub commit_pending : Option Pending → TxnValue → TxnValue
+commit_pending None d = d
+commit_pending (Some p) d = record d { number = d.number + 1; prefix = p.prefix; current = p.arrangement; waiting = None }
+
+-- the waiting transaction ends
+abbrev pub committed : TxnValue → TxnValue
+committed d = commit_pending d.waiting d
+
+-- a transaction with this arrangement begins
+abbrev pub began : ℕ → Arrangement → TxnValue → TxnValue
+began steps a d = record d {
+  windows = ask_all (d.number + 1) a.parts d.windows;
+  waiting = Some (record { prefix = steps; arrangement = a });
+  left = count_all (d.number + 1) a.parts d.windows;
+}
+
+-- it ends where it awaits nobody
+abbrev pub finished : TxnValue → TxnValue
+finished d = if d.left == 0 then committed d else d
+
+abbrev pub next_with : ℕ → Option Arrangement → TxnValue → TxnValue
+next_with steps None d = d
+next_with steps (Some a) d = if same_parts a.parts d.current.parts then d else finished (began steps a d)
+
+-- the next transaction begins where the newest arrangement differs
+abbrev pub followed : ℕ → TxnValue → TxnValue
+followed steps d = next_with steps d.newest (record d { newest = None })
+
+-- the machine after an entry, where so many entries have come with it
+abbrev pub settled : ℕ → TxnValue → TxnValue
+settled steps d = if d.left == 0 then followed steps (committed d) else d
+
+-- ---- what each entry does
+
+-- a window is mapped
+abbrev pub opened : Option (ConId × Buffer) → TxnValue → TxnValue
+opened fresh d = record d { windows = open_fresh fresh d.windows }
+
+-- windows close, and an arrangement comes
+abbrev pub arranged : Arrangement → List ConId → TxnValue → TxnValue
+arranged newest gone d = record d {
+  windows = close_all gone d.windows;
+  newest = Some newest;
+  left = d.left - count_closed (d.number + 1) gone d.windows;
+}
+
+abbrev pub ack_found : ConId → ℕ → Option Held → TxnValue → TxnValue
+ack_found v serial None d = d
+ack_found v serial (Some w) d = record d { windows = put v (acked_with serial w) d.windows }
+
+abbrev pub acked : ConId → ℕ → TxnValue → TxnValue
+acked v serial d = ack_found v serial (find v d.windows) d
+
+-- the buffer is the answer that transaction n awaited
+abbrev pub answers : ℕ → Held → Held → Bool
+answers n before after = is_unanswered n before && not (is_unanswered n after)
+
+abbrev pub buffer_found : ConId → Buffer → Option Held → TxnValue → TxnValue
+buffer_found v buffer None d = d
+buffer_found v buffer (Some w) d = record d {
+  windows = put v (buffered_with d.number buffer w) d.windows;
+  left = d.left - one_if (answers (d.number + 1) w (buffered_with d.number buffer w));
+}
+
+abbrev pub buffered : ConId → Buffer → TxnValue → TxnValue
+buffered v buffer d = buffer_found v buffer (find v d.windows) d
+
+-- the deadline names the waiting transaction and comes after its beginning
+abbrev pub is_over : ℕ → ℕ → ℕ → Option Pending → Bool
+is_over place n number None = false
+is_over place n number (Some p) = n == number + 1 && nat_le p.prefix place
+
+abbrev pub timed_out : ℕ → ℕ → TxnValue → TxnValue
+timed_out place n d = if is_over place n d.number d.waiting then settled (place + 1) (record d { left = 0 }) else d
+
+abbrev pub prefix_with : Option Pending → ℕ → ℕ
+prefix_with None before = before
+prefix_with (Some p) before = p.prefix
+
+-- how many entries had come when the last one began
+abbrev pub last_prefix : TxnValue → ℕ
+last_prefix d = prefix_with d.waiting d.prefix
+
+-- ---- how the logic stores it
+
+abbrev pub txn_code : Coded TxnValue
+txn_code =
+    code_by ((Windows × (ℕ × ℕ)) × (Arrangement × (Option Pending × (Option Arrangement × ℕ))))
+    (coded× (coded× (coded_list (coded× coded_ℕ held.the_row.coded)) (coded× coded_ℕ coded_ℕ)) (coded× arrangement.the_row.coded (coded× (coded_option pending.the_row.coded) (coded× (coded_option arrangement.the_row.coded) coded_ℕ))))
+    (λ d. ((d.windows, (d.number, d.prefix)), (d.current, (d.waiting, (d.newest, d.left)))))
+    (λ p. record { windows = p.0.0; number = p.0.1.0; prefix = p.0.1.1; current = p.1.0; waiting = p.1.1.0; newest = p.1.1.1.0; left = p.1.1.1.1 }) (λ _. refl)

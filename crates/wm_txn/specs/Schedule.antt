@@ -25,7 +25,7 @@ same_size a b = a.w == b.w && a.h == b.h
 abbrev pub is_new : Option Size → Option (ℕ × Size) → Bool
 is_new None before = false
 is_new (Some size) None = true
-is_new (Some size) (Some before) = not (same_size size before.1)
+is_new (Some size) (Some before) = not (same_size before.1 size)
 
 -- the latest configure of v: the number of the transaction, and the size that it asked; None where none configured it
 abbrev pub configure : ConId → List Turn → Option (ℕ × Size)

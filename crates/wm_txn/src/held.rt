@@ -1,7 +1,8 @@
-//! What is kept of a window: its last two buffers and its last two configures.
+//! What is kept of a window, its last two buffers and its last two configures, and of a transaction that waits.
 ghost use Rattle.std.specs.Prelude.{◌≡◌};
 ghost use Rattle.wm_txn.specs.Machine.{asked_by, buffered_with, committed_serial, held_of, is_unanswered, shown_by};
 
+use wm_arrange::Arrangement;
 use wm_base::{Buffer, Size};
 
 /// A window. `under` is the serial under which its newest buffer came, and `older` is the buffer that it shows while
@@ -18,6 +19,13 @@ pub struct Held {
     pub size: Size,
     pub before: u64,
     pub placed: u64,
+}
+
+/// A transaction that has begun: how many entries had come then, and its arrangement.
+#[derive(Debug, Drop)]
+pub struct Pending {
+    pub prefix: u64,
+    pub arrangement: Arrangement,
 }
 
 impl Held {

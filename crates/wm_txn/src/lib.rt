@@ -3,5 +3,8 @@
 
 mod answers;
 mod held;
+mod txn;
+mod windows;
 
 pub use answers::{AckRefusal, BufferRefusal, Waiting};
+pub use txn::Txn;

@@ -1,0 +1,35 @@
+-- The first place at which a test holds.
+use Rattle.std.proofs.Common.{◌≡◌, ℕ, ◌+◌, ◌≤◌, ◌<◌, leb, Bool, true, false, cond, ◌&&◌, List, [], ◌∷◌, length, Option, Some, None, refl, ap, sym, ◌∙◌, arith}
+use Rattle.std.proofs.lemmas.Bool.{le-leb, lt-leb}
+use Rattle.wm_txn.specs.History.{Entry}
+use Rattle.wm_txn.specs.Schedule.{or_here, first_when}
+
+-- what was found is found again when the history grows
+pub first_stays : (test : List Entry → Bool) (n : ℕ) (history found : List Entry) (entry : Entry) → first_when test n history ≡ Some found → first_when test n (entry ∷ history) ≡ Some found
+first_stays test n history found entry h = rw h refl
+
+or_short : (o : Option (List Entry)) (b : Bool) (history : List Entry) → o ≡ None → b ≡ false → or_here o b history ≡ None
+or_short o b history p q = rw (p, q) refl
+
+not_yet : (n length : ℕ) (b : Bool) → length < n → (leb n length && b) ≡ false
+not_yet n length b h = rw lt-leb refl
+
+-- nothing is found in a history of fewer entries
+pub first_short : (test : List Entry → Bool) (n : ℕ) (history : List Entry) → length history < n → first_when test n history ≡ None
+first_short test n [] h = or_short None (leb n 0 && test []) [] refl (not_yet n 0 (test []) h)
+first_short test n (entry ∷ history) h =
+    or_short (first_when test n history) (leb n (length history + 1) && test (entry ∷ history)) (entry ∷ history)
+    (first_short test n history (omega arith)) (not_yet n (length history + 1) (test (entry ∷ history)) (omega arith))
+
+-- nothing was found before, so the entry is the first place where the test holds at it
+pub first_here : (test : List Entry → Bool) (n : ℕ) (history : List Entry) (entry : Entry) → first_when test n history ≡ None → n ≤ length history + 1 → test (entry ∷ history) ≡ true
+    → first_when test n (entry ∷ history) ≡ Some (entry ∷ history)
+first_here test n history entry h enough holds = rw (h, le-leb n (length history + 1) enough, holds) refl
+
+and_false : (a : Bool) → (a && false) ≡ false
+and_false true = refl
+and_false false = refl
+
+pub first_none : (test : List Entry → Bool) (n : ℕ) (history : List Entry) (entry : Entry) → first_when test n history ≡ None → test (entry ∷ history) ≡ false → first_when test n (entry ∷ history) ≡ None
+first_none test n history entry h fails =
+    or_short (first_when test n history) (leb n (length history + 1) && test (entry ∷ history)) (entry ∷ history) h (rw fails (and_false (leb n (length history + 1))))

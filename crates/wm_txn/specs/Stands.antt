@@ -1,0 +1,127 @@
+-- The histories that a machine stands for.
+use Rattle.std.specs.Prelude.{◌≡◌, ◌<◌, ◌≤◌, ℕ, suc, ◌+◌, ◌==◌, nat_le, Bool, true, false, if◌then◌else◌, List, [], ◌∷◌, length, Option, None, Some, is_some}
+use Rattle.std.specs.List.Sorted.{IsStrictlySortedBy}
+use Rattle.std.specs.Map.{keys_of}
+use Rattle.std.specs.Ordering.{nat_cmp}
+use Rattle.wm_base.specs.declared.geometry.Size.{Size}
+use Rattle.wm_base.specs.declared.ids.ConId.{ConId}
+use Rattle.wm_arrange.specs.declared.parts.Arrangement.{Arrangement}
+use Rattle.wm_arrange.specs.declared.parts.Placed.{Placed}
+use Rattle.wm_arrange.specs.Same.{same_parts}
+use Rattle.wm_arrange.specs.Sizes.{content_size}
+use Rattle.wm_txn.specs.declared.held.Held.{Held}
+use Rattle.wm_txn.specs.declared.held.Pending.{Pending}
+use Rattle.wm_txn.specs.Commits.{prefix_of}
+use Rattle.wm_txn.specs.Heard.{heard}
+use Rattle.wm_txn.specs.History.{Opening, Entry, arrangement, buffer_up_to, gave, is_open, last}
+use Rattle.wm_txn.specs.Machine.{TxnValue, Windows, count_unanswered, find}
+use Rattle.wm_txn.specs.Schedule.{Turn, configure, configures, contents, ended, last_parts, past}
+
+-- these transactions have ended in the history
+pub record HasEnded (o : Opening) (history : List Entry) (turns : List Turn) : Type 0 where
+  pub past_is : past o (length turns) history ≡ Some turns
+  pub place : List Entry
+  pub ended_at : ended o turns history ≡ Some place
+  pub within : length place ≤ length history
+
+-- they have, and no other has begun
+pub record IsIdle (o : Opening) (history : List Entry) (turns : List Turn) : Type 0 where
+  pub done : HasEnded o history turns
+  pub none : past o (suc (length turns)) history ≡ None
+
+-- they have, and this one has begun after them and not ended
+pub record IsWaiting (o : Opening) (history : List Entry) (t : Turn) (turns : List Turn) : Type 0 where
+  pub done : HasEnded o history turns
+  pub begun_is : past o (suc (length turns)) history ≡ Some (t ∷ turns)
+  pub not_ended : ended o (t ∷ turns) history ≡ None
+  pub within : t.prefix ≤ length history
+
+-- ---- the windows
+
+abbrev pub configure_of : ℕ → Size → Option (ℕ × Size)
+configure_of serial size = if serial == 0 then None else Some (serial, size)
+
+abbrev pub serial_of : Option (ℕ × Size) → ℕ
+serial_of None = 0
+serial_of (Some configure) = configure.0
+
+-- what is kept of v is what the history says of it, where `turns` have ended and `begun` have begun
+pub record IsHeld (o : Opening) (history : List Entry) (turns begun : List Turn) (v : ConId) (w : Held) : Type 0 where
+  pub live_is : is_open o v history ≡ w.live
+  pub last_is : last v history ≡ w.acked
+  pub latest_is : configure v begun ≡ configure_of w.serial w.size
+  pub before_is : length turns < w.serial → serial_of (configure v turns) ≡ w.before
+  pub newest_is : (n : ℕ) → w.under ≤ n → buffer_up_to o n v history ≡ Some w.newest
+  pub older_is : length turns < w.under → buffer_up_to o (length turns) v history ≡ Some w.older
+  pub gave_is : (n : ℕ) → length turns < n → gave n v history ≡ nat_le n w.under
+  pub under_le : w.under ≤ w.acked
+  pub acked_le : w.acked ≤ w.serial
+  pub serial_le : w.serial ≤ length begun
+  pub placed_le : w.placed ≤ length begun
+
+-- v was never open
+pub record IsUnknown (o : Opening) (history : List Entry) (begun : List Turn) (v : ConId) : Type 0 where
+  pub not_open : is_open o v history ≡ false
+  pub no_last : last v history ≡ 0
+  pub no_configure : configure v begun ≡ None
+  pub no_buffer : (n : ℕ) → buffer_up_to o n v history ≡ None
+  pub no_gift : (n : ℕ) → gave n v history ≡ false
+
+abbrev pub IsKept : Opening → List Entry → List Turn → List Turn → ConId → Option Held → Type 0
+IsKept o history turns begun v None = IsUnknown o history begun v
+IsKept o history turns begun v (Some w) = IsHeld o history turns begun v w
+
+-- each content of the arrangement is of an open window
+abbrev pub AreOpen : Opening → List Entry → Type 0
+AreOpen o history = (v : ConId) → is_some (content_size v (arrangement o history)) ≡ true → is_open o v history ≡ true
+
+-- the windows, and what has ended, are what the history says
+pub record Keeps (o : Opening) (history : List Entry) (turns begun : List Turn) (number prefix : ℕ) (current : List Placed) (windows : Windows) : Type 0 where
+  pub number_is : number ≡ length turns
+  pub prefix_is : prefix ≡ prefix_of turns
+  pub current_is : current ≡ last_parts o turns
+  pub each : (v : ConId) → IsKept o history turns begun v (find v windows)
+  pub sorted : IsStrictlySortedBy nat_cmp (keys_of windows)
+  pub open_contents : AreOpen o history
+
+-- ---- the machine
+
+-- what came since the last arrangement that has begun: nothing that differs, or the arrangement after the history
+abbrev pub IsNewest : List Placed → List Placed → Option Arrangement → Type 0
+IsNewest after last None = same_parts after last ≡ true
+IsNewest after last (Some a) = a.parts ≡ after
+
+-- the transaction that waits
+pub record Waits (o : Opening) (history : List Entry) (turns begun : List Turn) (p : Pending) (left : ℕ) (windows : Windows) : Type 0 where
+  pub t : Turn
+  pub begun_are : begun ≡ t ∷ turns
+  pub waiting_is : IsWaiting o history t turns
+  pub prefix_is : p.prefix ≡ t.prefix
+  pub parts_are : p.arrangement.parts ≡ t.parts
+  pub awaits_are : t.awaits ≡ contents (configures turns t.parts) t.parts
+  pub left_is : left ≡ count_unanswered (length turns + 1) windows
+  pub some_left : 0 < left
+
+-- none waits
+pub record Idles (o : Opening) (history : List Entry) (turns begun : List Turn) (newest : Option Arrangement) (left : ℕ) : Type 0 where
+  pub begun_are : begun ≡ turns
+  pub idle_is : IsIdle o history turns
+  pub none_newest : newest ≡ None
+  pub none_left : left ≡ 0
+
+abbrev pub IsScheduled : Opening → List Entry → List Turn → List Turn → Option Pending → TxnValue → Type 0
+IsScheduled o history turns begun None d = Idles o history turns begun d.newest d.left
+IsScheduled o history turns begun (Some p) d = Waits o history turns begun p d.left d.windows
+
+-- the machine stands for what was heard
+pub record StandsFor (o : Opening) (history : List Entry) (d : TxnValue) : Type 0 where
+  pub turns : List Turn
+  pub begun : List Turn
+  pub keeps : Keeps o history turns begun d.number d.prefix d.current.parts d.windows
+  pub newest_is : IsNewest (arrangement o history) (last_parts o begun) d.newest
+  pub schedule : IsScheduled o history turns begun d.waiting d
+  pub within : length begun ≤ length history
+
+-- the machine stands for the history: it is what the history leaves
+abbrev pub Stands : Opening → List Entry → TxnValue → Type 0
+Stands o history d = StandsFor o (heard o history) d

@@ -1,0 +1,163 @@
+//! The machine of transactions: what has ended, what waits, and what came since.
+ghost use Rattle.std.specs.Prelude.{◌≡◌, ◌+◌, ◌<◌, ◌≤◌, ◌^◌, IfOk, OnOk, OnErr};
+ghost use Rattle.wm_txn.specs.Machine.{ack_found, acked, acked_with, arranged, began, buffer_found, buffered, committed, find, finished, followed, is_over, last_prefix, opened, settled, timed_out};
+
+use crate::held::{Held, Pending};
+use crate::windows::{ask_all, close_all, one_if};
+use std::alloc::Global;
+use std::collections::BTreeMap;
+use std::marker::Model;
+use wm_arrange::Arrangement;
+use wm_base::{Buffer, ConId, NoMemory};
+
+/// Layout transactions. The machine stands for a history: the entries that it took, from an opening on.
+#[derive(Drop)]
+pub struct Txn {
+    windows: BTreeMap<u32, Held>,
+    number: u64,
+    prefix: u64,
+    current: Arrangement,
+    waiting: Option<Pending>,
+    newest: Option<Arrangement>,
+    left: u64,
+}
+
+impl Model for Txn {
+    ghost use Rattle.std.specs.Prelude.{◌<◌, ◌≤◌, ◌^◌, IfSome};
+    ghost use Rattle.wm_txn.specs.Machine.{TxnValue, txn_code};
+
+    ghost Value = { TxnValue };
+
+    ghost coded = { txn_code };
+
+    ghost view = { λ d. record { windows = d.windows.entries; number = d.number; prefix = d.prefix; current = d.current; waiting = d.waiting; newest = d.newest; left = d.left } };
+
+    ghost invariant = { λ d. (d.number ≤ d.prefix) × (d.prefix ≤ 2 ^ 48) × IfSome d.waiting (λ p. (d.number < p.prefix) × (p.prefix ≤ 2 ^ 48)) };
+}
+
+impl Txn {
+    /// The transaction that waits ends.
+    fn commit(&mut self)
+        ensures value { self.new ≡ committed self.old }
+        ensures same { last_prefix self.new ≡ last_prefix self.old }
+    {
+        if let Some(pending) = self.waiting.take() {
+            let Pending { prefix, arrangement } = pending;
+            self.number += 1;
+            self.prefix = prefix;
+            self.current = arrangement;
+        }
+    }
+
+    /// A transaction with this arrangement begins.
+    fn begin(&mut self, steps: u64, newest: Arrangement)
+        requires later { last_prefix self.old < steps }
+        requires few { steps ≤ 2 ^ 48 }
+        ensures { self.new ≡ began steps newest self.old }
+    {
+        let number = self.number + 1;
+        self.left = ask_all(&mut self.windows, newest.parts.items(), number);
+        self.waiting = Some(Pending {
+            prefix: steps,
+            arrangement: newest,
+        });
+    }
+
+    /// A transaction that awaits nobody ends.
+    fn finish(&mut self)
+        ensures { self.new ≡ finished self.old }
+    {
+        if self.left == 0 {
+            self.commit();
+        }
+    }
+
+    /// The next transaction begins where the newest arrangement differs from the last one.
+    fn follow(&mut self, steps: u64)
+        requires later { last_prefix self.old < steps }
+        requires few { steps ≤ 2 ^ 48 }
+        ensures { self.new ≡ followed steps self.old }
+    {
+        if let Some(newest) = self.newest.take()
+            && !newest.same(&self.current)
+        {
+            self.begin(steps, newest);
+            self.finish();
+        }
+    }
+
+    /// Ends the waiting transaction where all have answered, and begins the next one.
+    fn settle(&mut self, steps: u64)
+        requires later { last_prefix self.old < steps }
+        requires few { steps ≤ 2 ^ 48 }
+        ensures { self.new ≡ settled steps self.old }
+    {
+        if self.left == 0 {
+            self.commit();
+            self.follow(steps);
+        }
+    }
+
+    /// Maps a window.
+    fn open(&mut self, fresh: Option<(ConId, Buffer)>) -> Result<(), NoMemory>
+        ensures ok { OnOk result (self.new ≡ opened fresh self.old) }
+        ensures err { OnErr result (self.new ≡ self.old) }
+    {
+        if let Some((con, buffer)) = fresh {
+            self.windows.insert(con.0, Held::mapped(buffer))?;
+        }
+        Ok(())
+    }
+
+    /// Takes an arrangement, and closes the windows that are gone.
+    fn arrange(&mut self, newest: Arrangement, gone: &[ConId])
+        ensures { self.new ≡ arranged newest gone.now self.old }
+    {
+        let closed = close_all(&mut self.windows, gone, self.number + 1);
+        self.left = self.left.saturating_sub(closed);
+        self.newest = Some(newest);
+    }
+
+    /// The window acknowledges the serial.
+    fn take_ack(&mut self, view: ConId, serial: u64)
+        ensures { self.new ≡ acked view serial self.old }
+    {
+        if let Some(held) = self.windows.get_mut(&view.0) {
+            held.acked = serial;
+        }
+    }
+
+    /// The window gives a buffer.
+    fn take_buffer(&mut self, view: ConId, buffer: Buffer)
+        ensures { self.new ≡ buffered view buffer self.old }
+    {
+        let next = self.number + 1;
+        if let Some(held) = self.windows.get_mut(&view.0) {
+            let before = *held;
+            let after = before.buffered_with(self.number, buffer);
+            *held = after;
+            let answered = before.is_unanswered(next) && !after.is_unanswered(next);
+            self.left = self.left.saturating_sub(one_if(answered));
+        }
+    }
+
+    /// Whether a deadline at this place names the waiting transaction and comes after its beginning.
+    fn is_over(&self, place: u64, number: u64) -> bool
+        ensures { result ≡ is_over place number self.now.number self.now.waiting }
+    {
+        match &self.waiting {
+            Some(pending) => number == self.number + 1 && pending.prefix <= place,
+            None => false,
+        }
+    }
+
+    /// The waiting transaction ends.
+    fn time_out(&mut self, steps: u64)
+        requires later { last_prefix self.old < steps }
+        requires few { steps ≤ 2 ^ 48 }
+        ensures { self.new ≡ settled steps (record self.old { left = 0 }) }
+    {
+        self.left = 0;
+        self.settle(steps);
+    }
+}

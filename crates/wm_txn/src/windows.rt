@@ -1,0 +1,91 @@
+//! The windows by id: what transactions ask of them, and those that close.
+ghost use Rattle.std.specs.Prelude.{◌≡◌, ◌+◌, ◌≤◌, length};
+ghost use Rattle.wm_txn.specs.Machine.{ask_all, ask_found, close_all, close_found, count_all, count_awaited, count_closed, count_found, find, one_if, size_of};
+ghost use Rattle.wm_arrange.specs.Sizes.{is_content};
+
+use crate::held::Held;
+use std::collections::BTreeMap;
+use wm_arrange::{Placed, PlacedPart};
+use wm_base::{ConId, Size};
+
+/// Asks the windows that have a content among the parts for its size, and answers how many transaction `number` awaits.
+pub(crate) fn ask_all(windows: &mut BTreeMap<u32, Held>, parts: &[Placed], number: u64) -> u64
+    ensures windows { windows.new.entries ≡ ask_all number parts.now windows.old.entries }
+    ensures count { result ≡ count_all number parts.now windows.old.entries }
+{
+    let mut count: u64 = 0;
+    let mut rest = parts;
+    while let [placed, after @ ..] = rest {
+        if is_content(&placed.part) {
+            count += ask(windows, placed.con, size_of(placed), number);
+        }
+        rest = after;
+    }
+    count
+}
+
+/// Asks a window for a size, and answers 1 where transaction `number` awaits it for that.
+fn ask(windows: &mut BTreeMap<u32, Held>, con: ConId, size: Size, number: u64) -> u64
+    ensures windows { windows.new.entries ≡ ask_found number size con (find con windows.old.entries) windows.old.entries }
+    ensures count { result ≡ count_found number size (find con windows.old.entries) }
+    ensures small { result ≤ 1 }
+{
+    let Some(held) = windows.get_mut(&con.0) else {
+        return 0;
+    };
+    let before = *held;
+    let after = before.asked_by(number, size);
+    *held = after;
+    one_if(before.placed != number && after.is_unanswered(number))
+}
+
+/// Closes windows, and answers how many of them transaction `number` awaited.
+pub(crate) fn close_all(windows: &mut BTreeMap<u32, Held>, gone: &[ConId], number: u64) -> u64
+    ensures windows { windows.new.entries ≡ close_all gone.now windows.old.entries }
+    ensures count { result ≡ count_closed number gone.now windows.old.entries }
+{
+    let mut count: u64 = 0;
+    let mut rest = gone;
+    while let [con, after @ ..] = rest {
+        count += close(windows, *con, number);
+        rest = after;
+    }
+    count
+}
+
+/// Closes a window, and answers 1 where transaction `number` awaited it.
+fn close(windows: &mut BTreeMap<u32, Held>, con: ConId, number: u64) -> u64
+    ensures windows { windows.new.entries ≡ close_found con (find con windows.old.entries) windows.old.entries }
+    ensures count { result ≡ count_awaited number (find con windows.old.entries) }
+    ensures small { result ≤ 1 }
+{
+    let Some(held) = windows.get_mut(&con.0) else {
+        return 0;
+    };
+    let before = *held;
+    held.live = false;
+    one_if(before.is_unanswered(number))
+}
+
+/// 1 where the test holds, 0 elsewhere.
+pub(crate) fn one_if(test: bool) -> u64
+    ensures value { result ≡ one_if test }
+    ensures small { result ≤ 1 }
+{
+    if test { 1 } else { 0 }
+}
+
+fn size_of(placed: &Placed) -> Size
+    ensures { result ≡ size_of placed.now }
+{
+    Size {
+        w: placed.rect.w,
+        h: placed.rect.h,
+    }
+}
+
+fn is_content(part: &PlacedPart) -> bool
+    ensures { result ≡ is_content part.now }
+{
+    matches!(part, PlacedPart::Content)
+}
