@@ -1,3 +1,5 @@
+pub mod AnswerLemmas
+pub mod AskLemmas
 pub mod FirstLemmas
 pub mod NumberLemmas
 pub mod ScheduleLemmas
