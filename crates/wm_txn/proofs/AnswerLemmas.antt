@@ -100,7 +100,7 @@ serial_is serial size = by (eqb serial 0) (eqb-true serial 0)
     by true zero = sym (zero refl)
     by false zero = refl
 
-some_serial : (n serial : ℕ) (size : Size) → serial ≡ n → 0 < n → configure_of serial size ≡ Some (n, size)
+pub some_serial : (n serial : ℕ) (size : Size) → serial ≡ n → 0 < n → configure_of serial size ≡ Some (n, size)
 some_serial n serial size e above =
     let other : eqb serial 0 ≡ false = grind (arith, nat_tests) in
     rw (other, e) refl
