@@ -2,6 +2,7 @@ pub mod AnswerLemmas
 pub mod AskLemmas
 pub mod FirstLemmas
 pub mod FollowLemmas
+pub mod KeepLemmas
 pub mod NumberLemmas
 pub mod ScheduleLemmas
 pub mod SettleLemmas

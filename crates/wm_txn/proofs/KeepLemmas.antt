@@ -1,0 +1,143 @@
+-- What is kept of the windows is what the history says after one more entry.
+use Rattle.std.proofs.Common.{◌≡◌, ℕ, suc, ◌+◌, ◌-◌, ◌≤◌, ◌<◌, max, Bool, true, false, cond, not, ◌&&◌, ◌||◌, eqb, leb, ltb, List, [], ◌∷◌, length, Option, Some, None, refl, ap, ap₂, sym, ◌∙◌, subst, arith}
+use Rattle.std.proofs.lemmas.Bool.{eq-eqb, le-leb, lt-leb, leb-true, leb-false}
+use Rattle.std.proofs.lemmas.Map.{keys-set_value}
+use Rattle.std.specs.BTreeMap.{is_at}
+use Rattle.std.specs.List.Sorted.{IsStrictlySortedBy}
+use Rattle.std.specs.Ordering.{nat_cmp}
+use Rattle.std.proofs.lemmas.Bool.Decides.{nat_tests}
+use Rattle.wm_base.specs.declared.ids.Buffer.{Buffer}
+use Rattle.wm_base.specs.declared.ids.ConId.{ConId}
+use Rattle.wm_tree.specs.Look.{same}
+use Rattle.wm_arrange.specs.declared.parts.Placed.{Placed}
+use Rattle.wm_txn.specs.History.{Opening, Entry, Arranged, Acked, Gave, Deadline, Still, buffer_up_to, gave, is_open, last}
+use Rattle.wm_txn.specs.Machine.{Windows, find, put, acked_with, buffered_with, shown_by, is_unanswered, one_if, answers, count_unanswered}
+use Rattle.wm_txn.specs.Schedule.{Turn, configure}
+use Rattle.wm_txn.specs.Stands.{AreOpen, IsHeld, IsKept, IsUnknown, Keeps, configure_of, serial_of}
+use Rattle.wm_txn.specs.declared.held.Held.{Held}
+use Rattle.wm_txn.proofs.WindowLemmas.{one_id, find_put}
+
+pub same_id : (v : ConId) → same v v ≡ true
+same_id v = eq-eqb v.0 v.0 refl
+
+-- ---- an entry that says nothing of v
+
+-- after both histories the same holds of v
+pub record Agree (o : Opening) (before after : List Entry) (v : ConId) : Type 0 where
+  pub opens : is_open o v after ≡ is_open o v before
+  pub lasts : last v after ≡ last v before
+  pub buffers : (n : ℕ) → buffer_up_to o n v after ≡ buffer_up_to o n v before
+  pub gifts : (n : ℕ) → gave n v after ≡ gave n v before
+
+pub kept_same : (o : Opening) (before after : List Entry) (turns begun : List Turn) (v : ConId) (found : Option Held) → Agree o before after v → IsKept o before turns begun v found → IsKept o after turns begun v found
+kept_same o before after turns begun v None a h = record {
+  not_open = a.opens ∙ h.not_open;
+  no_last = a.lasts ∙ h.no_last;
+  no_configure = h.no_configure;
+  no_buffer = λ n. a.buffers n ∙ h.no_buffer n;
+  no_gift = λ n. a.gifts n ∙ h.no_gift n;
+}
+kept_same o before after turns begun v (Some w) a h = record {
+  live_is = a.opens ∙ h.live_is;
+  last_is = a.lasts ∙ h.last_is;
+  latest_is = h.latest_is;
+  before_is = h.before_is;
+  newest_is = λ n under. a.buffers n ∙ h.newest_is n under;
+  older_is = λ above. a.buffers (length turns) ∙ h.older_is above;
+  gave_is = λ n above. a.gifts n ∙ h.gave_is n above;
+  under_le = h.under_le;
+  acked_le = h.acked_le;
+  serial_le = h.serial_le;
+  placed_le = h.placed_le;
+}
+
+-- where the windows stay and the entry says nothing of any
+pub keeps_same : (o : Opening) (before after : List Entry) (turns begun : List Turn) (number prefix : ℕ) (current : List Placed) (windows : Windows) → ((v : ConId) → Agree o before after v) → AreOpen o after
+    → Keeps o before turns begun number prefix current windows → Keeps o after turns begun number prefix current windows
+keeps_same o before after turns begun number prefix current windows agree are_open k = record {
+  number_is = k.number_is;
+  prefix_is = k.prefix_is;
+  current_is = k.current_is;
+  each = λ v. kept_same o before after turns begun v (find v windows) (agree v) (k.each v);
+  sorted = k.sorted;
+  open_contents = are_open;
+}
+
+pub agree_still : (o : Opening) (history : List Entry) (v : ConId) → Agree o history (Still ∷ history) v
+agree_still o history v = record { opens = refl; lasts = refl; buffers = λ n. refl; gifts = λ n. refl }
+
+pub agree_deadline : (o : Opening) (history : List Entry) (number : ℕ) (v : ConId) → Agree o history (Deadline number ∷ history) v
+agree_deadline o history number v = record { opens = refl; lasts = refl; buffers = λ n. refl; gifts = λ n. refl }
+
+agree_acked : (o : Opening) (history : List Entry) (c : ConId) (serial : ℕ) (v : ConId) → same c v ≡ false → Agree o history (Acked c serial ∷ history) v
+agree_acked o history c serial v other = record { opens = refl; lasts = rw other refl; buffers = λ n. refl; gifts = λ n. refl }
+
+agree_gave : (o : Opening) (history : List Entry) (c : ConId) (buffer : Buffer) (v : ConId) → same c v ≡ false → Agree o history (Gave c buffer ∷ history) v
+agree_gave o history c buffer v other = record { opens = refl; lasts = refl; buffers = λ n. rw other refl; gifts = λ n. rw other refl }
+
+-- ---- a window that acknowledges
+
+held_acked : (o : Opening) (history : List Entry) (turns begun : List Turn) (v : ConId) (serial : ℕ) (w : Held) → IsHeld o history turns begun v w → w.acked < serial → serial ≤ w.serial
+    → IsHeld o (Acked v serial ∷ history) turns begun v (acked_with serial w)
+held_acked o history turns begun v serial w h above due = record {
+  live_is = h.live_is;
+  last_is = rw (same_id v, h.last_is) (omega arith);
+  latest_is = h.latest_is;
+  before_is = h.before_is;
+  newest_is = h.newest_is;
+  older_is = h.older_is;
+  gave_is = h.gave_is;
+  under_le = omega (arith, h.under_le);
+  acked_le = due;
+  serial_le = h.serial_le;
+  placed_le = h.placed_le;
+}
+
+kept_put : (o : Opening) (before after : List Entry) (turns begun : List Turn) (c : ConId) (w new : Held) (windows : Windows) → find c windows ≡ Some w → IsHeld o after turns begun c new
+    → (v : ConId) → (same c v ≡ false → Agree o before after v) → IsKept o before turns begun v (find v windows) → (b : Bool) → same c v ≡ b → IsKept o after turns begun v (cond b (Some new) (find v windows))
+kept_put o before after turns begun c w new windows at held v agree kept true one = subst (λ z. IsHeld o after turns begun z new) (one_id c v one) held
+kept_put o before after turns begun c w new windows at held v agree kept false other = kept_same o before after turns begun v (find v windows) (agree other) kept
+
+-- where one window is kept anew
+pub keeps_put : (o : Opening) (before after : List Entry) (turns begun : List Turn) (number prefix : ℕ) (current : List Placed) (c : ConId) (w new : Held) (windows : Windows) → find c windows ≡ Some w
+    → IsHeld o after turns begun c new → ((v : ConId) → same c v ≡ false → Agree o before after v) → AreOpen o after → Keeps o before turns begun number prefix current windows
+    → Keeps o after turns begun number prefix current (put c new windows)
+keeps_put o before after turns begun number prefix current c w new windows at held agree are_open k = record {
+  number_is = k.number_is;
+  prefix_is = k.prefix_is;
+  current_is = k.current_is;
+  each = λ v.
+      let Kept : Option Held → Type 0 = IsKept o after turns begun v in
+      subst Kept (sym (find_put c v new w windows at)) (kept_put o before after turns begun c w new windows at held v (agree v) (k.each v) (same c v) refl);
+  sorted = subst (IsStrictlySortedBy nat_cmp) (sym (keys-set_value (is_at (nat_cmp c.0)) windows new)) k.sorted;
+  open_contents = are_open;
+}
+
+-- ---- a window that gives a buffer
+
+older_buffer : (o : Opening) (history : List Entry) (turns begun : List Turn) (v : ConId) (w : Held) → IsHeld o history turns begun v w → (b : Bool) → leb w.under (length turns) ≡ b
+    → buffer_up_to o (length turns) v history ≡ Some (cond b w.newest w.older)
+older_buffer o history turns begun v w h true at = h.newest_is (length turns) (leb-true w.under (length turns) at)
+older_buffer o history turns begun v w h false at = h.older_is (leb-false w.under (length turns) at)
+
+held_buffered : (o : Opening) (history : List Entry) (turns begun : List Turn) (v : ConId) (buffer : Buffer) (number : ℕ) (w : Held) → IsHeld o history turns begun v w → number ≡ length turns → length begun ≤ length turns + 1
+    → IsHeld o (Gave v buffer ∷ history) turns begun v (buffered_with number buffer w)
+held_buffered o history turns begun v buffer number w h number_is few = record {
+  live_is = h.live_is;
+  last_is = h.last_is;
+  latest_is = h.latest_is;
+  before_is = h.before_is;
+  newest_is = λ n under. rw (same_id v, h.last_is, le-leb w.acked n under) refl;
+  older_is = λ above. rw (same_id v, h.last_is, lt-leb w.acked (length turns) above) (older_buffer o history turns begun v w h (leb w.under (length turns)) refl ∙ ap (λ z. Some (shown_by z w)) (sym number_is));
+  gave_is = λ n above. rw (same_id v, h.last_is, h.gave_is n above) (newer n above);
+  under_le = omega arith;
+  acked_le = h.acked_le;
+  serial_le = h.serial_le;
+  placed_le = h.placed_le;
+}
+  where
+    newer : (n : ℕ) → length turns < n → (eqb w.acked n || leb n w.under) ≡ leb n w.acked
+    newer n above =
+        let l : w.acked ≤ n = omega (arith, h.acked_le, h.serial_le) in
+        let u : w.under ≤ w.acked = h.under_le in
+        grind (arith, nat_tests)
