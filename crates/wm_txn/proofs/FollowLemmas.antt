@@ -15,16 +15,16 @@ use Rattle.wm_txn.proofs.AnswerLemmas.{answered_is}
 use Rattle.wm_txn.proofs.ScheduleLemmas.{WasIdle, WasWaiting, begins_here, ends_here, idles_on, waits_on}
 use Rattle.wm_txn.proofs.SettleLemmas.{keeps_asked, keeps_committed, left_asked, same_itself}
 
-or_none : (a b : Bool) → b ≡ false → (a || b) ≡ a
+pub or_none : (a b : Bool) → b ≡ false → (a || b) ≡ a
 or_none true b h = refl
 or_none false b h = h
 
 module _ (o : Opening) (history : List Entry) (entry : Entry) where
-  abbrev here : List Entry
+  abbrev pub here : List Entry
   here = entry ∷ history
 
   -- no other begins
-  stands_idle : (turns : List Turn) (d : TxnValue) → Keeps o here turns turns d.number d.prefix d.current.parts d.windows → WasIdle o entry history turns → d.waiting ≡ None → d.left ≡ 0 → d.newest ≡ None
+  pub stands_idle : (turns : List Turn) (d : TxnValue) → Keeps o here turns turns d.number d.prefix d.current.parts d.windows → WasIdle o entry history turns → d.waiting ≡ None → d.left ≡ 0 → d.newest ≡ None
       → same_parts (arrangement o here) (last_parts o turns) ≡ true → length turns ≤ length history + 1 → StandsFor o here d
   stands_idle turns d k was none_waits none_left none_newest same_arrangement within =
       let Scheduled : Option Pending → Type 0 = λ z. IsScheduled o here turns turns z d in
@@ -49,7 +49,7 @@ module _ (o : Opening) (history : List Entry) (entry : Entry) where
     pub left_is : 0 < d.left → d.left ≡ count_unanswered (length turns + 1) d.windows
     pub newest_is : IsNewest (arrangement o here) t.parts d.newest
 
-  stands_waiting : (turns : List Turn) (t : Turn) (p : Pending) (d : TxnValue) → Awaits turns t p d → eqb d.left 0 ≡ false → length turns ≤ length history → StandsFor o here d
+  pub stands_waiting : (turns : List Turn) (t : Turn) (p : Pending) (d : TxnValue) → Awaits turns t p d → eqb d.left 0 ≡ false → length turns ≤ length history → StandsFor o here d
   stands_waiting turns t p d a other within =
       let some_left : 0 < d.left = grind (arith, nat_tests, other) in
       let Scheduled : Option Pending → Type 0 = λ z. IsScheduled o here turns (t ∷ turns) z d in

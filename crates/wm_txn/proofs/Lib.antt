@@ -1,9 +1,11 @@
 pub mod AnswerLemmas
 pub mod AskLemmas
+pub mod CloseLemmas
 pub mod FirstLemmas
 pub mod FollowLemmas
 pub mod KeepLemmas
 pub mod NumberLemmas
 pub mod ScheduleLemmas
 pub mod SettleLemmas
+pub mod StepLemmas
 pub mod WindowLemmas

@@ -1,7 +1,8 @@
 -- The machine of transactions: what it keeps, and its steps. It never looks back.
-use Rattle.std.specs.Prelude.{◌≡◌, ℕ, zero, suc, ◌+◌, ◌-◌, ◌==◌, nat_le, nat_lt, Bool, true, false, not, ◌&&◌, ◌||◌, if◌then◌else◌, List, [], ◌∷◌, Option, None, Some, refl}
+use Rattle.std.specs.Prelude.{◌≡◌, ℕ, zero, suc, ◌+◌, ◌-◌, ◌==◌, nat_le, nat_lt, Bool, true, false, not, ◌&&◌, ◌||◌, if◌then◌else◌, List, [], ◌∷◌, Option, None, Some, is_some, refl}
 use Rattle.std.specs.BTreeMap.{insert_entry, is_at}
 use Rattle.std.specs.Coded.{Coded, code_by, coded×, coded_ℕ, coded_list, coded_option}
+use Rattle.std.specs.List.{list_any}
 use Rattle.std.specs.Map.{lookup, set_value}
 use Rattle.std.specs.Ordering.{nat_cmp}
 use Rattle.wm_base.specs.declared.geometry.Size.{Size}
@@ -13,7 +14,9 @@ use Rattle.wm_txn.specs.contracts.held.Pending as pending
 use Rattle.wm_arrange.specs.declared.parts.Arrangement.{Arrangement}
 use Rattle.wm_arrange.specs.declared.parts.Placed.{Placed}
 use Rattle.wm_arrange.specs.Same.{same_parts}
-use Rattle.wm_arrange.specs.Sizes.{is_content}
+use Rattle.wm_arrange.specs.Sizes.{content_size, is_content}
+use Rattle.wm_tree.specs.Look.{same}
+use Rattle.wm_txn.specs.History.{is_fresh}
 use Rattle.wm_txn.specs.Schedule.{same_size}
 use Rattle.wm_txn.specs.declared.held.Held.{Held}
 use Rattle.wm_txn.specs.declared.held.Pending.{Pending}
@@ -122,6 +125,23 @@ count_closed n (v ∷ gone) windows = count_awaited n (find v windows) + count_c
 abbrev pub open_fresh : Option (ConId × Buffer) → Windows → Windows
 open_fresh None windows = windows
 open_fresh (Some window) windows = insert_entry nat_cmp windows window.0.0 (held_of window.1)
+
+abbrev pub is_live : Option Held → Bool
+is_live None = false
+is_live (Some w) = w.live
+
+-- v is open after an arrangement that came with a window that was mapped and with those that closed
+abbrev pub stays_open : Option (ConId × Buffer) → List ConId → Windows → ConId → Bool
+stays_open fresh gone windows v = (is_fresh v fresh || is_live (find v windows)) && not (list_any (same v) gone)
+
+-- the window was never there
+abbrev pub IsNewcomer : Option (ConId × Buffer) → Windows → Type 0
+IsNewcomer None windows = Unit {0}
+IsNewcomer (Some window) windows = find window.0 windows ≡ None
+
+-- each content of the parts is of an open window
+abbrev pub ShowsOpen : List Placed → Option (ConId × Buffer) → List ConId → Windows → Type 0
+ShowsOpen parts fresh gone windows = (v : ConId) → is_some (content_size v parts) ≡ true → stays_open fresh gone windows v ≡ true
 
 -- ---- the machine
 
