@@ -97,7 +97,7 @@ module _ (o : Opening) (history : List Entry) (entry : Entry) (d : TxnValue) (wi
     (news : (last : List Placed) → IsNewest (arrangement o history) last d.newest → IsNewest (arrangement o (entry ∷ history)) last newest)
     (fewer : d.left ≡ 0 → left ≡ 0)
     (counted : d.left ≡ count_unanswered (d.number + 1) d.windows → left ≡ count_unanswered (d.number + 1) windows)
-    (unnamed : (n prefix : ℕ) → is_named n prefix (entry ∷ history) ≡ false)
+    (unnamed : (turns : List Turn) (t : Turn) (p : Pending) → Pends o history turns t p d → is_named (length turns + 1) t.prefix (entry ∷ history) ≡ false)
   where
     abbrev next_value : TxnValue
     next_value = record d { windows = windows; left = left; newest = newest }
@@ -115,7 +115,7 @@ module _ (o : Opening) (history : List Entry) (entry : Entry) (d : TxnValue) (wi
           prefix_is = w.prefix_is;
           parts_are = w.parts_are;
           awaits_are = w.awaits_are;
-          ends_is = or_none _ (is_named n t.prefix (entry ∷ history)) (unnamed n t.prefix)
+          ends_is = or_none _ (is_named n t.prefix (entry ∷ history)) (unnamed turns t p w)
               ∙ (answered_is o (entry ∷ history) turns t windows d.number d.prefix d.current.parts kept w.awaits_are ∙ ap (λ z. eqb z 0) (sym left_is));
           left_is = λ above. left_is;
           newest_is = news t.parts w.newest_is;

@@ -1,5 +1,5 @@
 -- The machine of transactions: what it keeps, and its steps. It never looks back.
-use Rattle.std.specs.Prelude.{◌≡◌, ℕ, zero, suc, ◌+◌, ◌-◌, ◌==◌, nat_le, nat_lt, Bool, true, false, not, ◌&&◌, ◌||◌, if◌then◌else◌, List, [], ◌∷◌, Option, None, Some, is_some, refl}
+use Rattle.std.specs.Prelude.{◌≡◌, ℕ, zero, suc, ◌+◌, ◌-◌, ◌==◌, nat_le, nat_lt, Bool, true, false, not, ◌&&◌, ◌||◌, if◌then◌else◌, List, [], ◌∷◌, Option, None, Some, is_some, Result, Ok, Err, is_ok, refl}
 use Rattle.std.specs.BTreeMap.{insert_entry, is_at}
 use Rattle.std.specs.Coded.{Coded, code_by, coded×, coded_ℕ, coded_list, coded_option}
 use Rattle.std.specs.List.{list_any}
@@ -18,6 +18,11 @@ use Rattle.wm_arrange.specs.Sizes.{content_size, is_content}
 use Rattle.wm_tree.specs.Look.{same}
 use Rattle.wm_txn.specs.History.{is_fresh}
 use Rattle.wm_txn.specs.Schedule.{same_size}
+use Rattle.wm_txn.specs.Heard.{is_empty}
+use Rattle.wm_txn.specs.declared.answers.AckRefusal.{AckRefusal}
+use Rattle.wm_txn.specs.declared.answers.AckRefusal.TheVariants as ack
+use Rattle.wm_txn.specs.declared.answers.BufferRefusal.{BufferRefusal}
+use Rattle.wm_txn.specs.declared.answers.BufferRefusal.TheVariants as buffers
 use Rattle.wm_txn.specs.declared.held.Held.{Held}
 use Rattle.wm_txn.specs.declared.held.Pending.{Pending}
 
@@ -212,6 +217,26 @@ ack_found v serial (Some w) d = record d { windows = put v (acked_with serial w)
 abbrev pub acked : ConId → ℕ → TxnValue → TxnValue
 acked v serial d = ack_found v serial (find v d.windows) d
 
+-- the serial is that of the latest configure, or of the latest by a transaction that has ended, and is above the last one
+abbrev pub is_due_by : ℕ → ℕ → Held → Bool
+is_due_by done serial w = (serial == w.serial || serial == committed_serial done w) && nat_lt w.acked serial
+
+abbrev pub judge_serial : ℕ → ℕ → Held → Result (Unit {0}) AckRefusal
+judge_serial done serial w = if is_due_by done serial w then Ok tt else Err (ack.BadSerial serial w.acked)
+
+abbrev pub judge_ack : ℕ → ℕ → Option Held → Result (Unit {0}) AckRefusal
+judge_ack done serial None = Err ack.NoView
+judge_ack done serial (Some w) = if not w.live then Err ack.NoView else judge_serial done serial w
+
+abbrev pub judge_size : Size → Result (Unit {0}) BufferRefusal
+judge_size size = if is_empty size then Err buffers.Empty else Ok tt
+
+abbrev pub judge_buffer : Buffer → Option Held → Result (Unit {0}) BufferRefusal
+judge_buffer buffer None = Err buffers.NoView
+judge_buffer buffer (Some w) =
+    if not w.live then Err buffers.NoView
+    else judge_size buffer.size
+
 -- the buffer is the answer that transaction n awaited
 abbrev pub answers : ℕ → Held → Held → Bool
 answers n before after = is_unanswered n before && not (is_unanswered n after)
@@ -225,6 +250,13 @@ buffer_found v buffer (Some w) d = record d {
 
 abbrev pub buffered : ConId → Buffer → TxnValue → TxnValue
 buffered v buffer d = buffer_found v buffer (find v d.windows) d
+
+-- the machine after an acknowledgement or a buffer: as it was where it is refused
+abbrev pub ack_step : ConId → ℕ → TxnValue → TxnValue
+ack_step v serial d = if is_ok (judge_ack d.number serial (find v d.windows)) then acked v serial d else d
+
+abbrev pub buffer_step : ℕ → ConId → Buffer → TxnValue → TxnValue
+buffer_step steps v buffer d = if is_ok (judge_buffer buffer (find v d.windows)) then settled steps (buffered v buffer d) else d
 
 -- the deadline names the waiting transaction and comes after its beginning
 abbrev pub is_over : ℕ → ℕ → ℕ → Option Pending → Bool

@@ -1,7 +1,8 @@
 //! What is kept of a window, its last two buffers and its last two configures, and of a transaction that waits.
 ghost use Rattle.std.specs.Prelude.{◌≡◌};
-ghost use Rattle.wm_txn.specs.Machine.{asked_by, buffered_with, committed_serial, held_of, is_unanswered, shown_by};
+ghost use Rattle.wm_txn.specs.Machine.{asked_by, buffered_with, committed_serial, held_of, is_unanswered, judge_serial, shown_by};
 
+use crate::answers::AckRefusal;
 use wm_arrange::Arrangement;
 use wm_base::{Buffer, Size};
 
@@ -80,6 +81,20 @@ impl Held {
         } else {
             self.before
         }
+    }
+
+    /// Why it may not acknowledge the serial where the transactions up to `done` have ended, if it may not.
+    pub(crate) fn judge_ack(&self, done: u64, serial: u64) -> Result<(), AckRefusal>
+        ensures { result ≡ judge_serial done serial self.now }
+    {
+        let due = serial == self.serial || serial == self.committed_serial(done);
+        if due && self.acked < serial {
+            return Ok(());
+        }
+        Err(AckRefusal::BadSerial {
+            asked: serial,
+            last: self.acked,
+        })
     }
 
     /// The window after it gave a buffer, where the transactions up to `done` have ended.

@@ -1,14 +1,15 @@
 //! The machine of transactions: what has ended, what waits, and what came since.
 ghost use Rattle.std.specs.Prelude.{◌≡◌, ◌+◌, ◌<◌, ◌≤◌, ◌^◌, IfOk, OnOk, OnErr};
-ghost use Rattle.wm_txn.specs.Machine.{ack_found, acked, acked_with, arranged, began, buffer_found, buffered, committed, find, finished, followed, is_over, last_prefix, opened, settled, timed_out};
+ghost use Rattle.wm_txn.specs.Machine.{ack_step, arranged, began, buffer_step, buffered, committed, find, finished, followed, is_over, judge_ack, judge_buffer, judge_size, last_prefix, opened, settled, timed_out};
 
+use crate::answers::{AckRefusal, BufferRefusal};
 use crate::held::{Held, Pending};
 use crate::windows::{ask_all, close_all, one_if};
 use std::alloc::Global;
 use std::collections::BTreeMap;
 use std::marker::Model;
 use wm_arrange::Arrangement;
-use wm_base::{Buffer, ConId, NoMemory};
+use wm_base::{Buffer, ConId, NoMemory, Size};
 
 /// Layout transactions. The machine stands for a history: the entries that it took, from an opening on.
 #[derive(Drop)]
@@ -118,18 +119,42 @@ impl Txn {
         self.newest = Some(newest);
     }
 
-    /// The window acknowledges the serial.
-    fn take_ack(&mut self, view: ConId, serial: u64)
-        ensures { self.new ≡ acked view serial self.old }
+    /// Why an acknowledgement is refused, if it is.
+    fn judge_ack(&self, view: ConId, serial: u64) -> Result<(), AckRefusal>
+        ensures { result ≡ judge_ack self.now.number serial (find view self.now.windows) }
     {
+        match self.windows.get(&view.0) {
+            Some(held) if held.live => held.judge_ack(self.number, serial),
+            _ => Err(AckRefusal::NoView),
+        }
+    }
+
+    /// The window acknowledges the serial, unless that is refused.
+    fn take_ack(&mut self, view: ConId, serial: u64) -> Result<(), AckRefusal>
+        ensures value { self.new ≡ ack_step view serial self.old }
+        ensures answer { result ≡ judge_ack self.old.number serial (find view self.old.windows) }
+    {
+        self.judge_ack(view, serial)?;
         if let Some(held) = self.windows.get_mut(&view.0) {
             held.acked = serial;
+        }
+        Ok(())
+    }
+
+    /// Why a buffer is refused, if it is.
+    fn judge_buffer(&self, view: ConId, buffer: Buffer) -> Result<(), BufferRefusal>
+        ensures { result ≡ judge_buffer buffer (find view self.now.windows) }
+    {
+        match self.windows.get(&view.0) {
+            Some(held) if held.live => judge_size(buffer.size),
+            _ => Err(BufferRefusal::NoView),
         }
     }
 
     /// The window gives a buffer.
-    fn take_buffer(&mut self, view: ConId, buffer: Buffer)
-        ensures { self.new ≡ buffered view buffer self.old }
+    fn hold(&mut self, view: ConId, buffer: Buffer)
+        ensures value { self.new ≡ buffered view buffer self.old }
+        ensures same { last_prefix self.new ≡ last_prefix self.old }
     {
         let next = self.number + 1;
         if let Some(held) = self.windows.get_mut(&view.0) {
@@ -139,6 +164,24 @@ impl Txn {
             let answered = before.is_unanswered(next) && !after.is_unanswered(next);
             self.left = self.left.saturating_sub(one_if(answered));
         }
+    }
+
+    /// The window gives a buffer, unless that is refused, and the transactions that it ends do.
+    fn take_buffer(
+        &mut self,
+        steps: u64,
+        view: ConId,
+        buffer: Buffer,
+    ) -> Result<(), BufferRefusal>
+        requires later { last_prefix self.old < steps }
+        requires few { steps ≤ 2 ^ 48 }
+        ensures value { self.new ≡ buffer_step steps view buffer self.old }
+        ensures answer { result ≡ judge_buffer buffer (find view self.old.windows) }
+    {
+        self.judge_buffer(view, buffer)?;
+        self.hold(view, buffer);
+        self.settle(steps);
+        Ok(())
     }
 
     /// Whether a deadline at this place names the waiting transaction and comes after its beginning.
@@ -151,13 +194,26 @@ impl Txn {
         }
     }
 
-    /// The waiting transaction ends.
-    fn time_out(&mut self, steps: u64)
-        requires later { last_prefix self.old < steps }
-        requires few { steps ≤ 2 ^ 48 }
-        ensures { self.new ≡ settled steps (record self.old { left = 0 }) }
+    /// The waiting transaction ends where a deadline at this place is its own.
+    fn time_out(&mut self, place: u64, number: u64)
+        requires later { last_prefix self.old ≤ place }
+        requires few { place < 2 ^ 48 }
+        ensures { self.new ≡ timed_out place number self.old }
     {
-        self.left = 0;
-        self.settle(steps);
+        if self.is_over(place, number) {
+            self.left = 0;
+            self.settle(place + 1);
+        }
+    }
+}
+
+/// Whether a buffer of this size is refused.
+fn judge_size(size: Size) -> Result<(), BufferRefusal>
+    ensures { result ≡ judge_size size }
+{
+    if size.w == 0 || size.h == 0 {
+        Err(BufferRefusal::Empty)
+    } else {
+        Ok(())
     }
 }
