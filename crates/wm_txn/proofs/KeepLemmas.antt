@@ -69,15 +69,15 @@ agree_still o history v = record { opens = refl; lasts = refl; buffers = λ n. r
 pub agree_deadline : (o : Opening) (history : List Entry) (number : ℕ) (v : ConId) → Agree o history (Deadline number ∷ history) v
 agree_deadline o history number v = record { opens = refl; lasts = refl; buffers = λ n. refl; gifts = λ n. refl }
 
-agree_acked : (o : Opening) (history : List Entry) (c : ConId) (serial : ℕ) (v : ConId) → same c v ≡ false → Agree o history (Acked c serial ∷ history) v
+pub agree_acked : (o : Opening) (history : List Entry) (c : ConId) (serial : ℕ) (v : ConId) → same c v ≡ false → Agree o history (Acked c serial ∷ history) v
 agree_acked o history c serial v other = record { opens = refl; lasts = rw other refl; buffers = λ n. refl; gifts = λ n. refl }
 
-agree_gave : (o : Opening) (history : List Entry) (c : ConId) (buffer : Buffer) (v : ConId) → same c v ≡ false → Agree o history (Gave c buffer ∷ history) v
+pub agree_gave : (o : Opening) (history : List Entry) (c : ConId) (buffer : Buffer) (v : ConId) → same c v ≡ false → Agree o history (Gave c buffer ∷ history) v
 agree_gave o history c buffer v other = record { opens = refl; lasts = refl; buffers = λ n. rw other refl; gifts = λ n. rw other refl }
 
 -- ---- a window that acknowledges
 
-held_acked : (o : Opening) (history : List Entry) (turns begun : List Turn) (v : ConId) (serial : ℕ) (w : Held) → IsHeld o history turns begun v w → w.acked < serial → serial ≤ w.serial
+pub held_acked : (o : Opening) (history : List Entry) (turns begun : List Turn) (v : ConId) (serial : ℕ) (w : Held) → IsHeld o history turns begun v w → w.acked < serial → serial ≤ w.serial
     → IsHeld o (Acked v serial ∷ history) turns begun v (acked_with serial w)
 held_acked o history turns begun v serial w h above due = record {
   live_is = h.live_is;
@@ -120,7 +120,7 @@ older_buffer : (o : Opening) (history : List Entry) (turns begun : List Turn) (v
 older_buffer o history turns begun v w h true at = h.newest_is (length turns) (leb-true w.under (length turns) at)
 older_buffer o history turns begun v w h false at = h.older_is (leb-false w.under (length turns) at)
 
-held_buffered : (o : Opening) (history : List Entry) (turns begun : List Turn) (v : ConId) (buffer : Buffer) (number : ℕ) (w : Held) → IsHeld o history turns begun v w → number ≡ length turns → length begun ≤ length turns + 1
+pub held_buffered : (o : Opening) (history : List Entry) (turns begun : List Turn) (v : ConId) (buffer : Buffer) (number : ℕ) (w : Held) → IsHeld o history turns begun v w → number ≡ length turns → length begun ≤ length turns + 1
     → IsHeld o (Gave v buffer ∷ history) turns begun v (buffered_with number buffer w)
 held_buffered o history turns begun v buffer number w h number_is few = record {
   live_is = h.live_is;
