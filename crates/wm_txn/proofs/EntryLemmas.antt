@@ -86,7 +86,7 @@ module _ (o : Opening) (history : List Entry) (d : TxnValue) (s : StandsFor o hi
   unanswered_acked : (n serial : ℕ) (w : Held) → is_unanswered n (acked_with serial w) ≡ is_unanswered n w
   unanswered_acked n serial w = refl
 
-  stands_acked : (v : ConId) (serial : ℕ) (w : Held) → find v d.windows ≡ Some w → w.acked < serial → serial ≤ w.serial → StandsFor o (Acked v serial ∷ history) (record d { windows = put v (acked_with serial w) d.windows })
+  pub stands_acked : (v : ConId) (serial : ℕ) (w : Held) → find v d.windows ≡ Some w → w.acked < serial → serial ≤ w.serial → StandsFor o (Acked v serial ∷ history) (record d { windows = put v (acked_with serial w) d.windows })
   stands_acked v serial w at above due =
       stands_on o history (Acked v serial) d (put v (acked_with serial w) d.windows) d.left d.newest
       (λ turns begun few k. keeps_put o history (Acked v serial ∷ history) turns begun d.number d.prefix d.current.parts v w (acked_with serial w) d.windows at
@@ -107,7 +107,7 @@ module _ (o : Opening) (history : List Entry) (d : TxnValue) (s : StandsFor o hi
       by false false e f = refl
       by false true e f = absurd (omega (arith, ltb-true acked n f, ltb-false under n e))
 
-  stands_buffered : (v : ConId) (buffer : Buffer) (w : Held) → find v d.windows ≡ Some w → (steps : ℕ) → steps ≡ length history + 1
+  pub stands_buffered : (v : ConId) (buffer : Buffer) (w : Held) → find v d.windows ≡ Some w → (steps : ℕ) → steps ≡ length history + 1
       → StandsFor o (Gave v buffer ∷ history) (settled steps (record d { windows = put v (buffered_with d.number buffer w) d.windows; left = d.left - one_if (answers (d.number + 1) w (buffered_with d.number buffer w)) }))
   stands_buffered v buffer w at steps steps_are =
       let new = buffered_with d.number buffer w in

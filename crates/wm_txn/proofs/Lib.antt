@@ -4,6 +4,7 @@ pub mod CloseLemmas
 pub mod EntryLemmas
 pub mod FirstLemmas
 pub mod FollowLemmas
+pub mod JudgeLemmas
 pub mod KeepLemmas
 pub mod NumberLemmas
 pub mod ScheduleLemmas

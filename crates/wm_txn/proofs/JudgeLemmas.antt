@@ -1,0 +1,187 @@
+-- What the machine refuses is what the history refuses.
+use Rattle.std.proofs.Common.{◌≡◌, ℕ, suc, ◌+◌, ◌≤◌, ◌<◌, Bool, true, false, cond, not, ◌&&◌, ◌||◌, eqb, leb, ltb, ◌⊎◌, inl, inr, List, [], ◌∷◌, length, Option, Some, None, is_some, Result, Ok, Err, is_ok, refl, ap, ap₂, sym, ◌∙◌, subst, arith}
+use Rattle.std.proofs.lemmas.Bool.{and_parts, and_right, eqb-true, leb-false, leb-true, ltb-true, ne_eqb, or_cases}
+use Rattle.std.proofs.lemmas.Bool.Decides.{nat_tests}
+use Rattle.std.specs.Option.{option_map}
+use Rattle.wm_base.specs.declared.geometry.Size.{Size}
+use Rattle.wm_base.specs.declared.ids.Buffer.{Buffer}
+use Rattle.wm_base.specs.declared.ids.ConId.{ConId}
+use Rattle.wm_arrange.specs.Sizes.{content_size}
+use Rattle.wm_txn.specs.Commits.{begun_turns, ended_turns}
+use Rattle.wm_txn.specs.Heard.{ack_answer, buffer_answer, hear, is_due, is_empty, is_serial}
+use Rattle.wm_txn.specs.History.{Opening, Entry, Acked, Gave, Still, is_open, last}
+use Rattle.wm_txn.specs.Machine.{TxnValue, ack_found, ack_step, buffer_found, buffer_step, committed_serial, find, is_due_by, judge_ack, judge_buffer, judge_serial, judge_size, settled}
+use Rattle.wm_txn.specs.Schedule.{Turn, configure, configures, is_new}
+use Rattle.wm_txn.specs.Stands.{IsHeld, IsKept, Keeps, StandsFor, configure_of, serial_of}
+use Rattle.wm_txn.specs.declared.held.Held.{Held}
+use Rattle.wm_txn.proofs.AnswerLemmas.{configure_le, serial_is}
+use Rattle.wm_txn.proofs.EntryLemmas.{stands_acked, stands_buffered, stands_still}
+use Rattle.wm_txn.proofs.NumberLemmas.{Numbers, numbers_idle, numbers_waiting}
+use Rattle.wm_txn.proofs.StepLemmas.{Pends, Rests, known}
+
+-- one more transaction has begun than has ended, or none
+abbrev pub OneMore : List Turn → List Turn → Type 0
+OneMore turns begun = (begun ≡ turns) ⊎ ((t : Turn) × (begun ≡ t ∷ turns))
+
+-- what the machine knows of the history
+pub record Sees (o : Opening) (history : List Entry) (d : TxnValue) : Type 0 where
+  pub turns : List Turn
+  pub begun : List Turn
+  pub keeps : Keeps o history turns begun d.number d.prefix d.current.parts d.windows
+  pub numbers : Numbers o history turns begun
+  pub one_more : OneMore turns begun
+
+pub sees : (o : Opening) (history : List Entry) (d : TxnValue) → StandsFor o history d → Sees o history d
+sees o history d s = elim (known o history d s) [
+    | inl r ↦ record { turns = r.0; begun = r.0; keeps = r.1.keeps; numbers = numbers_idle o history r.0 r.1.idle_is.done r.1.idle_is r.1.within; one_more = inl refl }
+    | inr w ↦ record { turns = w.0; begun = w.1 ∷ w.0; keeps = w.3.keeps; numbers = numbers_waiting o history w.0 w.3.waiting_is.done w.1 w.3.waiting_is w.3.within; one_more = inr (w.1, refl) }
+  ]
+
+-- ---- serials
+
+mapped_serial : (n : ℕ) (found : Option Size) (b : Bool) (before : Option (ℕ × Size)) (serial : ℕ) → serial_of (cond b (option_map (λ s. (n, s)) found) before) ≡ serial → (b ≡ true → is_some found ≡ true) → serial < n → serial_of before ≡ serial
+mapped_serial n found false before serial h some below = h
+mapped_serial n (Some s) true before serial h some below = let e : n ≡ serial = h in absurd (omega arith)
+mapped_serial n None true before serial h some below = let bad : false ≡ true = some refl in cc
+
+new_content : (found : Option Size) (before : Option (ℕ × Size)) → is_new found before ≡ true → is_some found ≡ true
+new_content None before h = h
+new_content (Some s) before h = refl
+
+committed_by : (o : Opening) (history : List Entry) (turns begun : List Turn) (v : ConId) (w : Held) → IsHeld o history turns begun v w → OneMore turns begun → (b : Bool) → leb w.serial (length turns) ≡ b → serial_of (configure v turns) ≡ cond b w.serial w.before
+committed_by o history turns begun v w h more false late = h.before_is (leb-false w.serial (length turns) late)
+committed_by o history turns begun v w h (inl same_turns) true early = ap (λ z. serial_of (configure v z)) (sym same_turns) ∙ (ap serial_of h.latest_is ∙ serial_is w.serial w.size)
+committed_by o history turns begun v w h (inr one) true early =
+    let latest : serial_of (configure v (one.0 ∷ turns)) ≡ w.serial = ap (λ z. serial_of (configure v z)) (sym one.1) ∙ (ap serial_of h.latest_is ∙ serial_is w.serial w.size) in
+    let below = leb-true w.serial (length turns) early in
+    mapped_serial (length turns + 1) (content_size v one.0.parts) (configures turns one.0.parts v) (configure v turns) w.serial latest (new_content (content_size v one.0.parts) (configure v turns)) (omega arith)
+
+serial_below : (v : ConId) (turns : List Turn) (found : Option (ℕ × Size)) → configure v turns ≡ found → serial_of found ≤ length turns
+serial_below v turns None at = omega arith
+serial_below v turns (Some c) at = configure_le v turns c.0 c.1 at
+
+asked_serial : (serial : ℕ) (found : Option (ℕ × Size)) → 0 < serial → is_serial serial found ≡ eqb serial (serial_of found)
+asked_serial serial None above = sym (ne_eqb serial 0 (λ e. omega arith))
+asked_serial serial (Some c) above = grind (arith, nat_tests)
+
+module _ (o : Opening) (history : List Entry) (d : TxnValue) (e : Sees o history d) (v : ConId) (w : Held) (at : find v d.windows ≡ Some w) where
+  held_there : IsHeld o history e.turns e.begun v w
+  held_there = subst (IsKept o history e.turns e.begun v) at (e.keeps.each v)
+
+  committed_there : serial_of (configure v e.turns) ≡ committed_serial d.number w
+  committed_there = committed_by o history e.turns e.begun v w held_there e.one_more (leb w.serial (length e.turns)) refl ∙ ap (λ z. committed_serial z w) (sym e.keeps.number_is)
+
+  due_step : (serial : ℕ) (b : Bool) → ltb w.acked serial ≡ b → is_due o v serial history ≡ is_due_by d.number serial w
+  due_step serial false late =
+      rw (held_there.last_is, late) (and_right (is_serial serial (configure v (begun_turns o history)) || is_serial serial (configure v (ended_turns o history))) false refl ∙ sym (and_right (eqb serial w.serial || eqb serial (committed_serial d.number w)) false refl))
+  due_step serial true early =
+      let above : 0 < serial = omega (arith, ltb-true w.acked serial early) in
+      let latest : is_serial serial (configure v (begun_turns o history)) ≡ eqb serial w.serial =
+              asked_serial serial (configure v (begun_turns o history)) above ∙ ap (eqb serial) (ap (λ z. serial_of (configure v z)) e.numbers.begun_are ∙ (ap serial_of held_there.latest_is ∙ serial_is w.serial w.size)) in
+      let ended_one : is_serial serial (configure v (ended_turns o history)) ≡ eqb serial (committed_serial d.number w) =
+              asked_serial serial (configure v (ended_turns o history)) above ∙ ap (eqb serial) (ap (λ z. serial_of (configure v z)) e.numbers.ended_are ∙ committed_there) in
+      rw (latest, ended_one, held_there.last_is) refl
+
+  pub due_is : (serial : ℕ) → is_due o v serial history ≡ is_due_by d.number serial w
+  due_is serial = due_step serial (ltb w.acked serial) refl
+
+  committed_le : committed_serial d.number w ≤ w.serial
+  committed_le = by (leb w.serial d.number) refl
+    where
+      by : (b : Bool) → leb w.serial d.number ≡ b → cond b w.serial w.before ≤ w.serial
+      by true early = omega arith
+      by false late =
+          let above = leb-false w.serial d.number late in
+          let number = e.keeps.number_is in
+          let before = held_there.before_is (omega arith) in
+          let below = serial_below v e.turns (configure v e.turns) refl in
+          omega arith
+
+  due_bounds : (serial : ℕ) → is_due_by d.number serial w ≡ true → (w.acked < serial) × (serial ≤ w.serial)
+  due_bounds serial due =
+      let p = and_parts (eqb serial w.serial || eqb serial (committed_serial d.number w)) (ltb w.acked serial) due in
+      let le : serial ≤ w.serial = elim (or_cases (eqb serial w.serial) (eqb serial (committed_serial d.number w)) p.0) [
+            | inl latest ↦ let q = eqb-true serial w.serial latest in omega arith
+            | inr ended_one ↦ let q = eqb-true serial (committed_serial d.number w) ended_one in let c = committed_le in omega arith
+          ] in
+      (ltb-true w.acked serial p.1, le)
+
+-- ---- acknowledgements
+
+module _ (o : Opening) (history : List Entry) (d : TxnValue) (s : StandsFor o history d) (v : ConId) where
+  taken : (entry heard_one : Entry) (new : TxnValue) (b : Bool) → heard_one ≡ entry → b ≡ true → StandsFor o (entry ∷ history) new → StandsFor o (heard_one ∷ history) (cond b new d)
+  taken entry heard_one new b heard_it ok stood =
+      let After : Entry → Type 0 = λ z. StandsFor o (z ∷ history) (cond b new d) in
+      let New : Bool → Type 0 = λ z. StandsFor o (entry ∷ history) (cond z new d) in
+      subst After (sym heard_it) (subst New (sym ok) stood)
+
+  ack_known : (serial : ℕ) (w : Held) → find v d.windows ≡ Some w → (live due : Bool) → w.live ≡ live → is_due_by d.number serial w ≡ due
+      → (judge_ack d.number serial (Some w) ≡ ack_answer o v serial history) × StandsFor o (hear o (Acked v serial) history ∷ history) (cond (is_ok (judge_ack d.number serial (Some w))) (ack_found v serial (Some w) d) d)
+  ack_known serial w at live due is_it due_it = by live due is_it due_it
+    where
+      e : Sees o history d
+      e = sees o history d s
+
+      opens : is_open o v history ≡ w.live
+      opens = (held_there o history d e v w at).live_is
+
+      due_here : is_due o v serial history ≡ is_due_by d.number serial w
+      due_here = due_is o history d e v w at serial
+
+      by : (live due : Bool) → w.live ≡ live → is_due_by d.number serial w ≡ due
+          → (judge_ack d.number serial (Some w) ≡ ack_answer o v serial history) × StandsFor o (hear o (Acked v serial) history ∷ history) (cond (is_ok (judge_ack d.number serial (Some w))) (ack_found v serial (Some w) d) d)
+      by false due is_it due_it = (rw (opens, is_it) refl, rw (opens, is_it) (stands_still o history d s))
+      by true false is_it due_it = (rw (opens, is_it, due_here, due_it, (held_there o history d e v w at).last_is) refl, rw (opens, is_it, due_here, due_it) (stands_still o history d s))
+      by true true is_it due_it =
+          let bounds = due_bounds o history d e v w at serial due_it in
+          let answer : judge_ack d.number serial (Some w) ≡ Ok tt = rw (is_it, due_it) refl in
+          let heard_it : hear o (Acked v serial) history ≡ Acked v serial = rw (opens, is_it, due_here, due_it) refl in
+          (rw (opens, is_it, due_here, due_it) refl,
+            taken (Acked v serial) (hear o (Acked v serial) history) (ack_found v serial (Some w) d) (is_ok (judge_ack d.number serial (Some w))) heard_it (ap is_ok answer) (stands_acked o history d s v serial w at bounds.0 bounds.1))
+
+  ack_found_there : (serial : ℕ) (found : Option Held) → find v d.windows ≡ found
+      → (judge_ack d.number serial found ≡ ack_answer o v serial history) × StandsFor o (hear o (Acked v serial) history ∷ history) (cond (is_ok (judge_ack d.number serial found)) (ack_found v serial found d) d)
+  ack_found_there serial None at =
+      let e = sees o history d s in
+      let unknown = subst (IsKept o history e.turns e.begun v) at (e.keeps.each v) in
+      let closed : is_open o v history ≡ false = unknown.not_open in
+      (rw closed refl, rw closed (stands_still o history d s))
+  ack_found_there serial (Some w) at = ack_known serial w at w.live (is_due_by d.number serial w) refl refl
+
+  -- an acknowledgement is answered as the history says
+  pub ack_is : (serial : ℕ) → judge_ack d.number serial (find v d.windows) ≡ ack_answer o v serial history
+  ack_is serial = (ack_found_there serial (find v d.windows) refl).0
+
+  pub stands_ack : (serial : ℕ) → StandsFor o (hear o (Acked v serial) history ∷ history) (ack_step v serial d)
+  stands_ack serial = (ack_found_there serial (find v d.windows) refl).1
+
+  -- ---- buffers
+
+  buffer_known : (steps : ℕ) → steps ≡ length history + 1 → (buffer : Buffer) (w : Held) → find v d.windows ≡ Some w → is_open o v history ≡ w.live → (live empty : Bool) → w.live ≡ live → is_empty buffer.size ≡ empty
+      → (judge_buffer buffer (Some w) ≡ buffer_answer o v buffer history) × StandsFor o (hear o (Gave v buffer) history ∷ history) (cond (is_ok (judge_buffer buffer (Some w))) (settled steps (buffer_found v buffer (Some w) d)) d)
+  buffer_known steps steps_are buffer w at opens false empty is_it size = (rw (opens, is_it) refl, rw (opens, is_it) (stands_still o history d s))
+  buffer_known steps steps_are buffer w at opens true true is_it size = (rw (opens, is_it, size) refl, rw (opens, is_it, size) (stands_still o history d s))
+  buffer_known steps steps_are buffer w at opens true false is_it size =
+      let answer : judge_buffer buffer (Some w) ≡ Ok tt = rw (is_it, size) refl in
+      let heard_it : hear o (Gave v buffer) history ≡ Gave v buffer = rw (opens, is_it, size) refl in
+      (rw (opens, is_it, size) refl,
+        taken (Gave v buffer) (hear o (Gave v buffer) history) (settled steps (buffer_found v buffer (Some w) d)) (is_ok (judge_buffer buffer (Some w))) heard_it (ap is_ok answer) (stands_buffered o history d s v buffer w at steps steps_are))
+
+  buffer_found_there : (steps : ℕ) → steps ≡ length history + 1 → (buffer : Buffer) (found : Option Held) → find v d.windows ≡ found
+      → (judge_buffer buffer found ≡ buffer_answer o v buffer history) × StandsFor o (hear o (Gave v buffer) history ∷ history) (cond (is_ok (judge_buffer buffer found)) (settled steps (buffer_found v buffer found d)) d)
+  buffer_found_there steps steps_are buffer None at =
+      let e = sees o history d s in
+      let unknown = subst (IsKept o history e.turns e.begun v) at (e.keeps.each v) in
+      let closed : is_open o v history ≡ false = unknown.not_open in
+      (rw closed refl, rw closed (stands_still o history d s))
+  buffer_found_there steps steps_are buffer (Some w) at =
+      let e = sees o history d s in
+      let held = subst (IsKept o history e.turns e.begun v) at (e.keeps.each v) in
+      buffer_known steps steps_are buffer w at held.live_is w.live (is_empty buffer.size) refl refl
+
+  -- a buffer is answered as the history says
+  pub buffer_is : (buffer : Buffer) → judge_buffer buffer (find v d.windows) ≡ buffer_answer o v buffer history
+  buffer_is buffer = (buffer_found_there (length history + 1) refl buffer (find v d.windows) refl).0
+
+  pub stands_buffer : (steps : ℕ) → steps ≡ length history + 1 → (buffer : Buffer) → StandsFor o (hear o (Gave v buffer) history ∷ history) (buffer_step steps v buffer d)
+  stands_buffer steps steps_are buffer = (buffer_found_there steps steps_are buffer (find v d.windows) refl).1
