@@ -7,6 +7,7 @@ pub mod FollowLemmas
 pub mod JudgeLemmas
 pub mod KeepLemmas
 pub mod NumberLemmas
+pub mod OpeningLemmas
 pub mod ScheduleLemmas
 pub mod SettleLemmas
 pub mod StepLemmas

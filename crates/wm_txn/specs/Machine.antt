@@ -3,7 +3,8 @@ use Rattle.std.specs.Prelude.{◌≡◌, ℕ, zero, suc, ◌+◌, ◌-◌, ◌==
 use Rattle.std.specs.BTreeMap.{insert_entry, is_at}
 use Rattle.std.specs.Coded.{Coded, code_by, coded×, coded_ℕ, coded_list, coded_option}
 use Rattle.std.specs.List.{list_any}
-use Rattle.std.specs.Map.{lookup, set_value}
+use Rattle.std.specs.List.Sorted.{IsStrictlySortedBy}
+use Rattle.std.specs.Map.{keys_of, lookup, set_value}
 use Rattle.std.specs.Ordering.{nat_cmp}
 use Rattle.wm_base.specs.declared.geometry.Size.{Size}
 use Rattle.wm_base.specs.declared.ids.Buffer.{Buffer}
@@ -57,6 +58,10 @@ acked_with serial w = record w { acked = serial }
 
 abbrev pub Windows : Type 0
 Windows = List (ℕ × Held)
+
+-- the ids rise
+abbrev pub AreSorted : Windows → Type 0
+AreSorted windows = IsStrictlySortedBy nat_cmp (keys_of windows)
 
 abbrev pub find : ConId → Windows → Option Held
 find v windows = lookup (is_at (nat_cmp v.0)) windows
@@ -143,6 +148,9 @@ stays_open fresh gone windows v = (is_fresh v fresh || is_live (find v windows))
 abbrev pub IsNewcomer : Option (ConId × Buffer) → Windows → Type 0
 IsNewcomer None windows = Unit {0}
 IsNewcomer (Some window) windows = find window.0 windows ≡ None
+
+abbrev pub HasNoContent : List Placed → Type 0
+HasNoContent parts = (v : ConId) → content_size v parts ≡ None
 
 -- each content of the parts is of an open window
 abbrev pub ShowsOpen : List Placed → Option (ConId × Buffer) → List ConId → Windows → Type 0

@@ -1,6 +1,6 @@
 //! The machine of transactions: what has ended, what waits, and what came since.
 ghost use Rattle.std.specs.Prelude.{◌≡◌, ◌+◌, ◌<◌, ◌≤◌, ◌^◌, IfOk, OnOk, OnErr};
-ghost use Rattle.wm_txn.specs.Machine.{ack_step, arranged, began, buffer_step, buffered, committed, find, finished, followed, is_over, judge_ack, judge_buffer, judge_size, last_prefix, opened, settled, timed_out};
+ghost use Rattle.wm_txn.specs.Machine.{AreSorted, ack_step, arranged, began, buffer_step, buffered, committed, find, finished, followed, is_over, judge_ack, judge_buffer, judge_size, last_prefix, opened, settled, timed_out};
 
 use crate::answers::{AckRefusal, BufferRefusal};
 use crate::held::{Held, Pending};
@@ -14,13 +14,13 @@ use wm_base::{Buffer, ConId, NoMemory, Size};
 /// Layout transactions. The machine stands for a history: the entries that it took, from an opening on.
 #[derive(Drop)]
 pub struct Txn {
-    windows: BTreeMap<u32, Held>,
-    number: u64,
-    prefix: u64,
-    current: Arrangement,
-    waiting: Option<Pending>,
-    newest: Option<Arrangement>,
-    left: u64,
+    pub(crate) windows: BTreeMap<u32, Held>,
+    pub(crate) number: u64,
+    pub(crate) prefix: u64,
+    pub(crate) current: Arrangement,
+    pub(crate) waiting: Option<Pending>,
+    pub(crate) newest: Option<Arrangement>,
+    pub(crate) left: u64,
 }
 
 impl Model for Txn {
@@ -88,7 +88,7 @@ impl Txn {
     }
 
     /// Ends the waiting transaction where all have answered, and begins the next one.
-    fn settle(&mut self, steps: u64)
+    pub(crate) fn settle(&mut self, steps: u64)
         requires later { last_prefix self.old < steps }
         requires few { steps ≤ 2 ^ 48 }
         ensures { self.new ≡ settled steps self.old }
@@ -100,8 +100,10 @@ impl Txn {
     }
 
     /// Maps a window.
-    fn open(&mut self, fresh: Option<(ConId, Buffer)>) -> Result<(), NoMemory>
+    pub(crate) fn open(&mut self, fresh: Option<(ConId, Buffer)>) -> Result<(), NoMemory>
         ensures ok { OnOk result (self.new ≡ opened fresh self.old) }
+        ensures same { last_prefix self.new ≡ last_prefix self.old }
+        ensures sorted { AreSorted self.old.windows → OnOk result (AreSorted self.new.windows) }
         ensures err { OnErr result (self.new ≡ self.old) }
     {
         if let Some((con, buffer)) = fresh {
@@ -111,8 +113,9 @@ impl Txn {
     }
 
     /// Takes an arrangement, and closes the windows that are gone.
-    fn arrange(&mut self, newest: Arrangement, gone: &[ConId])
-        ensures { self.new ≡ arranged newest gone.now self.old }
+    pub(crate) fn arrange(&mut self, newest: Arrangement, gone: &[ConId])
+        ensures value { self.new ≡ arranged newest gone.now self.old }
+        ensures same { last_prefix self.new ≡ last_prefix self.old }
     {
         let closed = close_all(&mut self.windows, gone, self.number + 1);
         self.left = self.left.saturating_sub(closed);
@@ -130,7 +133,7 @@ impl Txn {
     }
 
     /// The window acknowledges the serial, unless that is refused.
-    fn take_ack(&mut self, view: ConId, serial: u64) -> Result<(), AckRefusal>
+    pub(crate) fn take_ack(&mut self, view: ConId, serial: u64) -> Result<(), AckRefusal>
         ensures value { self.new ≡ ack_step view serial self.old }
         ensures answer { result ≡ judge_ack self.old.number serial (find view self.old.windows) }
     {
@@ -167,7 +170,7 @@ impl Txn {
     }
 
     /// The window gives a buffer, unless that is refused, and the transactions that it ends do.
-    fn take_buffer(
+    pub(crate) fn take_buffer(
         &mut self,
         steps: u64,
         view: ConId,
@@ -195,7 +198,7 @@ impl Txn {
     }
 
     /// The waiting transaction ends where a deadline at this place is its own.
-    fn time_out(&mut self, place: u64, number: u64)
+    pub(crate) fn time_out(&mut self, place: u64, number: u64)
         requires later { last_prefix self.old ≤ place }
         requires few { place < 2 ^ 48 }
         ensures { self.new ≡ timed_out place number self.old }

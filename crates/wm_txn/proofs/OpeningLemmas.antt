@@ -1,0 +1,51 @@
+-- The machine at its beginning, and how long what was heard is.
+use Rattle.std.proofs.Common.{◌≡◌, ℕ, suc, ◌+◌, ◌≤◌, ◌<◌, Bool, true, false, cond, not, eqb, leb, List, [], ◌∷◌, length, Option, Some, None, is_some, refl, ap, sym, ◌∙◌, subst, arith}
+use Rattle.wm_base.specs.declared.ids.ConId.{ConId}
+use Rattle.wm_arrange.specs.declared.parts.Arrangement.{Arrangement}
+use Rattle.wm_arrange.specs.declared.parts.Placed.{Placed}
+use Rattle.wm_arrange.specs.Same.{same_parts}
+use Rattle.wm_arrange.specs.Sizes.{content_size}
+use Rattle.wm_txn.specs.Heard.{heard}
+use Rattle.wm_txn.specs.History.{Opening, Entry}
+use Rattle.wm_txn.specs.Machine.{TxnValue, AreSorted, HasNoContent, Windows, find}
+use Rattle.wm_txn.specs.Schedule.{Turn, past}
+use Rattle.wm_txn.specs.Stands.{AreOpen, IsIdle, IsKept, IsNewest, Keeps, Stands, StandsFor}
+use Rattle.wm_txn.proofs.SettleLemmas.{same_itself}
+
+-- as much is heard as there are entries
+pub heard_length : (o : Opening) (history : List Entry) → length (heard o history) ≡ length history
+heard_length o [] = refl
+heard_length o (entry ∷ history) = ap suc (heard_length o history)
+
+none_open : (o : Opening) → HasNoContent o.parts → AreOpen o []
+none_open o none v there = let bad : false ≡ true = sym (ap is_some (none v)) ∙ there in cc
+
+abbrev bare : Arrangement → Windows → TxnValue
+bare first windows = record { windows = windows; number = 0; prefix = 0; current = first; waiting = None; newest = None; left = 0 }
+
+idle_start : (o : Opening) → IsIdle o [] []
+idle_start o = record {
+  done = record { past_is = refl; place = []; ended_at = refl; within = omega arith };
+  none = rw (same_itself o.parts) refl;
+}
+
+-- a machine without windows stands for the history without entries
+pub stands_start : (first : Arrangement) (windows : Windows) → HasNoContent first.parts → windows ≡ [] → AreSorted windows → Stands (record { parts = first.parts; windows = [] }) [] (bare first windows)
+stands_start first windows none no_windows sorted =
+    let o : Opening = record { parts = first.parts; windows = [] } in
+    let Kept : Windows → Type 0 = λ z. (v : ConId) → IsKept o [] [] [] v (find v z) in
+    record {
+      turns = [];
+      begun = [];
+      keeps = record {
+        number_is = refl;
+        prefix_is = refl;
+        current_is = refl;
+        each = subst Kept (sym no_windows) (λ v. record { not_open = refl; no_last = refl; no_configure = refl; no_buffer = λ n. refl; no_gift = λ n. refl });
+        sorted = sorted;
+        open_contents = none_open o none;
+      };
+      newest_is = same_itself first.parts;
+      schedule = record { begun_are = refl; idle_is = idle_start o; none_newest = refl; none_left = refl };
+      within = omega arith;
+    }

@@ -1,0 +1,88 @@
+//! What callers do to the transactions.
+ghost use Rattle.std.specs.Prelude.{◌≡◌, ◌+◌, ◌<◌, ◌≤◌, ◌^◌, List, ◌∷◌, [], length, IfOk, OnOk, OnErr, is_some};
+ghost use Rattle.wm_txn.specs.Heard.{ack_answer, buffer_answer, heard};
+ghost use Rattle.wm_txn.specs.History.{Opening, Entry, Acked, Arranged, Deadline, Gave};
+ghost use Rattle.wm_txn.specs.Machine.{HasNoContent, IsNewcomer, ShowsOpen, last_prefix};
+ghost use Rattle.wm_txn.specs.Stands.{Stands};
+
+use crate::answers::{AckRefusal, BufferRefusal};
+use crate::txn::Txn;
+use std::alloc::Global;
+use std::collections::BTreeMap;
+use wm_arrange::Arrangement;
+use wm_base::{Buffer, ConId, NoMemory};
+
+impl Txn {
+    /// Transactions that begin with an arrangement without windows, which is done.
+    pub fn start(alloc: Global, first: Arrangement) -> Result<Txn, NoMemory>
+        requires { HasNoContent first.parts }
+        ensures { IfOk result (λ txn. Stands (record { parts = first.parts; windows = [] }) [] txn) }
+    {
+        Ok(Txn {
+            windows: BTreeMap::new(alloc),
+            number: 0,
+            prefix: 0,
+            current: first,
+            waiting: None,
+            newest: None,
+            left: 0,
+        })
+    }
+
+    /// Takes the arrangement after an entry, the window that it mapped with its buffer, and the windows that it closed.
+    /// After an `Err` nothing has changed.
+    pub fn admit(
+        &mut self,
+        place: u64,
+        newest: Arrangement,
+        fresh: Option<(ConId, Buffer)>,
+        gone: &[ConId],
+    ) -> Result<(), NoMemory>
+        requires few { place < 2 ^ 48 }
+        requires rises { last_prefix self.old ≤ place }
+        requires new { IsNewcomer fresh self.old.windows }
+        requires shows { ShowsOpen newest.parts fresh gone.now self.old.windows }
+        ensures stands { (o : Opening) → (history : List Entry) → length history ≡ place → Stands o history self.old →
+            OnOk result (Stands o (Arranged newest.parts fresh gone.now ∷ history) self.new) }
+        ensures err { OnErr result (self.new ≡ self.old) }
+    {
+        self.open(fresh)?;
+        self.arrange(newest, gone);
+        self.settle(place + 1);
+        Ok(())
+    }
+
+    /// The client of a window acknowledges a serial.
+    pub fn ack(&mut self, view: ConId, serial: u64) -> Result<(), AckRefusal>
+        ensures answer { (o : Opening) → (history : List Entry) → Stands o history self.old →
+            result ≡ ack_answer o view serial (heard o history) }
+        ensures stands { (o : Opening) → (history : List Entry) → Stands o history self.old →
+            Stands o (Acked view serial ∷ history) self.new }
+        ensures err { OnErr result (self.new ≡ self.old) }
+    {
+        self.take_ack(view, serial)
+    }
+
+    /// The client of a window gives a buffer.
+    pub fn buffer(&mut self, place: u64, view: ConId, b: Buffer) -> Result<(), BufferRefusal>
+        requires few { place < 2 ^ 48 }
+        requires rises { last_prefix self.old ≤ place }
+        ensures answer { (o : Opening) → (history : List Entry) → Stands o history self.old →
+            result ≡ buffer_answer o view b (heard o history) }
+        ensures stands { (o : Opening) → (history : List Entry) → length history ≡ place → Stands o history self.old →
+            Stands o (Gave view b ∷ history) self.new }
+        ensures err { OnErr result (self.new ≡ self.old) }
+    {
+        self.take_buffer(place + 1, view, b)
+    }
+
+    /// The time of the transaction of this number is over.
+    pub fn deadline(&mut self, place: u64, number: u64)
+        requires few { place < 2 ^ 48 }
+        requires rises { last_prefix self.old ≤ place }
+        ensures { (o : Opening) → (history : List Entry) → length history ≡ place → Stands o history self.old →
+            Stands o (Deadline number ∷ history) self.new }
+    {
+        self.time_out(place, number);
+    }
+}
