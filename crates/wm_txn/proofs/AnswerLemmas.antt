@@ -1,6 +1,6 @@
 -- Those that are awaited have answered exactly where none are left.
 use Rattle.std.proofs.Common.{◌≡◌, ℕ, suc, ◌+◌, ◌≤◌, ◌<◌, Bool, true, false, cond, not, ◌&&◌, ◌||◌, eqb, leb, ltb, ◌⊎◌, inl, inr, ⊎_elim, List, [], ◌∷◌, length, Option, Some, None, is_some, refl, ap, sym, ◌∙◌, subst, arith}
-use Rattle.std.proofs.lemmas.Bool.{eqb-true, eq-eqb, leb-true, ltb-true, lt-ltb, le-ltb, le-leb, lt-leb, and_parts, cases_Bool, cases_lt}
+use Rattle.std.proofs.lemmas.Bool.{eqb-true, eq-eqb, leb-true, ltb-true, lt-ltb, le-ltb, le-leb, lt-leb, and_parts, cases_Bool, cases_lt, false_from_ne_true}
 use Rattle.std.proofs.lemmas.Bool.Decides.{nat_tests}
 use Rattle.std.specs.List.{list_all}
 use Rattle.std.specs.Option.{option_map}
@@ -11,7 +11,7 @@ use Rattle.wm_arrange.specs.declared.parts.Placed.{Placed}
 use Rattle.wm_arrange.specs.Sizes.{content_size, is_content}
 use Rattle.wm_txn.specs.History.{Opening, Entry, is_open, gave}
 use Rattle.wm_txn.specs.Schedule.{Turn, answered, configure, configures, contents, is_new}
-use Rattle.wm_txn.specs.Machine.{Windows, find, is_unanswered, count_unanswered}
+use Rattle.wm_txn.specs.Machine.{Windows, find, is_left, is_unanswered, count_unanswered}
 use Rattle.wm_txn.specs.Stands.{IsHeld, IsUnknown, IsKept, Keeps, configure_of, serial_of}
 use Rattle.wm_txn.specs.declared.held.Held.{Held}
 use Rattle.wm_txn.proofs.WindowLemmas.{one_id, none_left, all_answered}
@@ -25,10 +25,10 @@ has_either : (b : Bool) (size : Size) (rest : Option Size) → is_some rest ≡ 
 has_either true size rest h = refl
 has_either false size rest h = h
 
-has_later : (v : ConId) (p : Placed) (parts : List Placed) → has v parts ≡ true → has v (p ∷ parts) ≡ true
+pub has_later : (v : ConId) (p : Placed) (parts : List Placed) → has v parts ≡ true → has v (p ∷ parts) ≡ true
 has_later v p parts h = has_either (same p.con v && is_content p.part) _ (content_size v parts) h
 
-has_here : (p : Placed) (parts : List Placed) → is_content p.part ≡ true → has p.con (p ∷ parts) ≡ true
+pub has_here : (p : Placed) (parts : List Placed) → is_content p.part ≡ true → has p.con (p ∷ parts) ≡ true
 has_here p parts content = rw (eq-eqb p.con.0 p.con.0 refl, content) refl
 
 module _ (c test : ConId → Bool) where
@@ -161,3 +161,31 @@ module _ (o : Opening) (history : List Entry) (turns : List Turn) (t : Turn) (wi
       tests : (b : Bool) (m : ℕ) → (m ≡ 0 → b ≡ true) → (b ≡ true → m ≡ 0) → b ≡ eqb m 0
       tests true m forth back = sym (eq-eqb m 0 (back refl))
       tests false m forth back = grind (arith, nat_tests, forth)
+
+  left_step : (v : ConId) (w : Held) → IsHeld o history turns (t ∷ turns) v w → (b : Bool) → configures turns t.parts v ≡ b → (b && not (answered o (length turns + 1) history v)) ≡ is_unanswered (length turns + 1) w
+  left_step v w kept true asked =
+      let n = length turns + 1 in
+      let number = new_serial n (content_size v t.parts) (configures turns t.parts v) (configure v turns) (new_some (content_size v t.parts) (configure v turns) asked) asked in
+      let serial : w.serial ≡ n = sym (serial_is w.serial w.size) ∙ (ap serial_of (sym kept.latest_is) ∙ number) in
+      rw (kept.gave_is n (omega arith), kept.live_is, eq-eqb w.serial n serial) (negated w.live w.under n)
+    where
+      negated : (live : Bool) (under n : ℕ) → not (leb n under || not live) ≡ (live && ltb under n)
+      negated live under n = grind (arith, nat_tests)
+  left_step v w kept false other = sym (false_from_ne_true (is_unanswered (length turns + 1) w) (λ left.
+      let n = length turns + 1 in
+      let p = unanswered_parts w.live w.serial w.under n left in
+      let latest : configure v (t ∷ turns) ≡ Some (n, w.size) = kept.latest_is ∙ some_serial n w.serial w.size p.1 (omega arith) in
+      let asked : configures turns t.parts v ≡ true = new_by_number n (content_size v t.parts) (configures turns t.parts v) (configure v turns) w.size latest
+              (λ before. let l = configure_le v turns n w.size before in omega arith) in
+      let bad : true ≡ false = sym asked ∙ other in
+      cc))
+
+  -- a window is left exactly where it is configured and has not answered
+  pub is_left_where : (v : ConId) (found : Option Held) → IsKept o history turns (t ∷ turns) v found → (configures turns t.parts v && not (answered o (length turns + 1) history v)) ≡ is_left (length turns + 1) found
+  is_left_where v None kept = rw kept.not_open (none (configures turns t.parts v) (gave (length turns + 1) v history))
+    where
+      none : (a b : Bool) → (a && not (b || true)) ≡ false
+      none true true = refl
+      none true false = refl
+      none false b = refl
+  is_left_where v (Some w) kept = left_step v w kept (configures turns t.parts v) refl

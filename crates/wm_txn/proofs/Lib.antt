@@ -6,8 +6,10 @@ pub mod FirstLemmas
 pub mod FollowLemmas
 pub mod JudgeLemmas
 pub mod KeepLemmas
+pub mod LeastLemmas
 pub mod NumberLemmas
 pub mod OpeningLemmas
+pub mod ReadingLemmas
 pub mod ScheduleLemmas
 pub mod SettleLemmas
 pub mod StepLemmas

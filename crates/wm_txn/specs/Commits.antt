@@ -1,5 +1,5 @@
 -- Commits: the last transaction that has ended, the one that waits, and what each window shows.
-use Rattle.std.specs.Prelude.{ℕ, zero, suc, ◌==◌, Bool, true, false, not, if◌then◌else◌, List, [], ◌∷◌, length, Option, None, Some, is_some, unwrap_or}
+use Rattle.std.specs.Prelude.{ℕ, zero, suc, ◌+◌, ◌==◌, Bool, true, false, not, if◌then◌else◌, List, [], ◌∷◌, length, Option, None, Some, is_some, unwrap_or}
 use Rattle.std.specs.Option.{option_map, option_and_then}
 use Rattle.std.specs.Prelude.{nat_le}
 use Rattle.wm_base.specs.declared.geometry.Size.{Size}
@@ -77,7 +77,7 @@ waiting_for o n history t =
 
 abbrev pub waiting_turn : Opening → List Entry → List Turn → Option Waiting
 waiting_turn o history [] = None
-waiting_turn o history (t ∷ turns) = waiting_for o (suc (length turns)) history t
+waiting_turn o history (t ∷ turns) = waiting_for o (length turns + 1) history t
 
 -- the number of the transaction that waits, the least of those awaited without their answer, and whether it acknowledged
 -- the number

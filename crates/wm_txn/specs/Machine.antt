@@ -5,6 +5,7 @@ use Rattle.std.specs.Coded.{Coded, code_by, coded×, coded_ℕ, coded_list, code
 use Rattle.std.specs.List.{list_any}
 use Rattle.std.specs.List.Sorted.{IsStrictlySortedBy}
 use Rattle.std.specs.Map.{keys_of, lookup, set_value}
+use Rattle.std.specs.Option.{option_map}
 use Rattle.std.specs.Ordering.{nat_cmp}
 use Rattle.wm_base.specs.declared.geometry.Size.{Size}
 use Rattle.wm_base.specs.declared.ids.Buffer.{Buffer}
@@ -19,7 +20,9 @@ use Rattle.wm_arrange.specs.Sizes.{content_size, is_content}
 use Rattle.wm_tree.specs.Look.{same}
 use Rattle.wm_txn.specs.History.{is_fresh}
 use Rattle.wm_txn.specs.Schedule.{same_size}
+use Rattle.wm_txn.specs.Commits.{lesser}
 use Rattle.wm_txn.specs.Heard.{is_empty}
+use Rattle.wm_txn.specs.declared.answers.Waiting.{Waiting}
 use Rattle.wm_txn.specs.declared.answers.AckRefusal.{AckRefusal}
 use Rattle.wm_txn.specs.declared.answers.AckRefusal.TheVariants as ack
 use Rattle.wm_txn.specs.declared.answers.BufferRefusal.{BufferRefusal}
@@ -281,6 +284,34 @@ prefix_with (Some p) before = p.prefix
 -- how many entries had come when the last one began
 abbrev pub last_prefix : TxnValue → ℕ
 last_prefix d = prefix_with d.waiting d.prefix
+
+-- ---- what it tells
+
+abbrev pub shown_of : ConId → TxnValue → Option Buffer
+shown_of v d = option_map (shown_by d.number) (find v d.windows)
+
+abbrev pub asked_of : Option Held → Option (ℕ × Size)
+asked_of None = None
+asked_of (Some w) = if w.live && not (w.serial == 0) then Some (w.serial, w.size) else None
+
+abbrev pub is_left : ℕ → Option Held → Bool
+is_left n None = false
+is_left n (Some w) = is_unanswered n w
+
+abbrev pub has_acked : ℕ → Option Held → Bool
+has_acked n None = false
+has_acked n (Some w) = w.acked == n
+
+-- the least window with a content among the parts that transaction n awaits and that has not answered
+abbrev pub least_left : ℕ → Windows → List Placed → Option ConId
+least_left n windows [] = None
+least_left n windows (p ∷ parts) =
+    if is_content p.part && is_left n (find p.con windows) then lesser p.con (least_left n windows parts) else least_left n windows parts
+
+abbrev pub waiting_in : ℕ → Windows → Option Pending → Option Waiting
+waiting_in n windows None = None
+waiting_in n windows (Some p) =
+    option_map (λ v. record { number = n; least = v; acked = has_acked n (find v windows) }) (least_left n windows p.arrangement.parts)
 
 -- ---- how the logic stores it
 

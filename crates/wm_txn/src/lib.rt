@@ -4,6 +4,7 @@
 mod answers;
 mod calls;
 mod held;
+mod readings;
 mod txn;
 mod windows;
 

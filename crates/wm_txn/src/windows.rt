@@ -1,6 +1,7 @@
 //! The windows by id: what transactions ask of them, and those that close.
-ghost use Rattle.std.specs.Prelude.{◌≡◌, ◌+◌, ◌≤◌, length};
-ghost use Rattle.wm_txn.specs.Machine.{ask_all, ask_found, close_all, close_found, count_all, count_awaited, count_closed, count_found, find, one_if, size_of};
+ghost use Rattle.std.specs.Prelude.{◌≡◌, ◌≤◌, Some};
+ghost use Rattle.wm_txn.specs.Machine.{ask_all, ask_found, close_all, close_found, count_all, count_awaited, count_closed, count_found, find, is_left, least_left, one_if, size_of};
+ghost use Rattle.wm_txn.specs.Commits.{lesser};
 ghost use Rattle.wm_arrange.specs.Sizes.{is_content};
 
 use crate::held::Held;
@@ -65,6 +66,43 @@ fn close(windows: &mut BTreeMap<u32, Held>, con: ConId, number: u64) -> u64
     let before = *held;
     held.live = false;
     one_if(before.is_unanswered(number))
+}
+
+/// The least window with a content among the parts that transaction `number` awaits and that has not answered.
+pub(crate) fn least_left(
+    windows: &BTreeMap<u32, Held>,
+    parts: &[Placed],
+    number: u64,
+) -> Option<ConId>
+    ensures { result ≡ least_left number windows.now.entries parts.now }
+{
+    let mut least: Option<ConId> = None;
+    let mut rest = parts;
+    while let [placed, after @ ..] = rest {
+        if is_content(&placed.part) && is_left(windows, placed.con, number) {
+            least = Some(lesser(placed.con, least));
+        }
+        rest = after;
+    }
+    least
+}
+
+fn lesser(con: ConId, other: Option<ConId>) -> ConId
+    ensures { lesser con other ≡ Some result }
+{
+    match other {
+        Some(id) if id.0 < con.0 => id,
+        _ => con,
+    }
+}
+
+fn is_left(windows: &BTreeMap<u32, Held>, con: ConId, number: u64) -> bool
+    ensures { result ≡ is_left number (find con windows.now.entries) }
+{
+    match windows.get(&con.0) {
+        Some(held) => held.is_unanswered(number),
+        None => false,
+    }
 }
 
 /// 1 where the test holds, 0 elsewhere.

@@ -1,0 +1,114 @@
+-- What the machine tells is what the history says.
+use Rattle.std.proofs.Common.{◌≡◌, ℕ, suc, ◌+◌, ◌≤◌, ◌<◌, Bool, true, false, cond, not, ◌&&◌, ◌||◌, eqb, leb, ltb, ◌⊎◌, inl, inr, List, [], ◌∷◌, length, Option, Some, None, is_some, refl, ap, ap₂, sym, ◌∙◌, subst, arith}
+use Rattle.std.proofs.lemmas.Bool.{eqb-true, eq-eqb, leb-false, leb-true, lt-leb, ltb-true, ne_eqb}
+use Rattle.std.proofs.lemmas.Bool.Decides.{nat_tests}
+use Rattle.std.specs.Option.{option_map}
+use Rattle.wm_base.specs.declared.geometry.Size.{Size}
+use Rattle.wm_base.specs.declared.ids.Buffer.{Buffer}
+use Rattle.wm_base.specs.declared.ids.ConId.{ConId}
+use Rattle.wm_arrange.specs.declared.parts.Placed.{Placed}
+use Rattle.wm_arrange.specs.Sizes.{content_size, is_content}
+use Rattle.wm_txn.specs.Commits.{asked, begun_turns, current, done, ended_turns, least, lesser, prefix, prefix_of, shown, started, waiting, waiting_for, waiting_turn}
+use Rattle.wm_txn.specs.History.{Opening, Entry, buffer_up_to, gave, is_open, last}
+use Rattle.wm_txn.specs.Machine.{TxnValue, Windows, asked_of, find, has_acked, is_left, is_unanswered, least_left, shown_by, shown_of, waiting_in}
+use Rattle.wm_txn.specs.Schedule.{Turn, answered, configure, configures, contents, last_parts}
+use Rattle.wm_txn.specs.Stands.{IsHeld, IsKept, Keeps, StandsFor, configure_of}
+use Rattle.wm_txn.specs.declared.answers.Waiting.{Waiting}
+use Rattle.wm_txn.specs.declared.held.Held.{Held}
+use Rattle.wm_txn.specs.declared.held.Pending.{Pending}
+use Rattle.wm_txn.proofs.AnswerLemmas.{has, has_here, has_later, is_left_where}
+use Rattle.wm_txn.proofs.JudgeLemmas.{Sees, sees}
+use Rattle.wm_txn.proofs.NumberLemmas.{Numbers, numbers_idle, numbers_waiting}
+use Rattle.wm_txn.proofs.StepLemmas.{Pends, Rests, known}
+
+abbrev wait_of : ℕ → ConId → Bool → Waiting
+wait_of n v acked = record { number = n; least = v; acked = acked }
+
+module _ (o : Opening) (history : List Entry) (d : TxnValue) (s : StandsFor o history d) where
+  abbrev seen : Sees o history d
+  seen = sees o history d s
+
+  pub done_is : d.number ≡ done o history
+  done_is = seen.keeps.number_is ∙ sym seen.numbers.done_is
+
+  pub prefix_is : d.prefix ≡ prefix o history
+  prefix_is = seen.keeps.prefix_is ∙ ap prefix_of (sym seen.numbers.ended_are)
+
+  pub current_is : d.current.parts ≡ current o history
+  current_is = seen.keeps.current_is ∙ ap (last_parts o) (sym seen.numbers.ended_are)
+
+  -- ---- what a window shows
+
+  shown_step : (v : ConId) (w : Held) (turns begun : List Turn) → IsHeld o history turns begun v w → d.number ≡ length turns → (b : Bool) → leb w.under d.number ≡ b → Some (cond b w.newest w.older) ≡ buffer_up_to o d.number v history
+  shown_step v w turns begun h number true at = sym (h.newest_is d.number (leb-true w.under d.number at))
+  shown_step v w turns begun h number false at =
+      let later = leb-false w.under d.number at in
+      sym (ap (λ n. buffer_up_to o n v history) number ∙ h.older_is (omega arith))
+
+  shown_found : (v : ConId) (found : Option Held) (turns begun : List Turn) → IsKept o history turns begun v found → d.number ≡ length turns → option_map (shown_by d.number) found ≡ buffer_up_to o d.number v history
+  shown_found v None turns begun kept number = sym (kept.no_buffer d.number)
+  shown_found v (Some w) turns begun kept number = shown_step v w turns begun kept number (leb w.under d.number) refl
+
+  pub shown_is : (v : ConId) → shown_of v d ≡ shown o v history
+  shown_is v = shown_found v (find v d.windows) seen.turns seen.begun (seen.keeps.each v) seen.keeps.number_is ∙ ap (λ n. buffer_up_to o n v history) done_is
+
+  -- ---- what a window was asked
+
+  asked_held : (live zero : Bool) (serial : ℕ) (size : Size) → (cond {A = Option (ℕ × Size)} (live && not zero) (Some (serial, size)) None) ≡ cond {A = Option (ℕ × Size)} live (cond {A = Option (ℕ × Size)} zero None (Some (serial, size))) None
+  asked_held false zero serial size = refl
+  asked_held true true serial size = refl
+  asked_held true false serial size = refl
+
+  asked_found : (v : ConId) (found : Option Held) (turns begun : List Turn) → IsKept o history turns begun v found → begun_turns o history ≡ begun → asked_of found ≡ asked o v history
+  asked_found v None turns begun kept same_begun = rw kept.not_open refl
+  asked_found v (Some w) turns begun kept same_begun =
+      asked_held w.live (eqb w.serial 0) w.serial w.size ∙ sym (rw (kept.live_is, same_begun, kept.latest_is) refl)
+
+  pub asked_is : (v : ConId) → asked_of (find v d.windows) ≡ asked o v history
+  asked_is v = asked_found v (find v d.windows) seen.turns seen.begun (seen.keeps.each v) seen.numbers.begun_are
+
+  -- ---- the transaction that waits
+
+  least_chosen : (test : ConId → Bool) (v : ConId) (rest : List ConId) (other : Option ConId) (content chosen left : Bool) → (content ≡ true → (chosen && test v) ≡ left) → least test rest ≡ other
+      → least test (cond (content && chosen) (v ∷ rest) rest) ≡ cond (content && left) (lesser v other) other
+  least_chosen test v rest other false chosen left h same_rest = same_rest
+  least_chosen test v rest other true true left h same_rest = rw (h refl, same_rest) refl
+  least_chosen test v rest other true false left h same_rest = let none : false ≡ left = h refl in rw (← none) same_rest
+
+  least_parts : (n : ℕ) (windows : Windows) (c test : ConId → Bool) (parts : List Placed) → ((v : ConId) → has v parts ≡ true → (c v && test v) ≡ is_left n (find v windows)) → least test (contents c parts) ≡ least_left n windows parts
+  least_parts n windows c test [] h = refl
+  least_parts n windows c test (p ∷ parts) h =
+      least_chosen test p.con (contents c parts) (least_left n windows parts) (is_content p.part) (c p.con) (is_left n (find p.con windows))
+      (λ content. h p.con (has_here p parts content)) (least_parts n windows c test parts (λ v there. h v (has_later v p parts there)))
+
+  acked_found : (v : ConId) (found : Option Held) (turns begun : List Turn) (n : ℕ) → IsKept o history turns begun v found → 0 < n → has_acked n found ≡ (eqb (last v history) n)
+  acked_found v None turns begun n kept above = rw kept.no_last (sym (ne_eqb 0 n (λ e. omega arith)))
+  acked_found v (Some w) turns begun n kept above = rw kept.last_is refl
+
+  waiting_here : (turns : List Turn) (t : Turn) (p : Pending) → Pends o history turns t p d → waiting_in (length turns + 1) d.windows (Some p) ≡ waiting_for o (length turns + 1) history t
+  waiting_here turns t p w =
+      let n = length turns + 1 in
+      let test : ConId → Bool = λ v. not (answered o n history v) in
+      let chosen : (v : ConId) → has v t.parts ≡ true → (configures turns t.parts v && test v) ≡ is_left n (find v d.windows) = λ v there. is_left_where o history turns t d.windows v (find v d.windows) (w.keeps.each v) in
+      let same_least : least_left n d.windows p.arrangement.parts ≡ least test t.awaits =
+              ap (least_left n d.windows) w.parts_are ∙ (sym (least_parts n d.windows (configures turns t.parts) test t.parts chosen) ∙ ap (least test) (sym w.awaits_are)) in
+      rw same_least (each (least test t.awaits))
+    where
+      each : (found : Option ConId) → option_map (λ (v : ConId). wait_of (length turns + 1) v (has_acked (length turns + 1) (find v d.windows))) found
+          ≡ option_map (λ (v : ConId). wait_of (length turns + 1) v (eqb (last v history) (length turns + 1))) found
+      each None = refl
+      each (Some v) = ap (λ b. Some (wait_of (length turns + 1) v b)) (acked_found v (find v d.windows) turns (t ∷ turns) (length turns + 1) (w.keeps.each v) (omega arith))
+
+  pub waiting_is : waiting_in (d.number + 1) d.windows d.waiting ≡ waiting o history
+  waiting_is = elim (known o history d s) [
+      | inl r ↦
+          let numbers = numbers_idle o history r.0 r.1.idle_is.done r.1.idle_is r.1.within in
+          let same_numbers : eqb (started o history) (done o history) ≡ true = eq-eqb (started o history) (done o history) (numbers.started_is ∙ sym numbers.done_is) in
+          rw (r.1.none_waits, same_numbers) refl
+      | inr w ↦
+          let turns = w.0 in
+          let numbers = numbers_waiting o history turns w.3.waiting_is.done w.1 w.3.waiting_is w.3.within in
+          let other : eqb (started o history) (done o history) ≡ false = ne_eqb (started o history) (done o history) (λ e. omega (arith, numbers.started_is, numbers.done_is)) in
+          let number : d.number + 1 ≡ length turns + 1 = ap (λ n. n + 1) w.3.keeps.number_is in
+          rw (w.3.pending_is, other, numbers.begun_are, number) (waiting_here turns w.1 w.2 w.3)
+    ]

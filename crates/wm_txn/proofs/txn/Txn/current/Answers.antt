@@ -1,0 +1,8 @@
+use Rattle.std.proofs.Common.{ap, ◌∙◌}
+use Rattle.wm_txn.specs.Heard.{heard}
+use Rattle.wm_txn.specs.Machine.{TxnValue}
+use Rattle.wm_txn.proofs.ReadingLemmas.{current_is}
+use Rattle.wm_txn.proofs.txn.Txn.current.Goals as goal
+
+pub returns : goal.returns
+returns c = λ o history s. ap (λ (d : TxnValue). d.current.parts) c.self.view_is ∙ current_is o (heard o history) c.args.self.now s

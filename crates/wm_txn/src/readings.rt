@@ -1,0 +1,96 @@
+//! What the transactions tell: what is done, what each window shows and was asked, and what waits.
+ghost use Rattle.std.specs.Prelude.{◌≡◌, ◌+◌, List};
+ghost use Rattle.wm_txn.specs.Commits.{asked, current, done, prefix, shown, waiting};
+ghost use Rattle.wm_txn.specs.Heard.{heard};
+ghost use Rattle.wm_txn.specs.History.{Opening, Entry};
+ghost use Rattle.wm_txn.specs.Stands.{Stands};
+ghost use Rattle.wm_txn.specs.Machine.{asked_of, find, has_acked, shown_of, waiting_in};
+
+use crate::answers::Waiting;
+use crate::txn::Txn;
+use crate::windows::least_left;
+use wm_arrange::Arrangement;
+use wm_base::{Buffer, ConId, Size};
+
+impl Txn {
+    /// The buffer that a window shows. `None` exactly where it was never there.
+    pub fn shown(&self, view: ConId) -> Option<Buffer>
+        ensures { (o : Opening) → (history : List Entry) → Stands o history self.now → result ≡ shown o view (heard o history) }
+    {
+        self.shown_of(view)
+    }
+
+    /// The number of the last transaction that has ended.
+    pub fn done(&self) -> u64
+        ensures { (o : Opening) → (history : List Entry) → Stands o history self.now → result ≡ done o (heard o history) }
+    {
+        self.number
+    }
+
+    /// How many entries had come when the last ended transaction began.
+    pub fn prefix(&self) -> u64
+        ensures { (o : Opening) → (history : List Entry) → Stands o history self.now → result ≡ prefix o (heard o history) }
+    {
+        self.prefix
+    }
+
+    /// The arrangement of the last ended transaction.
+    pub fn current(&self) -> &Arrangement
+        ensures { (o : Opening) → (history : List Entry) → Stands o history self.now → result.now.parts ≡ current o (heard o history) }
+    {
+        &self.current
+    }
+
+    /// The serial and the size of the latest configure of a window. `None` exactly where it is not open, or no
+    /// transaction has configured it.
+    pub fn asked(&self, view: ConId) -> Option<(u64, Size)>
+        ensures { (o : Opening) → (history : List Entry) → Stands o history self.now → result ≡ asked o view (heard o history) }
+    {
+        self.asked_of(view)
+    }
+
+    /// The transaction that waits.
+    pub fn waiting(&self) -> Option<Waiting>
+        ensures { (o : Opening) → (history : List Entry) → Stands o history self.now → result ≡ waiting o (heard o history) }
+    {
+        self.waiting_of()
+    }
+
+    fn shown_of(&self, view: ConId) -> Option<Buffer>
+        ensures { result ≡ shown_of view self.now }
+    {
+        let held = self.windows.get(&view.0)?;
+        Some(held.shown_by(self.number))
+    }
+
+    fn asked_of(&self, view: ConId) -> Option<(u64, Size)>
+        ensures { result ≡ asked_of (find view self.now.windows) }
+    {
+        match self.windows.get(&view.0) {
+            Some(held) if held.live && held.serial != 0 => Some((held.serial, held.size)),
+            _ => None,
+        }
+    }
+
+    fn waiting_of(&self) -> Option<Waiting>
+        ensures { result ≡ waiting_in (self.now.number + 1) self.now.windows self.now.waiting }
+    {
+        let number = self.number + 1;
+        let pending = self.waiting.as_ref()?;
+        let least = least_left(&self.windows, pending.arrangement.parts.items(), number)?;
+        Some(Waiting {
+            number,
+            least,
+            acked: self.has_acked(least, number),
+        })
+    }
+
+    fn has_acked(&self, view: ConId, number: u64) -> bool
+        ensures { result ≡ has_acked number (find view self.now.windows) }
+    {
+        match self.windows.get(&view.0) {
+            Some(held) => held.acked == number,
+            None => false,
+        }
+    }
+}
