@@ -1,6 +1,6 @@
 -- The first place at which a test holds.
 use Rattle.std.proofs.Common.{◌≡◌, ℕ, ◌+◌, ◌≤◌, ◌<◌, leb, Bool, true, false, cond, ◌&&◌, List, [], ◌∷◌, length, Option, Some, None, refl, ap, sym, ◌∙◌, arith}
-use Rattle.std.proofs.lemmas.Bool.{le-leb, lt-leb}
+use Rattle.std.proofs.lemmas.Bool.{and_parts, le-leb, leb-true, lt-leb}
 use Rattle.wm_txn.specs.History.{Entry}
 use Rattle.wm_txn.specs.Schedule.{or_here, first_when}
 
@@ -33,3 +33,26 @@ and_false false = refl
 pub first_none : (test : List Entry → Bool) (n : ℕ) (history : List Entry) (entry : Entry) → first_when test n history ≡ None → test (entry ∷ history) ≡ false → first_when test n (entry ∷ history) ≡ None
 first_none test n history entry h fails =
     or_short (first_when test n history) (leb n (length history + 1) && test (entry ∷ history)) (entry ∷ history) h (rw fails (and_false (leb n (length history + 1))))
+
+within_here : (found : Option (List Entry)) (passes : Bool) (history place : List Entry) (n : ℕ) → or_here found passes history ≡ Some place → (passes ≡ true → n ≤ length history)
+    → ((z : List Entry) → found ≡ Some z → (n ≤ length z) × (length z ≤ length history)) → (n ≤ length place) × (length place ≤ length history)
+within_here (Some z) passes history place n h enough before =
+    let same_place : z ≡ place = cc in
+    let bounds = before z refl in
+    let at : length z ≡ length place = ap length same_place in
+    (omega arith, omega arith)
+within_here None true history place n h enough before =
+    let same_place : history ≡ place = cc in
+    let at : length history ≡ length place = ap length same_place in
+    let bound = enough refl in
+    (omega arith, omega arith)
+within_here None false history place n h enough before = cc
+
+-- what is found is a beginning of the history with n entries or more
+pub first_within : (test : List Entry → Bool) (n : ℕ) (history place : List Entry) → first_when test n history ≡ Some place → (n ≤ length place) × (length place ≤ length history)
+first_within test n [] place h =
+    within_here None (leb n 0 && test []) [] place n h (λ passes. leb-true n 0 (and_parts (leb n 0) (test []) passes).0) (λ z none. cc)
+first_within test n (entry ∷ history) place h =
+    within_here (first_when test n history) (leb n (length history + 1) && test (entry ∷ history)) (entry ∷ history) place n h
+    (λ passes. let le = leb-true n (length history + 1) (and_parts (leb n (length history + 1)) (test (entry ∷ history)) passes).0 in omega arith)
+    (λ z found. let bounds = first_within test n history z found in (bounds.0, omega arith))

@@ -4,6 +4,7 @@ pub mod CloseLemmas
 pub mod EntryLemmas
 pub mod FirstLemmas
 pub mod FollowLemmas
+pub mod HeardLemmas
 pub mod JudgeLemmas
 pub mod KeepLemmas
 pub mod LeastLemmas
@@ -12,5 +13,6 @@ pub mod OpeningLemmas
 pub mod ReadingLemmas
 pub mod ScheduleLemmas
 pub mod SettleLemmas
+pub mod StandingLemmas
 pub mod StepLemmas
 pub mod WindowLemmas

@@ -8,7 +8,7 @@ use Rattle.wm_txn.specs.Schedule.{Turn, first_when, differs, turn_from, may_end,
 use Rattle.wm_txn.specs.Stands.{HasEnded, IsIdle, IsWaiting}
 use Rattle.wm_txn.proofs.FirstLemmas.{first_stays, first_short, first_here, first_none}
 
-mapped_some : {A B : Type 0} (f : A → B) (o : Option A) (y : B) → option_map f o ≡ Some y → (x : A) × (o ≡ Some x) × (f x ≡ y)
+pub mapped_some : {A B : Type 0} (f : A → B) (o : Option A) (y : B) → option_map f o ≡ Some y → (x : A) × (o ≡ Some x) × (f x ≡ y)
 mapped_some f None y h = cc
 mapped_some f (Some x) y h = (x, refl, cc)
 
@@ -16,7 +16,7 @@ mapped_none : {A B : Type 0} (f : A → B) (o : Option A) → option_map f o ≡
 mapped_none f None h = refl
 mapped_none f (Some x) h = cc
 
-then_some : {A B : Type 0} (f : A → Option B) (o : Option A) (y : B) → option_and_then f o ≡ Some y → (x : A) × (o ≡ Some x) × (f x ≡ Some y)
+pub then_some : {A B : Type 0} (f : A → Option B) (o : Option A) (y : B) → option_and_then f o ≡ Some y → (x : A) × (o ≡ Some x) × (f x ≡ Some y)
 then_some f None y h = cc
 then_some f (Some x) y h = (x, refl, h)
 

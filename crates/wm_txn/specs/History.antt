@@ -61,6 +61,18 @@ abbrev pub is_open : Opening → ConId → List Entry → Bool
 is_open o v [] = is_some (buffer_of v o.windows)
 is_open o v (entry ∷ history) = open_after entry v (is_open o v history)
 
+abbrev pub maps : ConId → Entry → Bool
+maps v (Arranged newest fresh gone) = is_fresh v fresh
+maps v (Acked c serial) = false
+maps v (Gave c buffer) = false
+maps v (Deadline number) = false
+maps v Still = false
+
+-- v was open at the opening, or was mapped since
+abbrev pub was_open : Opening → ConId → List Entry → Bool
+was_open o v [] = is_some (buffer_of v o.windows)
+was_open o v (entry ∷ history) = maps v entry || was_open o v history
+
 -- ---- acknowledgements
 
 abbrev pub last_after : Entry → ConId → ℕ → ℕ

@@ -3,4 +3,5 @@ pub mod Heard
 pub mod History
 pub mod Machine
 pub mod Schedule
+pub mod Standing
 pub mod Stands

@@ -1,0 +1,66 @@
+-- What holds of each machine that stands for a history.
+use Rattle.std.proofs.Common.{◌≡◌, ℕ, suc, ◌+◌, ◌≤◌, Bool, true, false, inl, inr, List, [], ◌∷◌, length, Option, Some, None, is_some, refl, ap, sym, ◌∙◌, subst, arith}
+use Rattle.std.proofs.lemmas.Bool.{false_from_ne_true}
+use Rattle.std.specs.Option.{option_map}
+use Rattle.wm_base.specs.declared.ids.ConId.{ConId}
+use Rattle.wm_txn.specs.Commits.{prefix_of}
+use Rattle.wm_txn.specs.Heard.{heard}
+use Rattle.wm_txn.specs.History.{Opening, Entry, Still, is_open, was_open}
+use Rattle.wm_txn.specs.Machine.{TxnValue, find, is_live, last_prefix, prefix_with}
+use Rattle.wm_txn.specs.Schedule.{Turn, begun, differs, first_when, next, past, turn_from}
+use Rattle.wm_txn.specs.Stands.{IsKept, Keeps, Stands, StandsFor}
+use Rattle.wm_txn.specs.Standing.{StillStands, BeginsWithin, KnowsWindows, KnowsOpen}
+use Rattle.wm_txn.specs.declared.held.Held.{Held}
+use Rattle.wm_txn.proofs.EntryLemmas.{stands_still}
+use Rattle.wm_txn.proofs.FirstLemmas.{first_within}
+use Rattle.wm_txn.proofs.HeardLemmas.{heard_opens, some_was, was_some}
+use Rattle.wm_txn.proofs.OpeningLemmas.{heard_length}
+use Rattle.wm_txn.proofs.ScheduleLemmas.{mapped_some, then_some}
+use Rattle.wm_txn.proofs.StepLemmas.{known}
+
+pub still_stands : StillStands
+still_stands o history d s = stands_still o (heard o history) d s
+
+next_within : (o : Opening) (history : List Entry) (before : Option (List Turn)) (t : Turn) (turns : List Turn) → next o history before ≡ Some (t ∷ turns) → t.prefix ≤ length history
+next_within o history None t turns h = cc
+next_within o history (Some before) t turns h =
+    let s = mapped_some (λ at. turn_from o before at ∷ before) (begun o before history) (t ∷ turns) h in
+    let f = then_some (λ at. first_when (differs o before) (length at) history) _ s.0 s.1 in
+    let same_turn : turn_from o before s.0 ≡ t = cc in
+    let at : length s.0 ≡ t.prefix = ap (λ (z : Turn). z.prefix) same_turn in
+    let bounds = first_within (differs o before) (length f.0) history s.0 f.2 in
+    omega arith
+
+-- a transaction began within the history
+pub prefix_within : (o : Opening) (history : List Entry) (turns : List Turn) → past o (length turns) history ≡ Some turns → prefix_of turns ≤ length history
+prefix_within o history [] h = omega arith
+prefix_within o history (t ∷ turns) h = next_within o history (past o (length turns) history) t turns h
+
+pub begins_within : BeginsWithin
+begins_within o history d s =
+    let length_is = heard_length o history in
+    elim (known o (heard o history) d s) [
+      | inl r ↦
+          let prefix : last_prefix d ≡ prefix_of r.0 = ap (λ z. prefix_with z d.prefix) r.1.none_waits ∙ r.1.keeps.prefix_is in
+          let le = prefix_within o (heard o history) r.0 r.1.idle_is.done.past_is in
+          omega arith
+      | inr w ↦
+          let prefix : last_prefix d ≡ w.1.prefix = ap (λ z. prefix_with z d.prefix) w.3.pending_is ∙ w.3.prefix_is in
+          let le = w.3.waiting_is.within in
+          omega arith
+    ]
+
+knows_found : (o : Opening) (history : List Entry) (turns others : List Turn) (v : ConId) (found : Option Held) → IsKept o (heard o history) turns others v found → is_some found ≡ was_open o v history
+knows_found o history turns others v None kept =
+    sym (false_from_ne_true (was_open o v history) (λ was. let bad : false ≡ true = sym (ap is_some (kept.no_buffer 0)) ∙ was_some o v 0 history was in cc))
+knows_found o history turns others v (Some w) kept = sym (some_was o v w.under history (ap is_some (kept.newest_is w.under (omega arith))))
+
+pub knows_windows : KnowsWindows
+knows_windows o history d s v = knows_found o history s.turns s.begun v (find v d.windows) (s.keeps.each v)
+
+open_found : (o : Opening) (history : List Entry) (turns others : List Turn) (v : ConId) (found : Option Held) → IsKept o history turns others v found → is_live found ≡ is_open o v history
+open_found o history turns others v None kept = sym kept.not_open
+open_found o history turns others v (Some w) kept = sym kept.live_is
+
+pub knows_open : KnowsOpen
+knows_open o history d s v = open_found o (heard o history) s.turns s.begun v (find v d.windows) (s.keeps.each v) ∙ heard_opens o v history

@@ -1,0 +1,22 @@
+-- Laws that hold of each machine that stands for a history.
+use Rattle.std.specs.Prelude.{◌≡◌, ◌≤◌, Bool, List, ◌∷◌, length, is_some}
+use Rattle.wm_base.specs.declared.ids.ConId.{ConId}
+use Rattle.wm_txn.specs.History.{Opening, Entry, Still, arrangement, is_open, was_open}
+use Rattle.wm_txn.specs.Machine.{TxnValue, find, is_live, last_prefix}
+use Rattle.wm_txn.specs.Stands.{Stands}
+
+-- an entry that is none of the machine's business leaves it standing
+abbrev pub StillStands : Type 0
+StillStands = (o : Opening) (history : List Entry) (d : TxnValue) → Stands o history d → Stands o (Still ∷ history) d
+
+-- each transaction began within the history
+abbrev pub BeginsWithin : Type 0
+BeginsWithin = (o : Opening) (history : List Entry) (d : TxnValue) → Stands o history d → last_prefix d ≤ length history
+
+-- the machine knows each window that was ever open, and no other
+abbrev pub KnowsWindows : Type 0
+KnowsWindows = (o : Opening) (history : List Entry) (d : TxnValue) → Stands o history d → (v : ConId) → is_some (find v d.windows) ≡ was_open o v history
+
+-- and which of them are open
+abbrev pub KnowsOpen : Type 0
+KnowsOpen = (o : Opening) (history : List Entry) (d : TxnValue) → Stands o history d → (v : ConId) → is_live (find v d.windows) ≡ is_open o v history
