@@ -16,7 +16,9 @@ impl Txn {
     /// Transactions that begin with an arrangement without windows, which is done.
     pub fn start(alloc: Global, first: Arrangement) -> Result<Txn, NoMemory>
         requires { HasNoContent first.parts }
-        ensures { IfOk result (λ txn. Stands (record { parts = first.parts; windows = [] }) [] txn) }
+        ensures stands { IfOk result (λ txn. Stands (record { parts = first.parts; windows = [] }) [] txn) }
+        ensures windows { IfOk result (λ txn. txn.windows ≡ []) }
+        ensures prefix { IfOk result (λ txn. last_prefix txn ≡ 0) }
     {
         Ok(Txn {
             windows: BTreeMap::new(alloc),
@@ -44,6 +46,7 @@ impl Txn {
         requires shows { ShowsOpen newest.parts fresh gone.now self.old.windows }
         ensures stands { (o : Opening) → (history : List Entry) → length history ≡ place → Stands o history self.old →
             OnOk result (Stands o (Arranged newest.parts fresh gone.now ∷ history) self.new) }
+        ensures prefix { last_prefix self.new ≤ place + 1 }
         ensures err { OnErr result (self.new ≡ self.old) }
     {
         self.open(fresh)?;
@@ -58,6 +61,7 @@ impl Txn {
             result ≡ ack_answer o view serial (heard o history) }
         ensures stands { (o : Opening) → (history : List Entry) → Stands o history self.old →
             Stands o (Acked view serial ∷ history) self.new }
+        ensures prefix { last_prefix self.new ≡ last_prefix self.old }
         ensures err { OnErr result (self.new ≡ self.old) }
     {
         self.take_ack(view, serial)
@@ -71,6 +75,7 @@ impl Txn {
             result ≡ buffer_answer o view b (heard o history) }
         ensures stands { (o : Opening) → (history : List Entry) → length history ≡ place → Stands o history self.old →
             Stands o (Gave view b ∷ history) self.new }
+        ensures prefix { last_prefix self.new ≤ place + 1 }
         ensures err { OnErr result (self.new ≡ self.old) }
     {
         self.take_buffer(place + 1, view, b)
@@ -80,8 +85,9 @@ impl Txn {
     pub fn deadline(&mut self, place: u64, number: u64)
         requires few { place < 2 ^ 48 }
         requires rises { last_prefix self.old ≤ place }
-        ensures { (o : Opening) → (history : List Entry) → length history ≡ place → Stands o history self.old →
+        ensures stands { (o : Opening) → (history : List Entry) → length history ≡ place → Stands o history self.old →
             Stands o (Deadline number ∷ history) self.new }
+        ensures prefix { last_prefix self.new ≤ place + 1 }
     {
         self.time_out(place, number);
     }

@@ -54,7 +54,8 @@ impl Txn {
     fn begin(&mut self, steps: u64, newest: Arrangement)
         requires later { last_prefix self.old < steps }
         requires few { steps ≤ 2 ^ 48 }
-        ensures { self.new ≡ began steps newest self.old }
+        ensures value { self.new ≡ began steps newest self.old }
+        ensures prefix { last_prefix self.new ≡ steps }
     {
         let number = self.number + 1;
         self.left = ask_all(&mut self.windows, newest.parts.items(), number);
@@ -66,7 +67,8 @@ impl Txn {
 
     /// A transaction that awaits nobody ends.
     fn finish(&mut self)
-        ensures { self.new ≡ finished self.old }
+        ensures value { self.new ≡ finished self.old }
+        ensures same { last_prefix self.new ≡ last_prefix self.old }
     {
         if self.left == 0 {
             self.commit();
@@ -77,7 +79,8 @@ impl Txn {
     fn follow(&mut self, steps: u64)
         requires later { last_prefix self.old < steps }
         requires few { steps ≤ 2 ^ 48 }
-        ensures { self.new ≡ followed steps self.old }
+        ensures value { self.new ≡ followed steps self.old }
+        ensures prefix { last_prefix self.new ≤ steps }
     {
         if let Some(newest) = self.newest.take()
             && !newest.same(&self.current)
@@ -91,7 +94,8 @@ impl Txn {
     pub(crate) fn settle(&mut self, steps: u64)
         requires later { last_prefix self.old < steps }
         requires few { steps ≤ 2 ^ 48 }
-        ensures { self.new ≡ settled steps self.old }
+        ensures value { self.new ≡ settled steps self.old }
+        ensures prefix { last_prefix self.new ≤ steps }
     {
         if self.left == 0 {
             self.commit();
@@ -136,6 +140,7 @@ impl Txn {
     pub(crate) fn take_ack(&mut self, view: ConId, serial: u64) -> Result<(), AckRefusal>
         ensures value { self.new ≡ ack_step view serial self.old }
         ensures answer { result ≡ judge_ack self.old.number serial (find view self.old.windows) }
+        ensures same { last_prefix self.new ≡ last_prefix self.old }
     {
         self.judge_ack(view, serial)?;
         if let Some(held) = self.windows.get_mut(&view.0) {
@@ -180,6 +185,7 @@ impl Txn {
         requires few { steps ≤ 2 ^ 48 }
         ensures value { self.new ≡ buffer_step steps view buffer self.old }
         ensures answer { result ≡ judge_buffer buffer (find view self.old.windows) }
+        ensures prefix { last_prefix self.new ≤ steps }
     {
         self.judge_buffer(view, buffer)?;
         self.hold(view, buffer);
@@ -201,7 +207,8 @@ impl Txn {
     pub(crate) fn time_out(&mut self, place: u64, number: u64)
         requires later { last_prefix self.old ≤ place }
         requires few { place < 2 ^ 48 }
-        ensures { self.new ≡ timed_out place number self.old }
+        ensures value { self.new ≡ timed_out place number self.old }
+        ensures prefix { last_prefix self.new ≤ place + 1 }
     {
         if self.is_over(place, number) {
             self.left = 0;

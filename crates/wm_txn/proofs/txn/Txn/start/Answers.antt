@@ -1,5 +1,5 @@
 use Rattle.wm_txn.proofs.OpeningLemmas.{stands_start}
 use Rattle.wm_txn.proofs.txn.Txn.start.Goals as goal
 
-pub returns : goal.returns
-returns c = stands_start c.args.first c.new.result.entries c.requires c.new.ensures.empty c.new.ensures.ordered
+pub returns-clause-stands : goal.returns-clause-stands
+returns-clause-stands c = stands_start c.args.first c.new.result.entries c.requires c.new.ensures.empty c.new.ensures.ordered
