@@ -85,7 +85,7 @@ pub configure_le : (v : ConId) (turns : List Turn) (number : ℕ) (size : Size) 
 configure_le v [] number size h = cc
 configure_le v (t ∷ turns) number size h =
     let below = number_below (length turns + 1) (content_size v t.parts) (configures turns t.parts v) (configure v turns) number size h
-            (λ before. let l = configure_le v turns number size before in omega arith) in
+    (λ before. let l = configure_le v turns number size before in omega arith) in
     omega arith
 
 new_by_number : (n : ℕ) (found : Option Size) (b : Bool) (before : Option (ℕ × Size)) (size : Size) → cond b (option_map (λ s. (n, s)) found) before ≡ Some (n, size)
@@ -139,7 +139,7 @@ module _ (o : Opening) (history : List Entry) (turns : List Turn) (t : Turn) (wi
       let p = unanswered_parts w.live w.serial w.under n at in
       let latest : configure v (t ∷ turns) ≡ Some (n, w.size) = kept.latest_is ∙ some_serial n w.serial w.size p.1 (omega arith) in
       let asked : configures turns t.parts v ≡ true = new_by_number n (content_size v t.parts) (configures turns t.parts v) (configure v turns) w.size latest
-              (λ before. let l = configure_le v turns n w.size before in omega arith) in
+      (λ before. let l = configure_le v turns n w.size before in omega arith) in
       let passes = each_passes (configures turns t.parts) (answered o n history) t.parts all v (new_some (content_size v t.parts) (configure v turns) asked) asked in
       let gave_not : gave n v history ≡ false = kept.gave_is n (omega arith) ∙ lt-leb n w.under p.2 in
       let live : is_open o v history ≡ true = kept.live_is ∙ p.0 in
@@ -155,7 +155,7 @@ module _ (o : Opening) (history : List Entry) (turns : List Turn) (t : Turn) (wi
       let chosen = contents (configures turns t.parts) t.parts in
       let forth : count_unanswered n windows ≡ 0 → list_all test chosen ≡ true = λ none. all_pass (configures turns t.parts) test t.parts (λ v there asked. open_or_gave v (find v windows) refl (keeps.each v) none asked) in
       let back : list_all test chosen ≡ true → count_unanswered n windows ≡ 0 = λ all. all_answered n windows keeps.sorted
-              (λ a w at. is_answered a w (is_unanswered n w) refl (subst (IsKept o history turns (t ∷ turns) a) at (keeps.each a)) all) in
+      (λ a w at. is_answered a w (is_unanswered n w) refl (subst (IsKept o history turns (t ∷ turns) a) at (keeps.each a)) all) in
       rw awaits (tests (list_all test chosen) (count_unanswered n windows) forth back)
     where
       tests : (b : Bool) (m : ℕ) → (m ≡ 0 → b ≡ true) → (b ≡ true → m ≡ 0) → b ≡ eqb m 0
@@ -176,7 +176,7 @@ module _ (o : Opening) (history : List Entry) (turns : List Turn) (t : Turn) (wi
       let p = unanswered_parts w.live w.serial w.under n left in
       let latest : configure v (t ∷ turns) ≡ Some (n, w.size) = kept.latest_is ∙ some_serial n w.serial w.size p.1 (omega arith) in
       let asked : configures turns t.parts v ≡ true = new_by_number n (content_size v t.parts) (configures turns t.parts v) (configure v turns) w.size latest
-              (λ before. let l = configure_le v turns n w.size before in omega arith) in
+      (λ before. let l = configure_le v turns n w.size before in omega arith) in
       let bad : true ≡ false = sym asked ∙ other in
       cc))
 

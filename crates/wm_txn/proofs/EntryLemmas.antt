@@ -60,19 +60,19 @@ module _ (o : Opening) (history : List Entry) (d : TxnValue) (s : StandsFor o hi
 
   stands_over : (number : ℕ) → is_over (length history) number d.number d.waiting ≡ true → (steps : ℕ) → steps ≡ length history + 1 → StandsFor o (Deadline number ∷ history) (settled steps (record d { left = 0 }))
   stands_over number over steps steps_are = elim (known o history d s) [
-      | inl r ↦ let bad : false ≡ true = rw r.1.none_waits at over in cc
-      | inr w ↦ settles_waiting o history (Deadline number) steps steps_are w.0 w.1 w.2 (record d { left = 0 }) (record {
-          keeps = keeps_same o history (Deadline number ∷ history) w.0 (w.1 ∷ w.0) d.number d.prefix d.current.parts d.windows (agree_deadline o history number) w.3.keeps.open_contents w.3.keeps;
-          was = was_waiting o history (Deadline number) w.1 w.0 w.3.waiting_is;
-          waiting_is = w.3.pending_is;
-          prefix_is = w.3.prefix_is;
-          parts_are = w.3.parts_are;
-          awaits_are = w.3.awaits_are;
-          ends_is = or_right _ (is_named (length w.0 + 1) w.1.prefix (Deadline number ∷ history)) (over_is number w.0 w.1 w.2 w.3 ∙ over);
-          left_is = λ above. absurd (omega arith);
-          newest_is = w.3.newest_is;
-        }) w.3.within
-    ]
+    | inl r ↦ let bad : false ≡ true = rw r.1.none_waits at over in cc
+    | inr w ↦ settles_waiting o history (Deadline number) steps steps_are w.0 w.1 w.2 (record d { left = 0 }) (record {
+      keeps = keeps_same o history (Deadline number ∷ history) w.0 (w.1 ∷ w.0) d.number d.prefix d.current.parts d.windows (agree_deadline o history number) w.3.keeps.open_contents w.3.keeps;
+      was = was_waiting o history (Deadline number) w.1 w.0 w.3.waiting_is;
+      waiting_is = w.3.pending_is;
+      prefix_is = w.3.prefix_is;
+      parts_are = w.3.parts_are;
+      awaits_are = w.3.awaits_are;
+      ends_is = or_right _ (is_named (length w.0 + 1) w.1.prefix (Deadline number ∷ history)) (over_is number w.0 w.1 w.2 w.3 ∙ over);
+      left_is = λ above. absurd (omega arith);
+      newest_is = w.3.newest_is;
+    }) w.3.within
+  ]
 
   timed_step : (number place : ℕ) → place ≡ length history → (b : Bool) → is_over place number d.number d.waiting ≡ b → StandsFor o (Deadline number ∷ history) (cond b (settled (place + 1) (record d { left = 0 })) d)
   timed_step number place at true over = stands_over number (ap (λ z. is_over z number d.number d.waiting) (sym at) ∙ over) (place + 1) (omega arith)
@@ -90,7 +90,7 @@ module _ (o : Opening) (history : List Entry) (d : TxnValue) (s : StandsFor o hi
   stands_acked v serial w at above due =
       stands_on o history (Acked v serial) d (put v (acked_with serial w) d.windows) d.left d.newest
       (λ turns begun few k. keeps_put o history (Acked v serial ∷ history) turns begun d.number d.prefix d.current.parts v w (acked_with serial w) d.windows at
-        (held_acked o history turns begun v serial w (subst (IsKept o history turns begun v) at (k.each v)) above due) (agree_acked o history v serial) k.open_contents k)
+      (held_acked o history turns begun v serial w (subst (IsKept o history turns begun v) at (k.each v)) above due) (agree_acked o history v serial) k.open_contents k)
       (λ last new. new) (λ zero. zero) (λ counted. let same_count = count_put (d.number + 1) v (acked_with serial w) w d.windows at in omega arith) (λ turns t p w. refl) refl refl s
 
   -- ---- a buffer
@@ -113,12 +113,12 @@ module _ (o : Opening) (history : List Entry) (d : TxnValue) (s : StandsFor o hi
       let new = buffered_with d.number buffer w in
       let n = d.number + 1 in
       let under_le : w.under ≤ w.acked = elim (known o history d s) [
-            | inl r ↦ let held = subst (IsKept o history r.0 r.0 v) at (r.1.keeps.each v) in held.under_le
-            | inr p ↦ let held = subst (IsKept o history p.0 (p.1 ∷ p.0) v) at (p.3.keeps.each v) in held.under_le
-          ] in
+        | inl r ↦ let held = subst (IsKept o history r.0 r.0 v) at (r.1.keeps.each v) in held.under_le
+        | inr p ↦ let held = subst (IsKept o history p.0 (p.1 ∷ p.0) v) at (p.3.keeps.each v) in held.under_le
+      ] in
       stands_settled o history (Gave v buffer) d (put v new d.windows) (d.left - one_if (answers n w new)) d.newest
       (λ turns begun few k. keeps_put o history (Gave v buffer ∷ history) turns begun d.number d.prefix d.current.parts v w new d.windows at
-        (held_buffered o history turns begun v buffer d.number w (subst (IsKept o history turns begun v) at (k.each v)) k.number_is few) (agree_gave o history v buffer) k.open_contents k)
+      (held_buffered o history turns begun v buffer d.number w (subst (IsKept o history turns begun v) at (k.each v)) k.number_is few) (agree_gave o history v buffer) k.open_contents k)
       (λ last old. old) (λ zero. omega arith)
       (λ counted. let put_it = count_put n v new w d.windows at in let fewer = answer_step w.live (eqb w.serial n) w.under w.acked n under_le in omega arith)
       (λ turns t p w. refl) steps steps_are s

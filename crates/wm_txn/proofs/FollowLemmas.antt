@@ -107,7 +107,7 @@ module _ (o : Opening) (history : List Entry) (entry : Entry) where
         let Kept : Windows → Type 0 = Keeps o here turns (t ∷ turns) d.number d.prefix d.current.parts in
         let keeps = subst Kept (sym asked) (keeps_asked o here turns d.number d.prefix d.current.parts a.parts d.windows parts_are k) in
         let left_is : count_all (d.number + 1) a.parts d.windows ≡ count_unanswered n (ask_all (d.number + 1) a.parts d.windows) =
-                counted ∙ (left_asked o here turns d.number d.prefix d.current.parts a.parts d.windows k ∙ ap (count_unanswered n) (sym asked)) in
+        counted ∙ (left_asked o here turns d.number d.prefix d.current.parts a.parts d.windows k ∙ ap (count_unanswered n) (sym asked)) in
         finish_step turns a (began steps a d) (record {
           keeps = keeps;
           was = begins_here o history entry turns was other;

@@ -33,9 +33,9 @@ pub record Sees (o : Opening) (history : List Entry) (d : TxnValue) : Type 0 whe
 
 pub sees : (o : Opening) (history : List Entry) (d : TxnValue) → StandsFor o history d → Sees o history d
 sees o history d s = elim (known o history d s) [
-    | inl r ↦ record { turns = r.0; begun = r.0; keeps = r.1.keeps; numbers = numbers_idle o history r.0 r.1.idle_is.done r.1.idle_is r.1.within; one_more = inl refl }
-    | inr w ↦ record { turns = w.0; begun = w.1 ∷ w.0; keeps = w.3.keeps; numbers = numbers_waiting o history w.0 w.3.waiting_is.done w.1 w.3.waiting_is w.3.within; one_more = inr (w.1, refl) }
-  ]
+  | inl r ↦ record { turns = r.0; begun = r.0; keeps = r.1.keeps; numbers = numbers_idle o history r.0 r.1.idle_is.done r.1.idle_is r.1.within; one_more = inl refl }
+  | inr w ↦ record { turns = w.0; begun = w.1 ∷ w.0; keeps = w.3.keeps; numbers = numbers_waiting o history w.0 w.3.waiting_is.done w.1 w.3.waiting_is w.3.within; one_more = inr (w.1, refl) }
+]
 
 -- ---- serials
 
@@ -77,9 +77,9 @@ module _ (o : Opening) (history : List Entry) (d : TxnValue) (e : Sees o history
   due_step serial true early =
       let above : 0 < serial = omega (arith, ltb-true w.acked serial early) in
       let latest : is_serial serial (configure v (begun_turns o history)) ≡ eqb serial w.serial =
-              asked_serial serial (configure v (begun_turns o history)) above ∙ ap (eqb serial) (ap (λ z. serial_of (configure v z)) e.numbers.begun_are ∙ (ap serial_of held_there.latest_is ∙ serial_is w.serial w.size)) in
+      asked_serial serial (configure v (begun_turns o history)) above ∙ ap (eqb serial) (ap (λ z. serial_of (configure v z)) e.numbers.begun_are ∙ (ap serial_of held_there.latest_is ∙ serial_is w.serial w.size)) in
       let ended_one : is_serial serial (configure v (ended_turns o history)) ≡ eqb serial (committed_serial d.number w) =
-              asked_serial serial (configure v (ended_turns o history)) above ∙ ap (eqb serial) (ap (λ z. serial_of (configure v z)) e.numbers.ended_are ∙ committed_there) in
+      asked_serial serial (configure v (ended_turns o history)) above ∙ ap (eqb serial) (ap (λ z. serial_of (configure v z)) e.numbers.ended_are ∙ committed_there) in
       rw (latest, ended_one, held_there.last_is) refl
 
   pub due_is : (serial : ℕ) → is_due o v serial history ≡ is_due_by d.number serial w
@@ -101,9 +101,9 @@ module _ (o : Opening) (history : List Entry) (d : TxnValue) (e : Sees o history
   due_bounds serial due =
       let p = and_parts (eqb serial w.serial || eqb serial (committed_serial d.number w)) (ltb w.acked serial) due in
       let le : serial ≤ w.serial = elim (or_cases (eqb serial w.serial) (eqb serial (committed_serial d.number w)) p.0) [
-            | inl latest ↦ let q = eqb-true serial w.serial latest in omega arith
-            | inr ended_one ↦ let q = eqb-true serial (committed_serial d.number w) ended_one in let c = committed_le in omega arith
-          ] in
+        | inl latest ↦ let q = eqb-true serial w.serial latest in omega arith
+        | inr ended_one ↦ let q = eqb-true serial (committed_serial d.number w) ended_one in let c = committed_le in omega arith
+      ] in
       (ltb-true w.acked serial p.1, le)
 
 -- ---- acknowledgements
@@ -135,9 +135,10 @@ module _ (o : Opening) (history : List Entry) (d : TxnValue) (s : StandsFor o hi
       by true true is_it due_it =
           let bounds = due_bounds o history d e v w at serial due_it in
           let answer : judge_ack d.number serial (Some w) ≡ Ok tt = rw (is_it, due_it) refl in
-          let heard_it : hear o (Acked v serial) history ≡ Acked v serial = rw (opens, is_it, due_here, due_it) refl in
-          (rw (opens, is_it, due_here, due_it) refl,
-            taken (Acked v serial) (hear o (Acked v serial) history) (ack_found v serial (Some w) d) (is_ok (judge_ack d.number serial (Some w))) heard_it (ap is_ok answer) (stands_acked o history d s v serial w at bounds.0 bounds.1))
+          let heard_it : hear o (Acked v serial) history ≡ Acked v serial = rw (opens, is_it, due_here, due_it) refl in (
+            rw (opens, is_it, due_here, due_it) refl,
+            taken (Acked v serial) (hear o (Acked v serial) history) (ack_found v serial (Some w) d) (is_ok (judge_ack d.number serial (Some w))) heard_it (ap is_ok answer) (stands_acked o history d s v serial w at bounds.0 bounds.1),
+          )
 
   ack_found_there : (serial : ℕ) (found : Option Held) → find v d.windows ≡ found
       → (judge_ack d.number serial found ≡ ack_answer o v serial history) × StandsFor o (hear o (Acked v serial) history ∷ history) (cond (is_ok (judge_ack d.number serial found)) (ack_found v serial found d) d)
@@ -163,9 +164,10 @@ module _ (o : Opening) (history : List Entry) (d : TxnValue) (s : StandsFor o hi
   buffer_known steps steps_are buffer w at opens true true is_it size = (rw (opens, is_it, size) refl, rw (opens, is_it, size) (stands_still o history d s))
   buffer_known steps steps_are buffer w at opens true false is_it size =
       let answer : judge_buffer buffer (Some w) ≡ Ok tt = rw (is_it, size) refl in
-      let heard_it : hear o (Gave v buffer) history ≡ Gave v buffer = rw (opens, is_it, size) refl in
-      (rw (opens, is_it, size) refl,
-        taken (Gave v buffer) (hear o (Gave v buffer) history) (settled steps (buffer_found v buffer (Some w) d)) (is_ok (judge_buffer buffer (Some w))) heard_it (ap is_ok answer) (stands_buffered o history d s v buffer w at steps steps_are))
+      let heard_it : hear o (Gave v buffer) history ≡ Gave v buffer = rw (opens, is_it, size) refl in (
+        rw (opens, is_it, size) refl,
+        taken (Gave v buffer) (hear o (Gave v buffer) history) (settled steps (buffer_found v buffer (Some w) d)) (is_ok (judge_buffer buffer (Some w))) heard_it (ap is_ok answer) (stands_buffered o history d s v buffer w at steps steps_are),
+      )
 
   buffer_found_there : (steps : ℕ) → steps ≡ length history + 1 → (buffer : Buffer) (found : Option Held) → find v d.windows ≡ found
       → (judge_buffer buffer found ≡ buffer_answer o v buffer history) × StandsFor o (hear o (Gave v buffer) history ∷ history) (cond (is_ok (judge_buffer buffer found)) (settled steps (buffer_found v buffer found d)) d)

@@ -68,10 +68,10 @@ module _ (o : Opening) (history : List Entry) (turns : List Turn) (h : HasEnded 
       let none : (j : ℕ) → suc (length turns) < j → past o j history ≡ None = λ j above. beyond o history (suc (length turns)) j after above in
       let open_one : has_ended o history (suc (length turns)) ≡ false = rw (w.begun_is, w.not_ended) refl in
       let not_ended_yet : (j : ℕ) → length turns < j → has_ended o history j ≡ false = λ j above.
-          elim (cases_lt (suc (length turns)) j) [
-            | inl further ↦ rw (none j further) refl
-            | inr near ↦ let same : j ≡ suc (length turns) = omega arith in rw same open_one
-          ] in
+      elim (cases_lt (suc (length turns)) j) [
+        | inl further ↦ rw (none j further) refl
+        | inr near ↦ let same : j ≡ suc (length turns) = omega arith in rw same open_one
+      ] in
       let number = done_by (omega arith) not_ended_yet in
       let begun_number : started o history ≡ suc (length turns) = greatest_is (has_begun o history) (suc (length turns)) (length history) (omega arith) (inr (rw w.begun_is refl)) (λ j above. rw (none j above) refl) in
       record {

@@ -91,7 +91,7 @@ module _ (o : Opening) (history : List Entry) (d : TxnValue) (s : StandsFor o hi
       let test : ConId → Bool = λ v. not (answered o n history v) in
       let chosen : (v : ConId) → has v t.parts ≡ true → (configures turns t.parts v && test v) ≡ is_left n (find v d.windows) = λ v there. is_left_where o history turns t d.windows v (find v d.windows) (w.keeps.each v) in
       let same_least : least_left n d.windows p.arrangement.parts ≡ least test t.awaits =
-              ap (least_left n d.windows) w.parts_are ∙ (sym (least_parts n d.windows (configures turns t.parts) test t.parts chosen) ∙ ap (least test) (sym w.awaits_are)) in
+      ap (least_left n d.windows) w.parts_are ∙ (sym (least_parts n d.windows (configures turns t.parts) test t.parts chosen) ∙ ap (least test) (sym w.awaits_are)) in
       rw same_least (each (least test t.awaits))
     where
       each : (found : Option ConId) → option_map (λ (v : ConId). wait_of (length turns + 1) v (has_acked (length turns + 1) (find v d.windows))) found
@@ -101,14 +101,14 @@ module _ (o : Opening) (history : List Entry) (d : TxnValue) (s : StandsFor o hi
 
   pub waiting_is : waiting_in (d.number + 1) d.windows d.waiting ≡ waiting o history
   waiting_is = elim (known o history d s) [
-      | inl r ↦
-          let numbers = numbers_idle o history r.0 r.1.idle_is.done r.1.idle_is r.1.within in
-          let same_numbers : eqb (started o history) (done o history) ≡ true = eq-eqb (started o history) (done o history) (numbers.started_is ∙ sym numbers.done_is) in
-          rw (r.1.none_waits, same_numbers) refl
-      | inr w ↦
-          let turns = w.0 in
-          let numbers = numbers_waiting o history turns w.3.waiting_is.done w.1 w.3.waiting_is w.3.within in
-          let other : eqb (started o history) (done o history) ≡ false = ne_eqb (started o history) (done o history) (λ e. omega (arith, numbers.started_is, numbers.done_is)) in
-          let number : d.number + 1 ≡ length turns + 1 = ap (λ n. n + 1) w.3.keeps.number_is in
-          rw (w.3.pending_is, other, numbers.begun_are, number) (waiting_here turns w.1 w.2 w.3)
-    ]
+    | inl r ↦
+        let numbers = numbers_idle o history r.0 r.1.idle_is.done r.1.idle_is r.1.within in
+        let same_numbers : eqb (started o history) (done o history) ≡ true = eq-eqb (started o history) (done o history) (numbers.started_is ∙ sym numbers.done_is) in
+        rw (r.1.none_waits, same_numbers) refl
+    | inr w ↦
+        let turns = w.0 in
+        let numbers = numbers_waiting o history turns w.3.waiting_is.done w.1 w.3.waiting_is w.3.within in
+        let other : eqb (started o history) (done o history) ≡ false = ne_eqb (started o history) (done o history) (λ e. omega (arith, numbers.started_is, numbers.done_is)) in
+        let number : d.number + 1 ≡ length turns + 1 = ap (λ n. n + 1) w.3.keeps.number_is in
+        rw (w.3.pending_is, other, numbers.begun_are, number) (waiting_here turns w.1 w.2 w.3)
+  ]

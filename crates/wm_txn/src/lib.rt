@@ -6,6 +6,8 @@ mod calls;
 mod held;
 mod laws;
 mod readings;
+#[cfg(test)]
+mod tests;
 mod txn;
 mod windows;
 

@@ -43,7 +43,10 @@ impl Txn {
         ensures same { last_prefix self.new ≡ last_prefix self.old }
     {
         if let Some(pending) = self.waiting.take() {
-            let Pending { prefix, arrangement } = pending;
+            let Pending {
+                prefix,
+                arrangement,
+            } = pending;
             self.number += 1;
             self.prefix = prefix;
             self.current = arrangement;

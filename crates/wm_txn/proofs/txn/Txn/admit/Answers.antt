@@ -14,5 +14,5 @@ returns-clause-stands c = λ o history at s.
     let Sorted_in : TxnValue → Type 0 = λ z. AreSorted z.windows in
     let sorted = subst Sorted_in made sorted_windows in
     let left : c.settle.new.self ≡ settled (c.args.place + 1) (arranged c.args.newest c.args.gone.now (opened c.args.fresh d)) =
-            c.settle.ensures.value ∙ ap (settled (c.args.place + 1)) (c.arrange.ensures.value ∙ ap (arranged c.args.newest c.args.gone.now) made) in
+    c.settle.ensures.value ∙ ap (settled (c.args.place + 1)) (c.arrange.ensures.value ∙ ap (arranged c.args.newest c.args.gone.now) made) in
     rw left (stands_arranged o (heard o history) d s c.args.newest c.args.fresh c.args.gone.now (c.args.place + 1) (ap (λ n. n + 1) (sym at ∙ sym (heard_length o history))) c.requires.new c.requires.shows sorted)
