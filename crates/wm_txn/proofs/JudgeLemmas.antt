@@ -23,6 +23,10 @@ use Rattle.wm_txn.proofs.StepLemmas.{Pends, Rests, known}
 abbrev pub OneMore : List Turn → List Turn → Type 0
 OneMore turns begun = (begun ≡ turns) ⊎ ((t : Turn) × (begun ≡ t ∷ turns))
 
+pub few_begun : (turns others : List Turn) → OneMore turns others → length others ≤ length turns + 1
+few_begun turns others (inl same_turns) = let e : length others ≡ length turns = ap length same_turns in omega arith
+few_begun turns others (inr one) = let e : length others ≡ suc (length turns) = ap length one.1 in omega arith
+
 -- what the machine knows of the history
 pub record Sees (o : Opening) (history : List Entry) (d : TxnValue) : Type 0 where
   pub turns : List Turn

@@ -7,6 +7,7 @@ pub mod FollowLemmas
 pub mod HeardLemmas
 pub mod JudgeLemmas
 pub mod KeepLemmas
+pub mod LastingLemmas
 pub mod LeastLemmas
 pub mod NumberLemmas
 pub mod OpeningLemmas

@@ -1,4 +1,5 @@
 //! Laws of the transactions.
+ghost use Rattle.wm_txn.specs.Lasting.{BeginsOnce, BeginsThere, BegunStays, EndedStays, EndsThere, EndsTwiceAtMost, NeverFalls, SecondAwaitsNobody};
 ghost use Rattle.wm_txn.specs.Standing.{BeginsWithin, KnowsOpen, KnowsWindows, StillStands};
 
 /// An entry that is none of the machine's business leaves it standing for the history.
@@ -22,4 +23,51 @@ pub fn each_window_is_known()
 #[tactic(auto, using(crate::proofs::StandingLemmas::knows_open))]
 pub fn open_windows_are_known()
     ensures { KnowsOpen }
+{}
+
+/// What has begun stays so as the history grows.
+#[tactic(auto, using(crate::proofs::LastingLemmas::begun_lasts))]
+pub fn what_has_begun_stays()
+    ensures { BegunStays }
+{}
+
+/// What has ended stays so as the history grows.
+#[tactic(auto, using(crate::proofs::LastingLemmas::ended_lasts))]
+pub fn what_has_ended_stays()
+    ensures { EndedStays }
+{}
+
+/// A transaction that has begun with one more entry began at that entry.
+#[tactic(auto, using(crate::proofs::LastingLemmas::begins_there))]
+pub fn a_transaction_begins_at_the_entry()
+    ensures { BeginsThere }
+{}
+
+/// At most one transaction begins at one entry.
+#[tactic(auto, using(crate::proofs::LastingLemmas::begins_once))]
+pub fn at_most_one_begins()
+    ensures { BeginsOnce }
+{}
+
+/// A transaction that has ended with one more entry ended at that entry.
+#[tactic(auto, using(crate::proofs::LastingLemmas::ends_there))]
+pub fn a_transaction_ends_at_the_entry()
+    ensures { EndsThere }
+{}
+
+/// The number of the last ended transaction and its prefix never fall.
+#[tactic(auto, using(crate::proofs::LastingLemmas::never_falls))]
+pub fn done_and_prefix_never_fall()
+    ensures { NeverFalls }
+{}
+
+/// At most two transactions end at one entry.
+#[tactic(auto, using(crate::proofs::LastingLemmas::ends_twice))]
+pub fn at_most_two_end()
+    ensures { EndsTwiceAtMost }
+{}
+
+/// The second transaction that ends at one entry awaits nobody.
+pub fn the_second_awaits_nobody()
+    ensures { SecondAwaitsNobody }
 {}

@@ -1,0 +1,401 @@
+-- Laws of the schedule as the history grows.
+use Rattle.std.proofs.Common.{◌≡◌, ℕ, zero, suc, ◌+◌, ◌≤◌, ◌<◌, Bool, true, false, cond, not, ◌&&◌, ◌||◌, eqb, leb, ◌⊎◌, inl, inr, ⊎_elim, List, [], ◌∷◌, length, Option, Some, None, is_some, refl, ap, ap₂, sym, ◌∙◌, subst, arith}
+use Rattle.std.proofs.lemmas.Bool.{and_parts, and_right, cases_lt, cases_Bool, false_from_ne_true, lt-leb, ne_eqb, or_from}
+use Rattle.std.specs.List.{list_all}
+use Rattle.std.specs.Option.{option_map, option_and_then, unwrap_or}
+use Rattle.wm_base.specs.declared.ids.ConId.{ConId}
+use Rattle.wm_arrange.specs.declared.parts.Placed.{Placed}
+use Rattle.wm_arrange.specs.Sizes.{is_content}
+use Rattle.wm_txn.specs.Commits.{done, ended_turns, greatest, has_ended, prefix, prefix_of, turns_up_to}
+use Rattle.wm_txn.specs.Heard.{hear, heard}
+use Rattle.wm_txn.specs.History.{Opening, Entry, arrangement, gave, gives, is_open, last}
+use Rattle.wm_txn.specs.Lasting.{BegunStays, EndedStays, BeginsThere, BeginsOnce, EndsThere, NeverFalls, EndsTwiceAtMost, SecondAwaitsNobody}
+use Rattle.wm_txn.specs.Machine.{TxnValue, find}
+use Rattle.wm_txn.specs.Schedule.{Turn, answered, begun, configures, contents, differs, ended, first_when, is_named, may_end, names, next, or_here, past, turn_from}
+use Rattle.wm_txn.specs.Stands.{IsKept, Stands}
+use Rattle.wm_txn.specs.declared.held.Held.{Held}
+use Rattle.wm_txn.proofs.AnswerLemmas.{has, has_here, has_later}
+use Rattle.wm_txn.proofs.FirstLemmas.{first_none, first_short, first_stays, first_within}
+use Rattle.wm_txn.proofs.JudgeLemmas.{Sees, sees, few_begun}
+use Rattle.wm_txn.proofs.NumberLemmas.{beyond}
+use Rattle.wm_txn.proofs.ScheduleLemmas.{ended_stays, mapped_none, mapped_some, past_stays, then_some}
+use Rattle.wm_txn.proofs.SettleLemmas.{same_itself}
+
+pub begun_lasts : BegunStays
+begun_lasts o history entry i turns h = past_stays o history entry i turns h
+
+pub ended_lasts : EndedStays
+ended_lasts o history entry turns place h = ended_stays o history entry turns place h
+
+-- ---- what is found with one more entry
+
+new_here : (found : Option (List Entry)) (passes : Bool) (history place : List Entry) → found ≡ None → or_here found passes history ≡ Some place → place ≡ history
+new_here None true history place none h = cc
+new_here None false history place none h = cc
+new_here (Some z) passes history place none h = cc
+
+first_new : (test : List Entry → Bool) (n : ℕ) (history place : List Entry) (entry : Entry) → first_when test n history ≡ None → first_when test n (entry ∷ history) ≡ Some place → place ≡ entry ∷ history
+first_new test n history place entry none h = new_here (first_when test n history) _ (entry ∷ history) place none h
+
+old_or_new : (found : Option (List Entry)) (passes : Bool) (history place : List Entry) → or_here found passes history ≡ Some place → (found ≡ Some place) ⊎ (place ≡ history)
+old_or_new None true history place h = inr (cc)
+old_or_new None false history place h = cc
+old_or_new (Some z) passes history place h = inl h
+
+-- what is found and has as many entries as there are is the whole history
+first_late : (test : List Entry → Bool) (n : ℕ) (history place : List Entry) (entry : Entry) → first_when test n (entry ∷ history) ≡ Some place → length history < length place → place ≡ entry ∷ history
+first_late test n history place entry h late =
+    elim (old_or_new (first_when test n history) _ (entry ∷ history) place h) [
+      | inl before ↦ let bounds = first_within test n history place before in absurd (omega arith)
+      | inr here ↦ here
+    ]
+
+holds_here : (found : Option (List Entry)) (test : List Entry → Bool) (b : Bool) (history place : List Entry) → or_here found (b && test history) history ≡ Some place → ((z : List Entry) → found ≡ Some z → test z ≡ true) → test place ≡ true
+holds_here (Some z) test b history place h before = let e : z ≡ place = cc in ap test (sym e) ∙ before z refl
+holds_here None test b history place h before = by (b && test history) refl h
+  where
+    by : (c : Bool) → (b && test history) ≡ c → or_here None c history ≡ Some place → test place ≡ true
+    by true e k = let same_place : history ≡ place = cc in ap test (sym same_place) ∙ (and_parts b (test history) e).1
+    by false e k = cc
+
+-- the test holds at what is found
+first_holds : (test : List Entry → Bool) (n : ℕ) (history place : List Entry) → first_when test n history ≡ Some place → test place ≡ true
+first_holds test n [] place h = holds_here None test (leb n 0) [] place h (λ z none. cc)
+first_holds test n (entry ∷ history) place h = holds_here (first_when test n history) test (leb n (length history + 1)) (entry ∷ history) place h (λ z found. first_holds test n history z found)
+
+pub ends_there : EndsThere
+ends_there o history entry [] place none h = cc
+ends_there o history entry (t ∷ turns) place none h = first_new (may_end o (length turns + 1) t) t.prefix history place entry none h
+
+ended_late : (o : Opening) (history : List Entry) (t : Turn) (turns : List Turn) (place : List Entry) → ended o (t ∷ turns) history ≡ Some place → t.prefix ≤ length place
+ended_late o history t turns place h = (first_within (may_end o (length turns + 1) t) t.prefix history place h).0
+
+-- ---- how a transaction has begun
+
+-- the transactions before it, where the last of them ended, and where it began
+record Beginning (o : Opening) (history : List Entry) (before : Option (List Turn)) (t : Turn) (turns : List Turn) : Type 0 where
+  before_is : before ≡ Some turns
+  ended_place : List Entry
+  ended_at : ended o turns history ≡ Some ended_place
+  place : List Entry
+  found : first_when (differs o turns) (length ended_place) history ≡ Some place
+  turn_is : t ≡ turn_from o turns place
+
+beginning : (o : Opening) (history : List Entry) (before : Option (List Turn)) (t : Turn) (turns : List Turn) → next o history before ≡ Some (t ∷ turns) → Beginning o history before t turns
+beginning o history None t turns h = cc
+beginning o history (Some us) t turns h =
+    let s = mapped_some (λ at. turn_from o us at ∷ us) (begun o us history) (t ∷ turns) h in
+    let f = then_some (λ at. first_when (differs o us) (length at) history) (ended o us history) s.0 s.1 in
+    let same_turns : us ≡ turns = cc in
+    let same_turn : turn_from o us s.0 ≡ t = cc in
+    let Ended_at : List Turn → Type 0 = λ z. ended o z history ≡ Some f.0 in
+    let Found_at : List Turn → Type 0 = λ z. first_when (differs o z) (length f.0) history ≡ Some s.0 in
+    record {
+      before_is = ap (λ z. Some z) same_turns;
+      ended_place = f.0;
+      ended_at = subst Ended_at same_turns f.1;
+      place = s.0;
+      found = subst Found_at same_turns f.2;
+      turn_is = sym same_turn ∙ ap (λ z. turn_from o z s.0) same_turns;
+    }
+
+length_step : (o : Opening) (history : List Entry) (before : Option (List Turn)) (i : ℕ) (turns : List Turn) → ((us : List Turn) → before ≡ Some us → length us ≡ i) → next o history before ≡ Some turns → length turns ≡ suc i
+length_step o history None i turns h e = cc
+length_step o history (Some us) i turns h e =
+    let s = mapped_some (λ at. turn_from o us at ∷ us) (begun o us history) turns e in
+    let l = h us refl in
+    let cons : length turns ≡ suc (length us) = ap length (sym s.2) in
+    omega arith
+
+-- the first i transactions are i
+pub past_length : (o : Opening) (history : List Entry) (i : ℕ) (turns : List Turn) → past o i history ≡ Some turns → length turns ≡ i
+past_length o history zero turns h = let e : [] ≡ turns = cc in ap length (sym e)
+past_length o history (suc i) turns h = length_step o history (past o i history) i turns (past_length o history i) h
+
+some_past : (o : Opening) (history later : List Entry) (i : ℕ) → past o i history ≡ None → past o i later ≡ Some [] → ⊥
+some_past o history later zero none h = cc
+some_past o history later (suc i) none h = let l = past_length o later (suc i) [] h in omega arith
+
+module _ (o : Opening) (history : List Entry) (entry : Entry) where
+  abbrev grown : List Entry
+  grown = entry ∷ history
+
+  from_late : (before : Option (List Turn)) (t : Turn) (turns : List Turn) → (b : Beginning o grown before t turns) → length history < length b.ended_place → t ≡ turn_from o turns grown
+  from_late before t turns b late =
+      let bounds = first_within (differs o turns) (length b.ended_place) grown b.place b.found in
+      let here = first_late (differs o turns) (length b.ended_place) history b.place entry b.found (omega arith) in
+      b.turn_is ∙ ap (turn_from o turns) here
+
+  from_new : (before : Option (List Turn)) (t : Turn) (turns : List Turn) → (b : Beginning o grown before t turns) → first_when (differs o turns) (length b.ended_place) history ≡ None → t ≡ turn_from o turns grown
+  from_new before t turns b none = b.turn_is ∙ ap (turn_from o turns) (first_new (differs o turns) (length b.ended_place) history b.place entry none b.found)
+
+  by_end : (before : Option (List Turn)) (t : Turn) (turns : List Turn) → (b : Beginning o grown before t turns) → begun o turns history ≡ None → (was : Option (List Entry)) → ended o turns history ≡ was → t ≡ turn_from o turns grown
+  by_end before t turns b none None was =
+      let here = ends_there o history entry turns b.ended_place was b.ended_at in
+      from_late before t turns b (subst (λ z. length history < length z) (sym here) (omega arith))
+  by_end before t turns b none (Some place) was =
+      let later = ended_stays o history entry turns place was in
+      let same_place : place ≡ b.ended_place = let e : Some place ≡ Some b.ended_place = sym later ∙ b.ended_at in cc in
+      let not_found : first_when (differs o turns) (length place) history ≡ None = rw was at none in
+      from_new before t turns b (ap (λ z. first_when (differs o turns) (length z) history) (sym same_place) ∙ not_found)
+
+  begins_by : (i : ℕ) (was : Option (List Turn)) → past o i history ≡ was → ((t : Turn) (turns : List Turn) → was ≡ None → past o i grown ≡ Some (t ∷ turns) → t ≡ turn_from o turns grown)
+      → (t : Turn) (turns : List Turn) → next o history was ≡ None → (b : Beginning o grown (past o i grown) t turns) → t ≡ turn_from o turns grown
+  begins_by i None at before t [] none b = absurd (some_past o history grown i at b.before_is)
+  begins_by i None at before t (u ∷ turns) none b =
+      let started = before u turns refl b.before_is in
+      let late = ended_late o grown u turns b.ended_place b.ended_at in
+      let at_prefix : u.prefix ≡ length grown = ap (λ (z : Turn). z.prefix) started in
+      from_late (past o i grown) t (u ∷ turns) b (omega arith)
+  begins_by i (Some us) at before t turns none b =
+      let later = past_stays o history entry i us at in
+      let same_turns : us ≡ turns = let e : Some us ≡ Some turns = sym later ∙ b.before_is in cc in
+      let not_begun = mapped_none (λ z. turn_from o us z ∷ us) (begun o us history) none in
+      by_end (past o i grown) t turns b (ap (λ z. begun o z history) (sym same_turns) ∙ not_begun) (ended o turns history) refl
+
+  begins_step : (i : ℕ) (t : Turn) (turns : List Turn) → past o i history ≡ None → past o i grown ≡ Some (t ∷ turns) → t ≡ turn_from o turns grown
+  begins_step zero t turns none h = cc
+  begins_step (suc i) t turns none h =
+      begins_by i (past o i history) refl (λ u us was later. begins_step i u us was later) t turns none (beginning o grown (past o i grown) t turns h)
+
+  after_new : (t : Turn) (turns : List Turn) → t ≡ turn_from o turns grown → (found : Option (List Entry)) → ended o (t ∷ turns) grown ≡ found → begun o (t ∷ turns) grown ≡ None
+  after_new t turns new None at = rw at refl
+  after_new t turns new (Some place) at =
+      let late = ended_late o grown t turns place at in
+      let prefix : t.prefix ≡ length grown = ap (λ (z : Turn). z.prefix) new in
+      let same_arrangement : t.parts ≡ arrangement o grown = ap (λ (z : Turn). z.parts) new in
+      let none_here : differs o (t ∷ turns) grown ≡ false = rw same_arrangement (ap not (same_itself (arrangement o grown))) in
+      rw at (first_none (differs o (t ∷ turns)) (length place) history entry (first_short (differs o (t ∷ turns)) (length place) history (omega arith)) none_here)
+
+  once_by : (i : ℕ) → past o i history ≡ None → (found : Option (List Turn)) → past o i grown ≡ found → next o grown found ≡ None
+  once_by i none None at = refl
+  once_by i none (Some []) at = absurd (some_past o history grown i none at)
+  once_by i none (Some (t ∷ turns)) at = ap (option_map (λ z. turn_from o (t ∷ turns) z ∷ t ∷ turns)) (after_new t turns (begins_step i t turns none at) (ended o (t ∷ turns) grown) refl)
+
+  once_step : (i : ℕ) → past o i history ≡ None → past o (suc i) grown ≡ None
+  once_step i none = once_by i none (past o i grown) refl
+
+pub begins_there : BeginsThere
+begins_there o history entry i t turns none h = begins_step o history entry i t turns none h
+
+pub begins_once : BeginsOnce
+begins_once o history entry i none = once_step o history entry i none
+
+-- no more transactions have begun than there are entries
+none_beyond : (o : Opening) (history : List Entry) (i : ℕ) → length history < i → past o i history ≡ None
+none_beyond o [] i above = beyond_first i above
+  where
+    first_one : past o 1 [] ≡ None
+    first_one = rw (same_itself o.parts) refl
+
+    beyond_first : (i : ℕ) → 0 < i → past o i [] ≡ None
+    beyond_first zero above = absurd (omega arith)
+    beyond_first (suc zero) above = first_one
+    beyond_first (suc (suc i)) above = beyond o [] 0 (suc (suc i)) first_one (omega arith)
+none_beyond o (entry ∷ history) zero above = absurd (omega arith)
+none_beyond o (entry ∷ history) (suc i) above = once_step o history entry i (none_beyond o history i (omega arith))
+
+-- ---- numbers
+
+greatest_le : (test : ℕ → Bool) (m : ℕ) → greatest test m ≤ m
+greatest_le test zero = omega arith
+greatest_le test (suc m) = by (test (suc m)) (greatest_le test m)
+  where
+    by : (b : Bool) → greatest test m ≤ m → cond b (suc m) (greatest test m) ≤ suc m
+    by true h = omega arith
+    by false h = omega arith
+
+greatest_holds : (test : ℕ → Bool) (m : ℕ) → (greatest test m ≡ 0) ⊎ (test (greatest test m) ≡ true)
+greatest_holds test zero = inl refl
+greatest_holds test (suc m) = by (test (suc m)) refl (greatest_holds test m)
+  where
+    by : (b : Bool) → test (suc m) ≡ b → (greatest test m ≡ 0) ⊎ (test (greatest test m) ≡ true) → (cond b (suc m) (greatest test m) ≡ 0) ⊎ (test (cond b (suc m) (greatest test m)) ≡ true)
+    by true e h = inr e
+    by false e h = h
+
+greatest_above : (test : ℕ → Bool) (m i : ℕ) → i ≤ m → test i ≡ true → i ≤ greatest test m
+greatest_above test zero i le h = omega arith
+greatest_above test (suc m) i le h = by (test (suc m)) refl (λ less. greatest_above test m i less h)
+  where
+    by : (b : Bool) → test (suc m) ≡ b → (i ≤ m → i ≤ greatest test m) → i ≤ cond b (suc m) (greatest test m)
+    by true e rest = omega arith
+    by false e rest = elim (cases_lt m i) [
+        | inl last_one ↦ let same : i ≡ suc m = omega arith in let bad : true ≡ false = sym h ∙ (ap test same ∙ e) in cc
+        | inr less ↦ rest less
+      ]
+
+record HasPlace (o : Opening) (history : List Entry) (i : ℕ) : Type 0 where
+  turns : List Turn
+  place : List Entry
+  past_is : past o i history ≡ Some turns
+  ended_at : ended o turns history ≡ Some place
+
+place_by : (o : Opening) (history : List Entry) (i : ℕ) (found : Option (List Turn)) → past o i history ≡ found → is_some (option_and_then (λ turns. ended o turns history) found) ≡ true → HasPlace o history i
+place_by o history i None at h = let bad : false ≡ true = h in cc
+place_by o history i (Some turns) at h = by (ended o turns history) refl h
+  where
+    by : (found : Option (List Entry)) → ended o turns history ≡ found → is_some found ≡ true → HasPlace o history i
+    by None e k = let bad : false ≡ true = k in cc
+    by (Some place) e k = record { turns = turns; place = place; past_is = at; ended_at = e }
+
+has_place : (o : Opening) (history : List Entry) (i : ℕ) → has_ended o history i ≡ true → HasPlace o history i
+has_place o history i h = place_by o history i (past o i history) refl h
+
+place_has : (o : Opening) (history : List Entry) (i : ℕ) → HasPlace o history i → has_ended o history i ≡ true
+place_has o history i p = rw (p.past_is, p.ended_at) refl
+
+ended_again : (o : Opening) (history : List Entry) (entry : Entry) (i : ℕ) → has_ended o history i ≡ true → has_ended o (entry ∷ history) i ≡ true
+ended_again o history entry i h =
+    let p = has_place o history i h in
+    place_has o (entry ∷ history) i (record { turns = p.turns; place = p.place; past_is = past_stays o history entry i p.turns p.past_is; ended_at = ended_stays o history entry p.turns p.place p.ended_at })
+
+done_rises : (o : Opening) (history : List Entry) (entry : Entry) → done o history ≤ done o (entry ∷ history)
+done_rises o history entry =
+    elim (greatest_holds (has_ended o history) (length history)) [
+      | inl none ↦ omega arith
+      | inr holds ↦
+          let le = greatest_le (has_ended o history) (length history) in
+          greatest_above (has_ended o (entry ∷ history)) (length (entry ∷ history)) (done o history) (omega arith) (ended_again o history entry (done o history) holds)
+    ]
+
+unwrapped : (o : Opening) (history : List Entry) (i : ℕ) (turns : List Turn) → past o i history ≡ Some turns → past o i history ≡ Some (turns_up_to o i history)
+unwrapped o history i turns h = h ∙ ap (λ z. Some z) (sym (rw h refl))
+
+-- the transactions that have ended have begun
+pub done_past : (o : Opening) (history : List Entry) → past o (done o history) history ≡ Some (ended_turns o history)
+done_past o history =
+    elim (greatest_holds (has_ended o history) (length history)) [
+      | inl none ↦ unwrapped o history (done o history) [] (ap (λ z. past o z history) none)
+      | inr holds ↦ let p = has_place o history (done o history) holds in unwrapped o history (done o history) p.turns p.past_is
+    ]
+
+prefix_step : (o : Opening) (history : List Entry) (turns us : List Turn) (t : Turn) (before : Option (List Turn)) → Beginning o history before t us → prefix_of turns ≤ prefix_of us → prefix_of turns ≤ t.prefix
+prefix_step o history turns [] t before b h = omega arith
+prefix_step o history turns (u ∷ us) t before b h =
+    let late = ended_late o history u us b.ended_place b.ended_at in
+    let bounds = first_within (differs o (u ∷ us)) (length b.ended_place) history b.place b.found in
+    let at : t.prefix ≡ length b.place = ap (λ (z : Turn). z.prefix) b.turn_is in
+    omega arith
+
+prefix_rises : (o : Opening) (history : List Entry) (i j : ℕ) (turns later : List Turn) → i ≤ j → past o i history ≡ Some turns → past o j history ≡ Some later → prefix_of turns ≤ prefix_of later
+prefix_rises o history i zero turns later le at_i at_j =
+    let zero_i : i ≡ 0 = omega arith in
+    let none : length turns ≡ 0 = past_length o history i turns at_i ∙ zero_i in
+    by turns none
+  where
+    by : (turns : List Turn) → length turns ≡ 0 → prefix_of turns ≤ prefix_of later
+    by [] e = omega arith
+    by (t ∷ turns) e = absurd (omega arith)
+prefix_rises o history i (suc j) turns [] le at_i at_j = absurd (omega (arith, past_length o history (suc j) [] at_j))
+prefix_rises o history i (suc j) turns (t ∷ us) le at_i at_j =
+    elim (cases_lt j i) [
+      | inl last_one ↦
+          let same : i ≡ suc j = omega arith in
+          let e : Some turns ≡ Some (t ∷ us) = sym at_i ∙ (ap (λ z. past o z history) same ∙ at_j) in
+          let same_turns : turns ≡ t ∷ us = cc in
+          subst (λ z. prefix_of z ≤ t.prefix) (sym same_turns) (omega arith)
+      | inr less ↦
+          let b = beginning o history (past o j history) t us at_j in
+          prefix_step o history turns us t (past o j history) b (prefix_rises o history i j turns us less at_i b.before_is)
+    ]
+
+pub never_falls : NeverFalls
+never_falls o history entry =
+    let rises = done_rises o history entry in
+    (rises, prefix_rises o (entry ∷ history) (done o history) (done o (entry ∷ history)) (ended_turns o history) (ended_turns o (entry ∷ history)) rises
+      (past_stays o history entry (done o history) (ended_turns o history) (done_past o history)) (done_past o (entry ∷ history)))
+
+-- ---- two ends
+
+not_ended_next : (o : Opening) (history : List Entry) (found : Option (List Turn)) → is_some (option_and_then (λ turns. ended o turns history) found) ≡ false → next o history found ≡ None
+not_ended_next o history None h = refl
+not_ended_next o history (Some turns) h = by (ended o turns history) refl h
+  where
+    by : (found : Option (List Entry)) → ended o turns history ≡ found → is_some found ≡ false → next o history (Some turns) ≡ None
+    by None e k = rw e refl
+    by (Some place) e k = let bad : true ≡ false = k in cc
+
+next_not_ended : (o : Opening) (history : List Entry) → has_ended o history (suc (done o history)) ≡ false
+next_not_ended o history =
+    elim (cases_lt (length history) (suc (done o history))) [
+      | inl above ↦ rw (none_beyond o history (suc (done o history)) above) refl
+      | inr within ↦ false_from_ne_true (has_ended o history (suc (done o history))) (λ holds. let le = greatest_above (has_ended o history) (length history) (suc (done o history)) within holds in absurd (omega arith))
+    ]
+
+-- at most one more has begun than has ended
+pub not_begun : (o : Opening) (history : List Entry) → past o (suc (suc (done o history))) history ≡ None
+not_begun o history = not_ended_next o history (past o (suc (done o history)) history) (next_not_ended o history)
+
+pub ends_twice : EndsTwiceAtMost
+ends_twice o history entry =
+    let none : past o (suc (suc (suc (done o history)))) (entry ∷ history) ≡ None = once_step o history entry (suc (suc (done o history))) (not_begun o history) in
+    let m = done o (entry ∷ history) in
+    elim (greatest_holds (has_ended o (entry ∷ history)) (length (entry ∷ history))) [
+      | inl zero_m ↦ omega arith
+      | inr holds ↦ elim (cases_lt (suc (suc (done o history))) m) [
+          | inl above ↦ let p = has_place o (entry ∷ history) m holds in
+              let bad : None ≡ Some p.turns = sym (beyond o (entry ∷ history) (suc (suc (done o history))) m none above) ∙ p.past_is in cc
+          | inr within ↦ omega arith
+        ]
+    ]
+
+first_has_step : (c : ConId → Bool) (p : Placed) (parts : List Placed) (v : ConId) (rest : List ConId) (a b : Bool) → is_content p.part ≡ a → (contents c parts ≡ v ∷ rest → has v parts ≡ true)
+    → cond (a && b) (p.con ∷ contents c parts) (contents c parts) ≡ v ∷ rest → has v (p ∷ parts) ≡ true
+first_has_step c p parts v rest true true e later k = let same_con : p.con ≡ v = cc in subst (λ z. has z (p ∷ parts) ≡ true) same_con (has_here p parts e)
+first_has_step c p parts v rest true false e later k = has_later v p parts (later k)
+first_has_step c p parts v rest false b e later k = has_later v p parts (later k)
+
+first_has : (c : ConId → Bool) (parts : List Placed) (v : ConId) (rest : List ConId) → contents c parts ≡ v ∷ rest → has v parts ≡ true
+first_has c [] v rest h = cc
+first_has c (p ∷ parts) v rest h = first_has_step c p parts v rest (is_content p.part) (c p.con) refl (first_has c parts v rest) h
+
+module _ (o : Opening) (history : List Entry) (entry : Entry) (d : TxnValue) (e : Sees o history d) where
+  too_new : (n : ℕ) → length e.turns + 1 < n → (v : ConId) (found : Option Held) → IsKept o history e.turns e.begun v found → gave n v (entry ∷ history) ≡ false
+  too_new n above v None kept =
+      let other : eqb (last v history) n ≡ false = ne_eqb (last v history) n (λ same. omega (arith, kept.no_last)) in
+      or_from (gives v entry && eqb (last v history) n) (gave n v history) (and_right (gives v entry) _ other) (kept.no_gift n)
+  too_new n above v (Some w) kept =
+      let few = few_begun e.turns e.begun e.one_more in
+      let other : eqb (last v history) n ≡ false = ne_eqb (last v history) n (λ same. omega (arith, kept.last_is, kept.acked_le, kept.serial_le)) in
+      let none : gave n v history ≡ false = kept.gave_is n (omega arith) ∙ lt-leb n w.under (omega (arith, kept.under_le, kept.acked_le, kept.serial_le)) in
+      or_from (gives v entry && eqb (last v history) n) (gave n v history) (and_right (gives v entry) _ other) none
+
+-- a transaction with a number that no window has acknowledged awaits nobody where it ends at once
+nobody : (o : Opening) (history : List Entry) (n : ℕ) (t : Turn) (turns : List Turn) (c : ConId → Bool) → ((v : ConId) → gave n v history ≡ false) → ((v : ConId) → has v (arrangement o history) ≡ true → is_open o v history ≡ true)
+    → (views : List ConId) → contents c (arrangement o history) ≡ views → list_all (answered o n history) views ≡ true → views ≡ []
+nobody o history n t turns c none opens [] at all = refl
+nobody o history n t turns c none opens (v ∷ views) at all =
+    let answer = and_parts (answered o n history v) (list_all (answered o n history) views) all in
+    let there = opens v (first_has c (arrangement o history) v views at) in
+    let bad : false ≡ true = rw (none v, there) at answer.0 in
+    cc
+
+pub second_awaits_nobody : SecondAwaitsNobody
+second_awaits_nobody o history entry before after stood stands t turns place begun_is ended_at =
+    let g = heard o history in
+    let e' = hear o entry g in
+    let n = done o g + 2 in
+    let e = sees o g before stood in
+    let none : past o n g ≡ None = ap (λ z. past o z g) (two (done o g)) ∙ not_begun o g in
+    let new = begins_there o g e' n t turns none begun_is in
+    let at_prefix : t.prefix ≡ length (e' ∷ g) = ap (λ (z : Turn). z.prefix) new in
+    let late = ended_late o (e' ∷ g) t turns place ended_at in
+    let here : place ≡ e' ∷ g = first_late (may_end o (length turns + 1) t) t.prefix g place e' ended_at (omega arith) in
+    let may : may_end o (length turns + 1) t (e' ∷ g) ≡ true = ap (may_end o (length turns + 1) t) (sym here) ∙ first_holds (may_end o (length turns + 1) t) t.prefix (e' ∷ g) place ended_at in
+    let number : suc (length turns) ≡ n = past_length o (e' ∷ g) n (t ∷ turns) begun_is in
+    let number_is : length turns + 1 ≡ n = omega arith in
+    let not_late : leb t.prefix (length g) ≡ false = lt-leb t.prefix (length g) (omega arith) in
+    let not_named : is_named (length turns + 1) t.prefix (e' ∷ g) ≡ false = rw not_late (and_right (names (length turns + 1) e') false refl) in
+    let all : list_all (answered o (length turns + 1) (e' ∷ g)) t.awaits ≡ true = either (list_all (answered o (length turns + 1) (e' ∷ g)) t.awaits) (is_named (length turns + 1) t.prefix (e' ∷ g)) may not_named in
+    let done_is = e.numbers.done_is in
+    let awaits : t.awaits ≡ contents (configures turns (arrangement o (e' ∷ g))) (arrangement o (e' ∷ g)) = ap (λ (z : Turn). z.awaits) new in
+    nobody o (e' ∷ g) (length turns + 1) t turns (configures turns (arrangement o (e' ∷ g)))
+    (λ v. too_new o g e' before e (length turns + 1) (omega arith) v (find v before.windows) (e.keeps.each v))
+    stands.keeps.open_contents t.awaits (sym awaits) all
+  where
+    two : (m : ℕ) → m + 2 ≡ suc (suc m)
+    two m = omega arith
+
+    either : (a b : Bool) → (a || b) ≡ true → b ≡ false → a ≡ true
+    either true b h k = refl
+    either false b h k = let bad : false ≡ true = sym k ∙ h in cc
