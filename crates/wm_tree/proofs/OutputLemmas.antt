@@ -207,11 +207,11 @@ module _ (o h : ConId) (t : TreeValue) (s : IsSound t) (ok : IsOutput o t.nodes)
   }
 
 -- what making another output current changes
-record Yields (h : ConId) (old new : Forest) : Type 0 where
+pub record Yields (h : ConId) (old new : Forest) : Type 0 where
   pub row : first_kids new ≡ first_kids old
   pub now : current_in (first_part new) ≡ h
 
-yields : (h : ConId) (f : Forest) → IsSoundRow roots false 0 f → in_row root f ≡ true → Yields h f (at root kind_changed (edits.Current h) f)
+pub yields : (h : ConId) (f : Forest) → IsSoundRow roots false 0 f → in_row root f ≡ true → Yields h f (at root kind_changed (edits.Current h) f)
 yields h end s rooted = cc
 yields h (con part kids floats rest) s rooted =
     let New : Forest → Type 0 = λ z. Yields h (con part kids floats rest) z in

@@ -1,0 +1,4 @@
+use Rattle.wm_spaces.proofs.coming.+free_from.Given as goal
+
+abbrev pub decreases-free_from : goal.decreases-free_from
+decreases-free_from l = l.most

@@ -1,0 +1,4 @@
+pub mod Coming
+pub mod Names
+pub mod Outs
+pub mod Renaming

@@ -1,0 +1,11 @@
+//! Commands on workspaces and outputs: each does one command to the tree.
+#![tactic(auto)]
+
+mod coming;
+mod names;
+mod outs;
+mod renaming;
+
+pub use coming::{focus_output, output_added, output_removed};
+pub use outs::output_at;
+pub use renaming::rename;

@@ -1,0 +1,60 @@
+//! The output that a command names.
+ghost use Rattle.std.specs.Prelude.{◌≡◌, IfSome, true};
+ghost use Rattle.wm_spaces.specs.Outs.{next_in, output_at, output_of};
+ghost use Rattle.wm_tree.specs.Look.{first_kids, in_row, node_in, nth_id, rest_of};
+ghost use Rattle.wm_tree.specs.Sound.{IsSound};
+
+use crate::names::output_named;
+use wm_base::ConId;
+use wm_grammar::OutArg;
+use wm_showing::output_in;
+use wm_tree::{Cursor, Tree};
+
+/// The output of a container or workspace.
+pub(crate) fn output_of(t: &Tree, con: ConId) -> Option<ConId>
+    ensures { result ≡ output_of con t.now }
+{
+    t.parent(t.workspace_of(con)?)
+}
+
+/// The first node of a row.
+fn first_id(row: Cursor<'_>) -> Option<ConId>
+    ensures { result ≡ nth_id 0 row.entry }
+{
+    Some(row.part()?.id)
+}
+
+/// The node of a row behind this one.
+fn behind(row: Cursor<'_>, con: ConId) -> Option<ConId>
+    ensures { result ≡ nth_id 0 (rest_of (node_in con row.entry)) }
+{
+    let part = row.part()?;
+    if part.id == con {
+        return first_id(row.rest());
+    }
+    behind(row.rest(), con)
+}
+
+/// The output after this one, the first after the last.
+fn next_of(t: &Tree, output: ConId) -> Option<ConId>
+    ensures { result ≡ next_in (first_kids t.now.nodes) output }
+{
+    match behind(t.nodes().kids(), output) {
+        Some(next) => Some(next),
+        None => first_id(t.nodes().kids()),
+    }
+}
+
+/// The output that a command names: the one in a direction of the subject's, the subject's, the first, the one after the
+/// subject's, the first after the last, or the one of a name. `None` exactly where there is none.
+pub fn output_at(t: &Tree, from: ConId, arg: &OutArg) -> Option<ConId>
+    ensures { result ≡ output_at from arg.now t.now }
+{
+    match arg {
+        OutArg::At(d) => output_in(t, output_of(t, from)?, *d),
+        OutArg::Current => output_of(t, from),
+        OutArg::Primary => first_id(t.nodes().kids()),
+        OutArg::Next => next_of(t, output_of(t, from)?),
+        OutArg::Named(name) => output_named(t, name.as_str()),
+    }
+}
