@@ -1,1 +1,3 @@
 pub mod ComingLemmas
+pub mod OrderLemmas
+pub mod OutLemmas

@@ -3,6 +3,7 @@
 
 mod coming;
 mod names;
+mod order;
 mod outs;
 mod renaming;
 

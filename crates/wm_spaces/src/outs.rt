@@ -1,21 +1,15 @@
 //! The output that a command names.
-ghost use Rattle.std.specs.Prelude.{◌≡◌, IfSome, true};
-ghost use Rattle.wm_spaces.specs.Outs.{next_in, output_at, output_of};
-ghost use Rattle.wm_tree.specs.Look.{first_kids, in_row, node_in, nth_id, rest_of};
+ghost use Rattle.std.specs.Prelude.{◌≡◌, IfSome};
+ghost use Rattle.wm_spaces.specs.Outs.{next_in, output_at};
+ghost use Rattle.wm_tree.specs.Look.{first_kids, node_in, nth_id, rest_of};
+ghost use Rattle.wm_tree.specs.Outputs.{IsOutput};
 ghost use Rattle.wm_tree.specs.Sound.{IsSound};
 
 use crate::names::output_named;
 use wm_base::ConId;
 use wm_grammar::OutArg;
-use wm_showing::output_in;
+use wm_showing::{output_from, output_of};
 use wm_tree::{Cursor, Tree};
-
-/// The output of a container or workspace.
-pub(crate) fn output_of(t: &Tree, con: ConId) -> Option<ConId>
-    ensures { result ≡ output_of con t.now }
-{
-    t.parent(t.workspace_of(con)?)
-}
 
 /// The first node of a row.
 fn first_id(row: Cursor<'_>) -> Option<ConId>
@@ -48,10 +42,17 @@ fn next_of(t: &Tree, output: ConId) -> Option<ConId>
 /// The output that a command names: the one in a direction of the subject's, the subject's, the first, the one after the
 /// subject's, the first after the last, or the one of a name. `None` exactly where there is none.
 pub fn output_at(t: &Tree, from: ConId, arg: &OutArg) -> Option<ConId>
+    ensures value { result ≡ output_at from arg.now t.now }
+    ensures listed { IsSound t.now → IfSome result (λ o. IsOutput o t.now.nodes) }
+{
+    output_for(t, from, arg)
+}
+
+fn output_for(t: &Tree, from: ConId, arg: &OutArg) -> Option<ConId>
     ensures { result ≡ output_at from arg.now t.now }
 {
     match arg {
-        OutArg::At(d) => output_in(t, output_of(t, from)?, *d),
+        OutArg::At(d) => output_from(t, from, *d),
         OutArg::Current => output_of(t, from),
         OutArg::Primary => first_id(t.nodes().kids()),
         OutArg::Next => next_of(t, output_of(t, from)?),
