@@ -3,3 +3,5 @@ pub mod Names
 pub mod Order
 pub mod Outs
 pub mod Renaming
+pub mod Shows
+pub mod Targets

@@ -6,7 +6,10 @@ mod names;
 mod order;
 mod outs;
 mod renaming;
+mod showing;
+mod targets;
 
 pub use coming::{focus_output, output_added, output_removed};
 pub use outs::output_at;
 pub use renaming::rename;
+pub use showing::show;

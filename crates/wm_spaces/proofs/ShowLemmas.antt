@@ -1,0 +1,50 @@
+-- Showing workspaces, new ones too, keeps what holds of every tree.
+use Rattle.std.proofs.Common.{◌≡◌, Bool, true, false, cond, List, ℕ, Option, None, Some, refl, ap, sym, subst}
+use Rattle.wm_base.specs.declared.ids.ConId.{ConId}
+use Rattle.wm_showing.proofs.ShowLemmas.{sound_showing}
+use Rattle.wm_showing.specs.Refusing.{IsCause, full_error, refusal_by}
+use Rattle.wm_showing.specs.Showing.{remembering, shown_there, space_name}
+use Rattle.wm_showing.specs.Subject.{is_space}
+use Rattle.wm_spaces.proofs.StandLemmas.{new_stands, stands_space}
+use Rattle.wm_tree.specs.declared.place.TreeRefusal.{TreeRefusal}
+use Rattle.wm_tree.specs.declared.place.TreeRefusal.TheVariants as refusals
+use Rattle.wm_tree.specs.Look.{has, same}
+use Rattle.wm_tree.specs.Outputs.{IsOutput, IsSpaceCause, passed_by_space, with_space}
+use Rattle.wm_tree.specs.Sound.{IsSound}
+use Rattle.wm_tree.specs.TreeValue.{TreeValue, id, parent, shown}
+
+-- the name of the previous workspace does not matter
+unremember : (old new : TreeValue) → IsSound (remembering old new) → IsSound new
+unremember old new s = step (same (shown old) (shown new)) s
+  where
+    step : (b : Bool) → IsSound (cond b new (record new { previous = space_name (shown old) old })) → IsSound new
+    step true s = s
+    step false s = record {
+      shaped = s.shaped;
+      rooted = s.rooted;
+      once = s.once;
+      fresh = s.fresh;
+      low = s.low;
+      above = s.above;
+      known = s.known;
+      few = s.few;
+      few_spaces = s.few_spaces;
+      few_marks = s.few_marks;
+      ids = s.ids;
+    }
+
+-- the new tree of a call
+pub there_by : (w : ConId) (t new : TreeValue) → new ≡ shown_there w (parent t w) t → is_space t w ≡ true → IsSound t → IsSound new
+there_by w t new e h s = rw e (unremember t (shown_there w (parent t w) t) (sound_showing w t h s))
+
+-- a new workspace is one
+pub new_is : (o w : ConId) (n : List ℕ) (t new : TreeValue) → new ≡ with_space o n t → w ≡ id t.next_id → IsSound new → IsSound t → IsOutput o t.nodes → is_space new w ≡ true
+new_is o w n t new e i s_new s ok =
+    let s' : IsSound (with_space o n t) = subst IsSound e s_new in
+    rw (e, i) (stands_space (id t.next_id) (with_space o n t) s' (new_stands o n t s ok))
+
+-- why a new workspace is refused on an output that is there
+pub space_cause : (t : TreeValue) (o : ConId) (e : TreeRefusal) → has o t.nodes ≡ true → IsSpaceCause t o e → IsCause (full_error (passed_by_space t.nodes t.next_id)) (refusal_by e)
+space_cause t o (refusals.Missing c) there h = let no : has o t.nodes ≡ false = h.1 in cc
+space_cause t o (refusals.Full limit) there h = ap full_error h.1
+space_cause t o refusals.NoMemory there h = tt

@@ -1,0 +1,92 @@
+//! Showing the workspace that a command names.
+ghost use Rattle.std.specs.Prelude.{◌≡◌, None, true, OnOk, OnErr, IfErr};
+ghost use Rattle.wm_showing.specs.Refusing.{IsCause, full_error};
+ghost use Rattle.wm_showing.specs.Showing.{followed, shown_there};
+ghost use Rattle.wm_showing.specs.Subject.{is_space};
+ghost use Rattle.wm_spaces.specs.Shows.{show_refusal, show_tree, showing_new};
+ghost use Rattle.wm_tree.specs.Outputs.{IsOutput, passed_by_space};
+ghost use Rattle.wm_tree.specs.Sound.{IsSound};
+ghost use Rattle.wm_tree.specs.TreeValue.{parent};
+
+use crate::targets::{Goal, find_goal, home};
+use wm_base::{ConId, NoMemory, Refusal, Text};
+use wm_grammar::Target;
+use wm_showing::{refused, remember, show_space, shown_on, space_name};
+use wm_tree::Tree;
+
+/// Shows the workspace that the command names, and makes it where it is not there: last on the output that the homes
+/// give its name, if that is there, else on the current one.
+pub fn show(t: &mut Tree, target: &Target, homes: &[(Text, Text)]) -> Result<(), Refusal>
+    requires { IsSound t.old }
+    ensures tree { OnOk result (t.new ≡ show_tree target.now homes.now t.old) }
+    ensures fine { OnOk result (show_refusal target.now t.old ≡ None) }
+    ensures err { OnErr result (t.new ≡ t.old) }
+    ensures cause { IfErr result (IsCause (show_refusal target.now t.old)) }
+    ensures sound { IsSound t.new }
+{
+    let Ok(goal) = find_goal(t, target) else {
+        return Err(Refusal::NoMemory);
+    };
+    match goal {
+        Goal::There(w) => match show_space(t, w) {
+            Ok(()) => Ok(()),
+            Err(NoMemory) => Err(Refusal::NoMemory),
+        },
+        Goal::Absent(name) => {
+            let output = home(t, name.as_str(), homes);
+            show_new(t, output, &name)
+        }
+        Goal::Refused(text) => Err(Refusal::NoTarget(text)),
+    }
+}
+
+/// Makes a workspace of this name on the output and shows it.
+fn show_new(t: &mut Tree, output: ConId, name: &Text) -> Result<(), Refusal>
+    requires sound { IsSound t.old }
+    requires output { IsOutput output t.old.nodes }
+    ensures tree { OnOk result (t.new ≡ showing_new output name.now t.old) }
+    ensures fine { OnOk result (full_error (passed_by_space t.old.nodes t.old.next_id) ≡ None) }
+    ensures err { OnErr result (t.new ≡ t.old) }
+    ensures cause { IfErr result (IsCause (full_error (passed_by_space t.old.nodes t.old.next_id))) }
+    ensures sound { IsSound t.new }
+{
+    let was = t.shown();
+    let Ok(old) = space_name(t, was) else {
+        return Err(Refusal::NoMemory);
+    };
+    match t.add_workspace(output, name) {
+        Ok(w) => {
+            show_there(t, w);
+            remember(t, was, old);
+            Ok(())
+        }
+        Err(error) => Err(refused(error)),
+    }
+}
+
+/// Makes the workspace what its output shows, with the sticky windows of what it showed, and that output the current
+/// one.
+fn show_there(t: &mut Tree, w: ConId)
+    requires sound { IsSound t.old }
+    requires space { is_space t.old w ≡ true }
+    ensures tree { t.new ≡ shown_there w (parent t.old w) t.old }
+    ensures sound { IsSound t.new }
+{
+    if let Some(output) = t.parent(w) {
+        let was = shown_on(t, output);
+        t.set_current(output);
+        t.set_shown(w);
+        follow(t, was, w);
+    }
+}
+
+/// Puts the sticky windows of what was shown into the workspace that comes in its place.
+fn follow(t: &mut Tree, was: Option<ConId>, w: ConId)
+    ensures { t.new ≡ followed was w t.old }
+{
+    if let Some(v) = was
+        && v != w
+    {
+        t.go_along(v, w);
+    }
+}
