@@ -121,8 +121,8 @@ module _ (c : ConId) where
   aside : (part : Part) (kids floats rest : Forest) → tally c (con part kids floats rest) ≤ 1 → Aside part kids floats rest
   aside part kids floats rest once = record {
     here = λ e.
-      let much : 1 + tally c kids + tally c floats + tally c rest ≤ 1 = rw e at once in
-      (none c kids (omega (arith, much)), none c floats (omega (arith, much)), none c rest (omega (arith, much)));
+        let much : 1 + tally c kids + tally c floats + tally c rest ≤ 1 = rw e at once in
+        (none c kids (omega (arith, much)), none c floats (omega (arith, much)), none c rest (omega (arith, much)));
     below = λ e. let some = counted c kids e in (none c floats (omega (arith, once, some)), none c rest (omega (arith, once, some)));
     above = λ e. let some = counted c floats e in none c rest (omega (arith, once, some));
   }

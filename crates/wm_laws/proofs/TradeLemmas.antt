@@ -255,11 +255,11 @@ pub light : (a b : ConId) (pa pb : Part) (f : Forest) → is_con_kind pa.kind �
     → Light (traded a pa b pb) f
 light a b pa pb end ca cb once u v = tt
 light a b pa pb (con part kids floats rest) ca cb once u v = (
-    step (same part.id a) (same part.id b) refl refl,
-    light a b pa pb kids ca cb (once_kids part kids floats rest once) (λ h. sym (down_kids part kids floats rest once a h) ∙ u (has_of_kids a h)) (λ h. sym (down_kids part kids floats rest once b h) ∙ v (has_of_kids b h)),
-    light a b pa pb floats ca cb (once_floats part kids floats rest once) (λ h. sym (down_floats part kids floats rest once a h) ∙ u (has_of_floats a h)) (λ h. sym (down_floats part kids floats rest once b h) ∙ v (has_of_floats b h)),
-    light a b pa pb rest ca cb (once_rest part kids floats rest once) (λ h. sym (down_rest part kids floats rest once a h) ∙ u (has_of_rest a h)) (λ h. sym (down_rest part kids floats rest once b h) ∙ v (has_of_rest b h)),
-  )
+  step (same part.id a) (same part.id b) refl refl,
+  light a b pa pb kids ca cb (once_kids part kids floats rest once) (λ h. sym (down_kids part kids floats rest once a h) ∙ u (has_of_kids a h)) (λ h. sym (down_kids part kids floats rest once b h) ∙ v (has_of_kids b h)),
+  light a b pa pb floats ca cb (once_floats part kids floats rest once) (λ h. sym (down_floats part kids floats rest once a h) ∙ u (has_of_floats a h)) (λ h. sym (down_floats part kids floats rest once b h) ∙ v (has_of_floats b h)),
+  light a b pa pb rest ca cb (once_rest part kids floats rest once) (λ h. sym (down_rest part kids floats rest once a h) ∙ u (has_of_rest a h)) (λ h. sym (down_rest part kids floats rest once b h) ∙ v (has_of_rest b h)),
+)
   where
     node : Forest
     node = con part kids floats rest

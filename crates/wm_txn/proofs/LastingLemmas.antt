@@ -220,9 +220,9 @@ greatest_above test (suc m) i le h = by (test (suc m)) refl (λ less. greatest_a
     by : (b : Bool) → test (suc m) ≡ b → (i ≤ m → i ≤ greatest test m) → i ≤ cond b (suc m) (greatest test m)
     by true e rest = omega arith
     by false e rest = elim (cases_lt m i) [
-        | inl last_one ↦ let same : i ≡ suc m = omega arith in let bad : true ≡ false = sym h ∙ (ap test same ∙ e) in cc
-        | inr less ↦ rest less
-      ]
+      | inl last_one ↦ let same : i ≡ suc m = omega arith in let bad : true ≡ false = sym h ∙ (ap test same ∙ e) in cc
+      | inr less ↦ rest less
+    ]
 
 record HasPlace (o : Opening) (history : List Entry) (i : ℕ) : Type 0 where
   turns : List Turn
@@ -301,9 +301,11 @@ prefix_rises o history i (suc j) turns (t ∷ us) le at_i at_j =
 
 pub never_falls : NeverFalls
 never_falls o history entry =
-    let rises = done_rises o history entry in
-    (rises, prefix_rises o (entry ∷ history) (done o history) (done o (entry ∷ history)) (ended_turns o history) (ended_turns o (entry ∷ history)) rises
-      (past_stays o history entry (done o history) (ended_turns o history) (done_past o history)) (done_past o (entry ∷ history)))
+    let rises = done_rises o history entry in (
+      rises,
+      prefix_rises o (entry ∷ history) (done o history) (done o (entry ∷ history)) (ended_turns o history) (ended_turns o (entry ∷ history)) rises
+          (past_stays o history entry (done o history) (ended_turns o history) (done_past o history)) (done_past o (entry ∷ history)),
+    )
 
 -- ---- two ends
 
@@ -333,10 +335,10 @@ ends_twice o history entry =
     elim (greatest_holds (has_ended o (entry ∷ history)) (length (entry ∷ history))) [
       | inl zero_m ↦ omega arith
       | inr holds ↦ elim (cases_lt (suc (suc (done o history))) m) [
-          | inl above ↦ let p = has_place o (entry ∷ history) m holds in
-              let bad : None ≡ Some p.turns = sym (beyond o (entry ∷ history) (suc (suc (done o history))) m none above) ∙ p.past_is in cc
-          | inr within ↦ omega arith
-        ]
+        | inl above ↦ let p = has_place o (entry ∷ history) m holds in
+            let bad : None ≡ Some p.turns = sym (beyond o (entry ∷ history) (suc (suc (done o history))) m none above) ∙ p.past_is in cc
+        | inr within ↦ omega arith
+      ]
     ]
 
 first_has_step : (c : ConId → Bool) (p : Placed) (parts : List Placed) (v : ConId) (rest : List ConId) (a b : Bool) → is_content p.part ≡ a → (contents c parts ≡ v ∷ rest → has v parts ≡ true)
