@@ -1,7 +1,10 @@
+pub mod CoverLemmas
 pub mod CutLemmas
 pub mod FillLemmas
+pub mod LeafLemmas
 pub mod LotLemmas
 pub mod RowLemmas
 pub mod SameLemmas
 pub mod ShareLemmas
+pub mod StripLemmas
 pub mod TreeLemmas

@@ -1,5 +1,5 @@
 -- The areas of children told by sums of shares are those told by the shares.
-use Rattle.std.proofs.Common.{◌≡◌, Bool, false, cond, ℕ, suc, ◌+◌, List, Option, Some, sum, take, drop, refl, ap, ap₂, sym, ◌∙◌, arith}
+use Rattle.std.proofs.Common.{◌≡◌, Bool, false, cond, ℕ, suc, ◌+◌, Option, Some, sum, take, drop, refl, ap, ap₂, sym, ◌∙◌, arith}
 use Rattle.wm_base.specs.declared.geometry.Axis.{Axis}
 use Rattle.wm_base.specs.declared.geometry.Rect.{Rect}
 use Rattle.wm_base.specs.declared.ids.ConId.{ConId}

@@ -2,6 +2,7 @@ pub mod AreaOf
 pub mod Areas
 pub mod Arranged
 pub mod Borders
+pub mod Cover
 pub mod Gaps
 pub mod Lots
 pub mod Parts

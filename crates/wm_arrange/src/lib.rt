@@ -6,6 +6,7 @@ mod arranging;
 mod borders;
 mod children;
 mod comparing;
+mod covering;
 mod cutting;
 mod filling;
 mod finding;
@@ -22,6 +23,7 @@ mod texts;
 mod titles;
 
 pub use arranging::arrange;
+pub use covering::areas_cover_once;
 pub use cutting::cut;
 pub use finding::area_of;
 pub use parts::{Arrangement, Placed, PlacedPart};

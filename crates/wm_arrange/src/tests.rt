@@ -9,11 +9,11 @@ use std::test::Fail;
 use wm_base::{Border, ConId, Edges, Ink, Layout, OutputPlan, Props, Rect, Size, Text};
 use wm_tree::{ConState, NewCon, Tree};
 
-const FOCUSED: Ink = Ink(0x4c_7899);
+pub const FOCUSED: Ink = Ink(0x4c_7899);
 
 const URGENT: Ink = Ink(0x90_0000);
 
-const PLAIN: Ink = Ink(0x33_3333);
+pub const PLAIN: Ink = Ink(0x33_3333);
 
 fn plan(alloc: Global) -> Result<OutputPlan, Fail>
     ensures { IfOk result (λ plan. IsOutputRect plan.rect) }

@@ -2,7 +2,7 @@
 ghost use Rattle.std.specs.Prelude.{OnOk};
 ghost use Rattle.wm_tree.specs.Sound.{IsSound};
 
-use crate::tests::{Kind, add, expect, props, state, window, windows};
+use crate::tests::{FOCUSED, Kind, PLAIN, add, expect, props, state, window, windows};
 use crate::{area_of, arrange, cut};
 use std::test::Fail;
 use wm_base::{Border, ConId, Layout, List, Rect};
@@ -16,6 +16,41 @@ fn float(tree: &mut Tree, new: NewCon, rect: Rect) -> Result<(), Fail>
     if tree.space(ConId(3)).is_some() {
         let _id = tree.attach(Place::Float(ConId(3), rect), new)?;
     }
+    Ok(())
+}
+
+/// Puts a split with this layout around a tiled container.
+fn split(tree: &mut Tree, con: ConId, layout: Layout) -> Result<(), Fail>
+    requires { IsSound tree.old }
+    ensures { OnOk result (IsSound tree.new) }
+{
+    if tree.is_tiled(con) {
+        let _split = tree.wrap(con, layout)?;
+    }
+    Ok(())
+}
+
+#[test]
+fn a_tabbed_split_in_a_column_beside_a_window(rt: HostRuntime) -> Result<(), Fail> {
+    let mut tree = windows(rt.alloc(), Border::Bare, (0, 0))?;
+    split(&mut tree, ConId(5), Layout::SplitV)?;
+    add(&mut tree, rt.alloc())?;
+    split(&mut tree, ConId(7), Layout::Tabbed)?;
+    add(&mut tree, rt.alloc())?;
+    let table = [
+        (Kind::Area, 3, (0, 0), (1000, 800)),
+        (Kind::Area, 4, (0, 0), (500, 800)),
+        (Kind::Content, 4, (0, 0), (500, 800)),
+        (Kind::Area, 6, (500, 0), (500, 800)),
+        (Kind::Area, 5, (500, 0), (500, 400)),
+        (Kind::Content, 5, (500, 0), (500, 400)),
+        (Kind::Area, 8, (500, 400), (500, 400)),
+        (Kind::Title(PLAIN), 7, (500, 400), (250, 20)),
+        (Kind::Title(FOCUSED), 9, (750, 400), (250, 20)),
+        (Kind::Area, 9, (500, 420), (500, 380)),
+        (Kind::Content, 9, (500, 420), (500, 380)),
+    ];
+    expect(&rt, &arrange(rt.alloc(), &tree)?, &table);
     Ok(())
 }
 
