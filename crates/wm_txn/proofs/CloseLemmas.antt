@@ -13,10 +13,10 @@ use Rattle.wm_base.specs.declared.ids.ConId.{ConId}
 use Rattle.wm_tree.specs.Look.{same}
 use Rattle.wm_arrange.specs.declared.parts.Placed.{Placed}
 use Rattle.wm_arrange.specs.Sizes.{content_size}
-use Rattle.wm_txn.specs.History.{Opening, Entry, Arranged, buffer_up_to, gave, is_fresh, is_open, last, mapped_with}
+use Rattle.wm_txn.specs.History.{Opening, Entry, Arranged, buffer_up_to, gave, is_fresh, is_open, last, mapped_with, under_up_to}
 use Rattle.wm_txn.specs.Machine.{Windows, IsNewcomer, ShowsOpen, close_all, close_found, closed_held, count_awaited, count_closed, count_unanswered, find, held_of, is_live, is_unanswered, one_if, open_fresh, put, stays_open}
 use Rattle.wm_txn.specs.Schedule.{Turn, configure}
-use Rattle.wm_txn.specs.Stands.{AreOpen, IsHeld, IsKept, IsUnknown, Keeps, configure_of}
+use Rattle.wm_txn.specs.Stands.{AreOpen, IsHeld, IsKept, IsNumbered, IsUnknown, Keeps, configure_of}
 use Rattle.wm_txn.specs.declared.held.Held.{Held}
 use Rattle.wm_txn.proofs.KeepLemmas.{same_id}
 use Rattle.wm_txn.proofs.WindowLemmas.{one_id, find_put, find_insert, count_put, count_insert}
@@ -93,6 +93,17 @@ module _ (o : Opening) (history : List Entry) (turns begun : List Turn) (newest 
   abbrev after : List Entry
   after = Arranged newest fresh gone ∷ history
 
+  numbers_closed : (v : ConId) (w : Held) → is_fresh v fresh ≡ false → IsHeld o history turns begun v w → IsNumbered after turns v w.acked w.under
+  numbers_closed v w not_fresh h =
+      let same_under : (n : ℕ) → under_up_to n v after ≡ under_up_to n v history = λ n. rw not_fresh refl in
+      record {
+        acked_done = h.numbers.acked_done;
+        shown_le = omega (arith, same_under (length turns), h.numbers.shown_le);
+        newest_under = λ n under. same_under n ∙ h.numbers.newest_under n under;
+        gave_under = h.numbers.gave_under;
+        gave_shown = λ n gave_it early. omega (arith, same_under (length turns), h.numbers.gave_shown n gave_it early);
+      }
+
   held_closed : (v : ConId) (w : Held) (g : Bool) → list_any (same v) gone ≡ g → is_fresh v fresh ≡ false → ((b : Option Buffer) → mapped_with v fresh b ≡ b) → IsHeld o history turns begun v w → IsHeld o after turns begun v (close_if g w)
   held_closed v w true is_gone not_fresh same_buffer h = record {
     live_is = rw (is_gone, not_fresh, h.live_is) (and_false w.live);
@@ -106,6 +117,7 @@ module _ (o : Opening) (history : List Entry) (turns begun : List Turn) (newest 
     acked_le = h.acked_le;
     serial_le = h.serial_le;
     placed_le = h.placed_le;
+    numbers = numbers_closed v w not_fresh h;
   }
     where
       and_false : (b : Bool) → (b && false) ≡ false
@@ -123,6 +135,7 @@ module _ (o : Opening) (history : List Entry) (turns begun : List Turn) (newest 
     acked_le = h.acked_le;
     serial_le = h.serial_le;
     placed_le = h.placed_le;
+    numbers = numbers_closed v w not_fresh h;
   }
     where
       and_true : (b : Bool) → (b && true) ≡ b
@@ -144,6 +157,9 @@ module _ (o : Opening) (history : List Entry) (turns begun : List Turn) (newest 
       → IsHeld o after turns begun v (close_if g (held_of buffer))
   held_fresh v buffer g is_gone is_it this_buffer h = by g is_gone
     where
+      no_under : (n : ℕ) → under_up_to n v after ≡ 0
+      no_under n = rw is_it refl
+
       bare : (w : Held) → w.acked ≡ 0 → w.serial ≡ 0 → w.under ≡ 0 → w.placed ≡ 0 → w.newest ≡ buffer → is_open o v after ≡ w.live → IsHeld o after turns begun v w
       bare w acked serial under placed newest_buffer live = record {
         live_is = live;
@@ -157,6 +173,13 @@ module _ (o : Opening) (history : List Entry) (turns begun : List Turn) (newest 
         acked_le = omega arith;
         serial_le = omega arith;
         placed_le = omega arith;
+        numbers = record {
+          acked_done = λ early. omega arith;
+          shown_le = omega (arith, no_under (length turns));
+          newest_under = λ n at. no_under n ∙ sym under;
+          gave_under = λ n gave_it. let bad : false ≡ true = sym (h.no_gift n) ∙ gave_it in cc;
+          gave_shown = λ n gave_it early. let bad : false ≡ true = sym (h.no_gift n) ∙ gave_it in cc;
+        };
       }
 
       by : (g : Bool) → list_any (same v) gone ≡ g → IsHeld o after turns begun v (close_if g (held_of buffer))

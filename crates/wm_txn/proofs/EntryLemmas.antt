@@ -19,6 +19,7 @@ use Rattle.wm_txn.specs.declared.held.Held.{Held}
 use Rattle.wm_txn.specs.declared.held.Pending.{Pending}
 use Rattle.wm_txn.proofs.AnswerLemmas.{serial_is}
 use Rattle.wm_txn.proofs.CloseLemmas.{count_fresh, count_gone, keeps_arranged}
+use Rattle.wm_txn.proofs.DueLemmas.{due_bounds, few_begun}
 use Rattle.wm_txn.proofs.FollowLemmas.{Awaits, settles_waiting}
 use Rattle.wm_txn.proofs.KeepLemmas.{agree_acked, agree_deadline, agree_gave, agree_still, held_acked, held_buffered, keeps_put, keeps_same}
 use Rattle.wm_txn.proofs.ScheduleLemmas.{was_waiting}
@@ -86,11 +87,14 @@ module _ (o : Opening) (history : List Entry) (d : TxnValue) (s : StandsFor o hi
   unanswered_acked : (n serial : ℕ) (w : Held) → is_unanswered n (acked_with serial w) ≡ is_unanswered n w
   unanswered_acked n serial w = refl
 
-  pub stands_acked : (v : ConId) (serial : ℕ) (w : Held) → find v d.windows ≡ Some w → w.acked < serial → serial ≤ w.serial → StandsFor o (Acked v serial ∷ history) (record d { windows = put v (acked_with serial w) d.windows })
-  stands_acked v serial w at above due =
+  pub stands_acked : (v : ConId) (serial : ℕ) (w : Held) → find v d.windows ≡ Some w → is_due_by d.number serial w ≡ true → StandsFor o (Acked v serial ∷ history) (record d { windows = put v (acked_with serial w) d.windows })
+  stands_acked v serial w at due =
       stands_on o history (Acked v serial) d (put v (acked_with serial w) d.windows) d.left d.newest
-      (λ turns begun few k. keeps_put o history (Acked v serial ∷ history) turns begun d.number d.prefix d.current.parts v w (acked_with serial w) d.windows at
-      (held_acked o history turns begun v serial w (subst (IsKept o history turns begun v) at (k.each v)) above due) (agree_acked o history v serial) k.open_contents k)
+      (λ turns begun one k.
+        let held = subst (IsKept o history turns begun v) at (k.each v) in
+        let bounds = due_bounds o history turns begun v w held one d.number k.number_is serial due in
+        keeps_put o history (Acked v serial ∷ history) turns begun d.number d.prefix d.current.parts v w (acked_with serial w) d.windows at
+        (held_acked o history turns begun v serial w held bounds.above bounds.within bounds.done) (agree_acked o history v serial) k.open_contents k)
       (λ last new. new) (λ zero. zero) (λ counted. let same_count = count_put (d.number + 1) v (acked_with serial w) w d.windows at in omega arith) (λ turns t p w. refl) refl refl s
 
   -- ---- a buffer
@@ -118,7 +122,7 @@ module _ (o : Opening) (history : List Entry) (d : TxnValue) (s : StandsFor o hi
       ] in
       stands_settled o history (Gave v buffer) d (put v new d.windows) (d.left - one_if (answers n w new)) d.newest
       (λ turns begun few k. keeps_put o history (Gave v buffer ∷ history) turns begun d.number d.prefix d.current.parts v w new d.windows at
-      (held_buffered o history turns begun v buffer d.number w (subst (IsKept o history turns begun v) at (k.each v)) k.number_is few) (agree_gave o history v buffer) k.open_contents k)
+      (held_buffered o history turns begun v buffer d.number w (subst (IsKept o history turns begun v) at (k.each v)) k.number_is (few_begun turns begun few)) (agree_gave o history v buffer) k.open_contents k)
       (λ last old. old) (λ zero. omega arith)
       (λ counted. let put_it = count_put n v new w d.windows at in let fewer = answer_step w.live (eqb w.serial n) w.under w.acked n under_le in omega arith)
       (λ turns t p w. refl) steps steps_are s

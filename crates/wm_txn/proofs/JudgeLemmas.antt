@@ -15,17 +15,10 @@ use Rattle.wm_txn.specs.Schedule.{Turn, configure, configures, is_new}
 use Rattle.wm_txn.specs.Stands.{IsHeld, IsKept, Keeps, StandsFor, configure_of, serial_of}
 use Rattle.wm_txn.specs.declared.held.Held.{Held}
 use Rattle.wm_txn.proofs.AnswerLemmas.{configure_le, serial_is}
+use Rattle.wm_txn.proofs.DueLemmas.{OneMore, committed_is}
 use Rattle.wm_txn.proofs.EntryLemmas.{stands_acked, stands_buffered, stands_still}
 use Rattle.wm_txn.proofs.NumberLemmas.{Numbers, numbers_idle, numbers_waiting}
 use Rattle.wm_txn.proofs.StepLemmas.{Pends, Rests, known}
-
--- one more transaction has begun than has ended, or none
-abbrev pub OneMore : List Turn → List Turn → Type 0
-OneMore turns begun = (begun ≡ turns) ⊎ ((t : Turn) × (begun ≡ t ∷ turns))
-
-pub few_begun : (turns others : List Turn) → OneMore turns others → length others ≤ length turns + 1
-few_begun turns others (inl same_turns) = let e : length others ≡ length turns = ap length same_turns in omega arith
-few_begun turns others (inr one) = let e : length others ≡ suc (length turns) = ap length one.1 in omega arith
 
 -- what the machine knows of the history
 pub record Sees (o : Opening) (history : List Entry) (d : TxnValue) : Type 0 where
@@ -43,27 +36,6 @@ sees o history d s = elim (known o history d s) [
 
 -- ---- serials
 
-mapped_serial : (n : ℕ) (found : Option Size) (b : Bool) (before : Option (ℕ × Size)) (serial : ℕ) → serial_of (cond b (option_map (λ s. (n, s)) found) before) ≡ serial → (b ≡ true → is_some found ≡ true) → serial < n → serial_of before ≡ serial
-mapped_serial n found false before serial h some below = h
-mapped_serial n (Some s) true before serial h some below = let e : n ≡ serial = h in absurd (omega arith)
-mapped_serial n None true before serial h some below = let bad : false ≡ true = some refl in cc
-
-new_content : (found : Option Size) (before : Option (ℕ × Size)) → is_new found before ≡ true → is_some found ≡ true
-new_content None before h = h
-new_content (Some s) before h = refl
-
-committed_by : (o : Opening) (history : List Entry) (turns begun : List Turn) (v : ConId) (w : Held) → IsHeld o history turns begun v w → OneMore turns begun → (b : Bool) → leb w.serial (length turns) ≡ b → serial_of (configure v turns) ≡ cond b w.serial w.before
-committed_by o history turns begun v w h more false late = h.before_is (leb-false w.serial (length turns) late)
-committed_by o history turns begun v w h (inl same_turns) true early = ap (λ z. serial_of (configure v z)) (sym same_turns) ∙ (ap serial_of h.latest_is ∙ serial_is w.serial w.size)
-committed_by o history turns begun v w h (inr one) true early =
-    let latest : serial_of (configure v (one.0 ∷ turns)) ≡ w.serial = ap (λ z. serial_of (configure v z)) (sym one.1) ∙ (ap serial_of h.latest_is ∙ serial_is w.serial w.size) in
-    let below = leb-true w.serial (length turns) early in
-    mapped_serial (length turns + 1) (content_size v one.0.parts) (configures turns one.0.parts v) (configure v turns) w.serial latest (new_content (content_size v one.0.parts) (configure v turns)) (omega arith)
-
-serial_below : (v : ConId) (turns : List Turn) (found : Option (ℕ × Size)) → configure v turns ≡ found → serial_of found ≤ length turns
-serial_below v turns None at = omega arith
-serial_below v turns (Some c) at = configure_le v turns c.0 c.1 at
-
 asked_serial : (serial : ℕ) (found : Option (ℕ × Size)) → 0 < serial → is_serial serial found ≡ eqb serial (serial_of found)
 asked_serial serial None above = sym (ne_eqb serial 0 (λ e. omega arith))
 asked_serial serial (Some c) above = grind (arith, nat_tests)
@@ -73,7 +45,7 @@ module _ (o : Opening) (history : List Entry) (d : TxnValue) (e : Sees o history
   held_there = subst (IsKept o history e.turns e.begun v) at (e.keeps.each v)
 
   committed_there : serial_of (configure v e.turns) ≡ committed_serial d.number w
-  committed_there = committed_by o history e.turns e.begun v w held_there e.one_more (leb w.serial (length e.turns)) refl ∙ ap (λ z. committed_serial z w) (sym e.keeps.number_is)
+  committed_there = committed_is o history e.turns e.begun v w held_there e.one_more d.number e.keeps.number_is
 
   due_step : (serial : ℕ) (b : Bool) → ltb w.acked serial ≡ b → is_due o v serial history ≡ is_due_by d.number serial w
   due_step serial false late =
@@ -88,27 +60,6 @@ module _ (o : Opening) (history : List Entry) (d : TxnValue) (e : Sees o history
 
   pub due_is : (serial : ℕ) → is_due o v serial history ≡ is_due_by d.number serial w
   due_is serial = due_step serial (ltb w.acked serial) refl
-
-  committed_le : committed_serial d.number w ≤ w.serial
-  committed_le = by (leb w.serial d.number) refl
-    where
-      by : (b : Bool) → leb w.serial d.number ≡ b → cond b w.serial w.before ≤ w.serial
-      by true early = omega arith
-      by false late =
-          let above = leb-false w.serial d.number late in
-          let number = e.keeps.number_is in
-          let before = held_there.before_is (omega arith) in
-          let below = serial_below v e.turns (configure v e.turns) refl in
-          omega arith
-
-  due_bounds : (serial : ℕ) → is_due_by d.number serial w ≡ true → (w.acked < serial) × (serial ≤ w.serial)
-  due_bounds serial due =
-      let p = and_parts (eqb serial w.serial || eqb serial (committed_serial d.number w)) (ltb w.acked serial) due in
-      let le : serial ≤ w.serial = elim (or_cases (eqb serial w.serial) (eqb serial (committed_serial d.number w)) p.0) [
-        | inl latest ↦ let q = eqb-true serial w.serial latest in omega arith
-        | inr ended_one ↦ let q = eqb-true serial (committed_serial d.number w) ended_one in let c = committed_le in omega arith
-      ] in
-      (ltb-true w.acked serial p.1, le)
 
 -- ---- acknowledgements
 
@@ -137,11 +88,10 @@ module _ (o : Opening) (history : List Entry) (d : TxnValue) (s : StandsFor o hi
       by false due is_it due_it = (rw (opens, is_it) refl, rw (opens, is_it) (stands_still o history d s))
       by true false is_it due_it = (rw (opens, is_it, due_here, due_it, (held_there o history d e v w at).last_is) refl, rw (opens, is_it, due_here, due_it) (stands_still o history d s))
       by true true is_it due_it =
-          let bounds = due_bounds o history d e v w at serial due_it in
           let answer : judge_ack d.number serial (Some w) ≡ Ok tt = rw (is_it, due_it) refl in
           let heard_it : hear o (Acked v serial) history ≡ Acked v serial = rw (opens, is_it, due_here, due_it) refl in (
             rw (opens, is_it, due_here, due_it) refl,
-            taken (Acked v serial) (hear o (Acked v serial) history) (ack_found v serial (Some w) d) (is_ok (judge_ack d.number serial (Some w))) heard_it (ap is_ok answer) (stands_acked o history d s v serial w at bounds.0 bounds.1),
+            taken (Acked v serial) (hear o (Acked v serial) history) (ack_found v serial (Some w) d) (is_ok (judge_ack d.number serial (Some w))) heard_it (ap is_ok answer) (stands_acked o history d s v serial w at due_it),
           )
 
   ack_found_there : (serial : ℕ) (found : Option Held) → find v d.windows ≡ found

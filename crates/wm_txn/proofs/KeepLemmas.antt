@@ -1,6 +1,6 @@
 -- What is kept of the windows is what the history says after one more entry.
-use Rattle.std.proofs.Common.{◌≡◌, ℕ, suc, ◌+◌, ◌-◌, ◌≤◌, ◌<◌, max, Bool, true, false, cond, not, ◌&&◌, ◌||◌, eqb, leb, ltb, List, [], ◌∷◌, length, Option, Some, None, refl, ap, ap₂, sym, ◌∙◌, subst, arith}
-use Rattle.std.proofs.lemmas.Bool.{eq-eqb, le-leb, lt-leb, leb-true, leb-false}
+use Rattle.std.proofs.Common.{◌≡◌, ℕ, suc, ◌+◌, ◌-◌, ◌≤◌, ◌<◌, max, Bool, true, false, cond, not, ◌&&◌, ◌||◌, eqb, leb, ltb, ◌⊎◌, inl, inr, List, [], ◌∷◌, length, Option, Some, None, refl, ap, ap₂, sym, ◌∙◌, subst, arith}
+use Rattle.std.proofs.lemmas.Bool.{eq-eqb, eqb-true, le-leb, lt-leb, leb-true, leb-false, or_cases}
 use Rattle.std.proofs.lemmas.Map.{keys-set_value}
 use Rattle.std.specs.BTreeMap.{is_at}
 use Rattle.std.specs.List.Sorted.{IsStrictlySortedBy}
@@ -10,10 +10,10 @@ use Rattle.wm_base.specs.declared.ids.Buffer.{Buffer}
 use Rattle.wm_base.specs.declared.ids.ConId.{ConId}
 use Rattle.wm_tree.specs.Look.{same}
 use Rattle.wm_arrange.specs.declared.parts.Placed.{Placed}
-use Rattle.wm_txn.specs.History.{Opening, Entry, Arranged, Acked, Gave, Deadline, Still, buffer_up_to, gave, is_open, last}
+use Rattle.wm_txn.specs.History.{Opening, Entry, Arranged, Acked, Gave, Deadline, Still, buffer_up_to, gave, is_open, last, under_up_to}
 use Rattle.wm_txn.specs.Machine.{Windows, find, put, acked_with, buffered_with, shown_by, is_unanswered, one_if, answers, count_unanswered}
 use Rattle.wm_txn.specs.Schedule.{Turn, configure}
-use Rattle.wm_txn.specs.Stands.{AreOpen, IsHeld, IsKept, IsUnknown, Keeps, configure_of, serial_of}
+use Rattle.wm_txn.specs.Stands.{AreOpen, IsHeld, IsKept, IsNumbered, IsUnknown, Keeps, configure_of, serial_of}
 use Rattle.wm_txn.specs.declared.held.Held.{Held}
 use Rattle.wm_txn.proofs.WindowLemmas.{one_id, find_put}
 
@@ -28,6 +28,7 @@ pub record Agree (o : Opening) (before after : List Entry) (v : ConId) : Type 0 
   pub lasts : last v after ≡ last v before
   pub buffers : (n : ℕ) → buffer_up_to o n v after ≡ buffer_up_to o n v before
   pub gifts : (n : ℕ) → gave n v after ≡ gave n v before
+  pub unders : (n : ℕ) → under_up_to n v after ≡ under_up_to n v before
 
 pub kept_same : (o : Opening) (before after : List Entry) (turns begun : List Turn) (v : ConId) (found : Option Held) → Agree o before after v → IsKept o before turns begun v found → IsKept o after turns begun v found
 kept_same o before after turns begun v None a h = record {
@@ -49,6 +50,13 @@ kept_same o before after turns begun v (Some w) a h = record {
   acked_le = h.acked_le;
   serial_le = h.serial_le;
   placed_le = h.placed_le;
+  numbers = record {
+    acked_done = h.numbers.acked_done;
+    shown_le = omega (arith, a.unders (length turns), h.numbers.shown_le);
+    newest_under = λ n under. a.unders n ∙ h.numbers.newest_under n under;
+    gave_under = λ n gave_it. h.numbers.gave_under n (sym (a.gifts n) ∙ gave_it);
+    gave_shown = λ n gave_it early. omega (arith, a.unders (length turns), h.numbers.gave_shown n (sym (a.gifts n) ∙ gave_it) early);
+  };
 }
 
 -- where the windows stay and the entry says nothing of any
@@ -64,22 +72,22 @@ keeps_same o before after turns begun number prefix current windows agree are_op
 }
 
 pub agree_still : (o : Opening) (history : List Entry) (v : ConId) → Agree o history (Still ∷ history) v
-agree_still o history v = record { opens = refl; lasts = refl; buffers = λ n. refl; gifts = λ n. refl }
+agree_still o history v = record { opens = refl; lasts = refl; buffers = λ n. refl; gifts = λ n. refl; unders = λ n. refl }
 
 pub agree_deadline : (o : Opening) (history : List Entry) (number : ℕ) (v : ConId) → Agree o history (Deadline number ∷ history) v
-agree_deadline o history number v = record { opens = refl; lasts = refl; buffers = λ n. refl; gifts = λ n. refl }
+agree_deadline o history number v = record { opens = refl; lasts = refl; buffers = λ n. refl; gifts = λ n. refl; unders = λ n. refl }
 
 pub agree_acked : (o : Opening) (history : List Entry) (c : ConId) (serial : ℕ) (v : ConId) → same c v ≡ false → Agree o history (Acked c serial ∷ history) v
-agree_acked o history c serial v other = record { opens = refl; lasts = rw other refl; buffers = λ n. refl; gifts = λ n. refl }
+agree_acked o history c serial v other = record { opens = refl; lasts = rw other refl; buffers = λ n. refl; gifts = λ n. refl; unders = λ n. refl }
 
 pub agree_gave : (o : Opening) (history : List Entry) (c : ConId) (buffer : Buffer) (v : ConId) → same c v ≡ false → Agree o history (Gave c buffer ∷ history) v
-agree_gave o history c buffer v other = record { opens = refl; lasts = refl; buffers = λ n. rw other refl; gifts = λ n. rw other refl }
+agree_gave o history c buffer v other = record { opens = refl; lasts = refl; buffers = λ n. rw other refl; gifts = λ n. rw other refl; unders = λ n. rw other refl }
 
 -- ---- a window that acknowledges
 
-pub held_acked : (o : Opening) (history : List Entry) (turns begun : List Turn) (v : ConId) (serial : ℕ) (w : Held) → IsHeld o history turns begun v w → w.acked < serial → serial ≤ w.serial
+pub held_acked : (o : Opening) (history : List Entry) (turns begun : List Turn) (v : ConId) (serial : ℕ) (w : Held) → IsHeld o history turns begun v w → w.acked < serial → serial ≤ w.serial → (serial ≤ length turns → serial ≤ serial_of (configure v turns))
     → IsHeld o (Acked v serial ∷ history) turns begun v (acked_with serial w)
-held_acked o history turns begun v serial w h above due = record {
+held_acked o history turns begun v serial w h above due due_done = record {
   live_is = h.live_is;
   last_is = rw (same_id v, h.last_is) (omega arith);
   latest_is = h.latest_is;
@@ -91,6 +99,13 @@ held_acked o history turns begun v serial w h above due = record {
   acked_le = due;
   serial_le = h.serial_le;
   placed_le = h.placed_le;
+  numbers = record {
+    acked_done = due_done;
+    shown_le = h.numbers.shown_le;
+    newest_under = h.numbers.newest_under;
+    gave_under = h.numbers.gave_under;
+    gave_shown = h.numbers.gave_shown;
+  };
 }
 
 kept_put : (o : Opening) (before after : List Entry) (turns begun : List Turn) (c : ConId) (w new : Held) (windows : Windows) → find c windows ≡ Some w → IsHeld o after turns begun c new
@@ -120,6 +135,44 @@ older_buffer : (o : Opening) (history : List Entry) (turns begun : List Turn) (v
 older_buffer o history turns begun v w h true at = h.newest_is (length turns) (leb-true w.under (length turns) at)
 older_buffer o history turns begun v w h false at = h.older_is (leb-false w.under (length turns) at)
 
+module _ (history : List Entry) (turns : List Turn) (v : ConId) (buffer : Buffer) (acked under : ℕ) (last_is : last v history ≡ acked) (under_le : under ≤ acked) (h : IsNumbered history turns v acked under) where
+  gave_now : (n : ℕ) → gave n v (Gave v buffer ∷ history) ≡ true → (acked ≡ n) ⊎ (gave n v history ≡ true)
+  gave_now n gave_it = elim (or_cases (eqb acked n) (gave n v history) (rw (same_id v, last_is) at gave_it)) [
+      | inl here ↦ inl (eqb-true acked n here)
+      | inr before ↦ inr before
+    ]
+
+  now_under : (n : ℕ) → gave n v (Gave v buffer ∷ history) ≡ true → n ≤ acked
+  now_under n gave_it = elim (gave_now n gave_it) [
+      | inl here ↦ omega arith
+      | inr before ↦ omega (arith, h.gave_under n before)
+    ]
+
+  under_now : (n : ℕ) (b : Bool) → leb acked n ≡ b → under_up_to n v (Gave v buffer ∷ history) ≡ cond b acked (under_up_to n v history)
+  under_now n b at = rw (same_id v, last_is, at) refl
+
+  shown_now : (b : Bool) → leb acked (length turns) ≡ b → cond b acked (under_up_to (length turns) v history) ≤ serial_of (configure v turns)
+  shown_now true at = h.acked_done (leb-true acked (length turns) at)
+  shown_now false at = h.shown_le
+
+  gave_shown_now : (n : ℕ) → gave n v (Gave v buffer ∷ history) ≡ true → n ≤ length turns → (b : Bool) → leb acked (length turns) ≡ b → n ≤ cond b acked (under_up_to (length turns) v history)
+  gave_shown_now n gave_it early true at = now_under n gave_it
+  gave_shown_now n gave_it early false at =
+      let later = leb-false acked (length turns) at in
+      elim (gave_now n gave_it) [
+        | inl here ↦ absurd (omega arith)
+        | inr before ↦ h.gave_shown n before early
+      ]
+
+  numbers_buffered : IsNumbered (Gave v buffer ∷ history) turns v acked acked
+  numbers_buffered = record {
+    acked_done = h.acked_done;
+    shown_le = omega (arith, under_now (length turns) (leb acked (length turns)) refl, shown_now (leb acked (length turns)) refl);
+    newest_under = λ n le. under_now n true (le-leb acked n le);
+    gave_under = now_under;
+    gave_shown = λ n gave_it early. omega (arith, under_now (length turns) (leb acked (length turns)) refl, gave_shown_now n gave_it early (leb acked (length turns)) refl);
+  }
+
 pub held_buffered : (o : Opening) (history : List Entry) (turns begun : List Turn) (v : ConId) (buffer : Buffer) (number : ℕ) (w : Held) → IsHeld o history turns begun v w → number ≡ length turns → length begun ≤ length turns + 1
     → IsHeld o (Gave v buffer ∷ history) turns begun v (buffered_with number buffer w)
 held_buffered o history turns begun v buffer number w h number_is few = record {
@@ -134,6 +187,7 @@ held_buffered o history turns begun v buffer number w h number_is few = record {
   acked_le = h.acked_le;
   serial_le = h.serial_le;
   placed_le = h.placed_le;
+  numbers = numbers_buffered history turns v buffer w.acked w.under h.last_is h.under_le h.numbers;
 }
   where
     newer : (n : ℕ) → length turns < n → (eqb w.acked n || leb n w.under) ≡ leb n w.acked

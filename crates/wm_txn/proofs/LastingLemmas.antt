@@ -16,7 +16,8 @@ use Rattle.wm_txn.specs.Stands.{IsKept, Stands}
 use Rattle.wm_txn.specs.declared.held.Held.{Held}
 use Rattle.wm_txn.proofs.AnswerLemmas.{has, has_here, has_later}
 use Rattle.wm_txn.proofs.FirstLemmas.{first_none, first_short, first_stays, first_within}
-use Rattle.wm_txn.proofs.JudgeLemmas.{Sees, sees, few_begun}
+use Rattle.wm_txn.proofs.JudgeLemmas.{Sees, sees}
+use Rattle.wm_txn.proofs.DueLemmas.{few_begun}
 use Rattle.wm_txn.proofs.NumberLemmas.{beyond}
 use Rattle.wm_txn.proofs.ScheduleLemmas.{ended_stays, mapped_none, mapped_some, past_stays, then_some}
 use Rattle.wm_txn.proofs.SettleLemmas.{same_itself}

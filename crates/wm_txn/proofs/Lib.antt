@@ -1,6 +1,7 @@
 pub mod AnswerLemmas
 pub mod AskLemmas
 pub mod CloseLemmas
+pub mod DueLemmas
 pub mod EntryLemmas
 pub mod FirstLemmas
 pub mod FollowLemmas

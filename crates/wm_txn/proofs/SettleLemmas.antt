@@ -14,7 +14,7 @@ use Rattle.wm_arrange.specs.Same.{same_parts}
 use Rattle.wm_arrange.specs.Sizes.{content_size}
 use Rattle.wm_arrange.proofs.SameLemmas.{parts-decide}
 use Rattle.wm_txn.specs.Commits.{prefix_of}
-use Rattle.wm_txn.specs.History.{Opening, Entry, arrangement, is_open}
+use Rattle.wm_txn.specs.History.{Opening, Entry, arrangement, is_open, under_up_to}
 use Rattle.wm_txn.specs.Machine.{TxnValue, Windows, find, ask_all, asked_by, began, committed, count_all, count_unanswered, finished, followed, is_unanswered, next_with, settled}
 use Rattle.wm_txn.specs.Schedule.{Turn, answered, configure, configures, contents, differs, is_named, is_new, last_parts, may_end, names, same_size, turn_from}
 use Rattle.wm_txn.specs.Stands.{AreOpen, IsHeld, IsIdle, IsKept, IsNewest, IsScheduled, IsUnknown, IsWaiting, Idles, Keeps, StandsFor, Waits, configure_of, serial_of}
@@ -43,7 +43,20 @@ held_commits o history turns t v w h = record {
   acked_le = h.acked_le;
   serial_le = h.serial_le;
   placed_le = h.placed_le;
+  numbers = record {
+    acked_done = λ early. omega (arith, h.acked_le, serial);
+    shown_le = omega (arith, h.under_le, h.acked_le, serial, all_shown);
+    newest_under = h.numbers.newest_under;
+    gave_under = h.numbers.gave_under;
+    gave_shown = λ n gave_it early. omega (arith, h.numbers.gave_under n gave_it, all_shown);
+  };
 }
+  where
+    serial : serial_of (configure v (t ∷ turns)) ≡ w.serial
+    serial = ap serial_of h.latest_is ∙ serial_is w.serial w.size
+
+    all_shown : under_up_to (length (t ∷ turns)) v history ≡ w.under
+    all_shown = h.numbers.newest_under (length (t ∷ turns)) (omega (arith, h.under_le, h.acked_le, h.serial_le))
 
 kept_commits : (o : Opening) (history : List Entry) (turns : List Turn) (t : Turn) (v : ConId) (found : Option Held) → IsKept o history turns (t ∷ turns) v found → IsKept o history (t ∷ turns) (t ∷ turns) v found
 kept_commits o history turns t v None h = h
@@ -97,6 +110,7 @@ module _ (o : Opening) (history : List Entry) (turns : List Turn) where
     acked_le = omega (arith, h.acked_le, h.serial_le);
     serial_le = omega arith;
     placed_le = omega arith;
+    numbers = h.numbers;
   }
   held_by_test v w size h e false is_it = record {
     live_is = h.live_is;
@@ -110,6 +124,7 @@ module _ (o : Opening) (history : List Entry) (turns : List Turn) where
     acked_le = h.acked_le;
     serial_le = omega (arith, h.serial_le);
     placed_le = omega arith;
+    numbers = h.numbers;
   }
 
   new_test : (w : Held) (size : Size) (c : Bool) → eqb w.serial 0 ≡ c → is_new (Some size) (configure_of w.serial w.size) ≡ (c || not (same_size w.size size))
@@ -129,6 +144,7 @@ module _ (o : Opening) (history : List Entry) (turns : List Turn) where
     acked_le = h.acked_le;
     serial_le = omega (arith, h.serial_le);
     placed_le = omega (arith, h.placed_le);
+    numbers = h.numbers;
   }
   held_asked v w h (Some size) e =
       let other : eqb w.placed n_here ≡ false = ne_eqb w.placed n_here (λ same_number. omega (arith, h.placed_le)) in

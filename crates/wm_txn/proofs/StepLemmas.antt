@@ -13,6 +13,7 @@ use Rattle.wm_txn.specs.Schedule.{Turn, configures, contents, is_named, last_par
 use Rattle.wm_txn.specs.Stands.{AreOpen, Idles, IsIdle, IsNewest, IsScheduled, IsWaiting, Keeps, StandsFor, Waits}
 use Rattle.wm_txn.specs.declared.held.Pending.{Pending}
 use Rattle.wm_txn.proofs.AnswerLemmas.{answered_is}
+use Rattle.wm_txn.proofs.DueLemmas.{OneMore}
 use Rattle.wm_txn.proofs.FollowLemmas.{Awaits, or_none, settles_idle, settles_waiting, stands_idle, stands_waiting}
 use Rattle.wm_txn.proofs.KeepLemmas.{agree_still, keeps_same}
 use Rattle.wm_txn.proofs.ScheduleLemmas.{was_idle, was_waiting}
@@ -93,7 +94,7 @@ module _ (o : Opening) (history : List Entry) (d : TxnValue) where
 -- ---- one more entry
 
 module _ (o : Opening) (history : List Entry) (entry : Entry) (d : TxnValue) (windows : Windows) (left : ℕ) (newest : Option Arrangement)
-    (keeps : (turns begun : List Turn) → length begun ≤ length turns + 1 → Keeps o history turns begun d.number d.prefix d.current.parts d.windows → Keeps o (entry ∷ history) turns begun d.number d.prefix d.current.parts windows)
+    (keeps : (turns begun : List Turn) → OneMore turns begun → Keeps o history turns begun d.number d.prefix d.current.parts d.windows → Keeps o (entry ∷ history) turns begun d.number d.prefix d.current.parts windows)
     (news : (last : List Placed) → IsNewest (arrangement o history) last d.newest → IsNewest (arrangement o (entry ∷ history)) last newest)
     (fewer : d.left ≡ 0 → left ≡ 0)
     (counted : d.left ≡ count_unanswered (d.number + 1) d.windows → left ≡ count_unanswered (d.number + 1) windows)
@@ -104,7 +105,7 @@ module _ (o : Opening) (history : List Entry) (entry : Entry) (d : TxnValue) (wi
 
     awaits_after : (turns : List Turn) (t : Turn) (p : Pending) → Pends o history turns t p d → Awaits o history entry turns t p next_value
     awaits_after turns t p w =
-        let kept = keeps turns (t ∷ turns) (omega arith) w.keeps in
+        let kept = keeps turns (t ∷ turns) (inr (t, refl)) w.keeps in
         let n = length turns + 1 in
         let number = w.keeps.number_is in
         let left_is : left ≡ count_unanswered n windows = counted (w.left_is ∙ ap (λ z. count_unanswered (z + 1) d.windows) (sym number)) ∙ ap (λ z. count_unanswered (z + 1) windows) number in
@@ -127,14 +128,14 @@ module _ (o : Opening) (history : List Entry) (entry : Entry) (d : TxnValue) (wi
     -- the machine after it is settled
     pub stands_settled : (steps : ℕ) → steps ≡ length history + 1 → StandsFor o history d → StandsFor o (entry ∷ history) (settled steps next_value)
     stands_settled steps steps_are s = elim (known o history d s) [
-      | inl r ↦ settles_idle o history entry steps steps_are r.0 next_value (keeps r.0 r.0 (omega arith) r.1.keeps) (was_idle o history entry r.0 r.1.idle_is) r.1.none_waits (fewer r.1.none_left) (new_idle r.0 r.1) r.1.within
+      | inl r ↦ settles_idle o history entry steps steps_are r.0 next_value (keeps r.0 r.0 (inl refl) r.1.keeps) (was_idle o history entry r.0 r.1.idle_is) r.1.none_waits (fewer r.1.none_left) (new_idle r.0 r.1) r.1.within
       | inr w ↦ settles_waiting o history entry steps steps_are w.0 w.1 w.2 next_value (awaits_after w.0 w.1 w.2 w.3) w.3.within
     ]
 
     -- the machine as it is, where as many are left
     pub stands_on : left ≡ d.left → newest ≡ d.newest → StandsFor o history d → StandsFor o (entry ∷ history) next_value
     stands_on same_left same_newest s = elim (known o history d s) [
-      | inl r ↦ stands_idle o history entry r.0 next_value (keeps r.0 r.0 (omega arith) r.1.keeps) (was_idle o history entry r.0 r.1.idle_is) r.1.none_waits (fewer r.1.none_left) (same_newest ∙ r.1.none_newest)
+      | inl r ↦ stands_idle o history entry r.0 next_value (keeps r.0 r.0 (inl refl) r.1.keeps) (was_idle o history entry r.0 r.1.idle_is) r.1.none_waits (fewer r.1.none_left) (same_newest ∙ r.1.none_newest)
           (subst (IsNewest (arrangement o (entry ∷ history)) (last_parts o r.0)) (same_newest ∙ r.1.none_newest) (new_idle r.0 r.1)) (omega (arith, r.1.within))
       | inr w ↦ stands_waiting o history entry w.0 w.1 w.2 next_value (awaits_after w.0 w.1 w.2 w.3) (not_zero w.3.some_left) (omega (arith, w.3.within))
     ]

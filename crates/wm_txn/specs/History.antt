@@ -117,3 +117,15 @@ buffer_after Still v n under before = before
 abbrev pub buffer_up_to : Opening → ℕ → ConId → List Entry → Option Buffer
 buffer_up_to o n v [] = buffer_of v o.windows
 buffer_up_to o n v (entry ∷ history) = buffer_after entry v n (last v history) (buffer_up_to o n v history)
+
+abbrev pub under_after : Entry → ConId → ℕ → ℕ → ℕ → ℕ
+under_after (Gave c buffer) v n under before = if same c v && nat_le under n then under else before
+under_after (Arranged newest fresh gone) v n under before = if is_fresh v fresh then 0 else before
+under_after (Acked c serial) v n under before = before
+under_after (Deadline number) v n under before = before
+under_after Still v n under before = before
+
+-- the number that this buffer is under
+abbrev pub under_up_to : ℕ → ConId → List Entry → ℕ
+under_up_to n v [] = 0
+under_up_to n v (entry ∷ history) = under_after entry v n (last v history) (under_up_to n v history)

@@ -13,7 +13,7 @@ use Rattle.wm_txn.specs.declared.held.Held.{Held}
 use Rattle.wm_txn.specs.declared.held.Pending.{Pending}
 use Rattle.wm_txn.specs.Commits.{prefix_of}
 use Rattle.wm_txn.specs.Heard.{heard}
-use Rattle.wm_txn.specs.History.{Opening, Entry, arrangement, buffer_up_to, gave, is_open, last}
+use Rattle.wm_txn.specs.History.{Opening, Entry, arrangement, buffer_up_to, gave, is_open, last, under_up_to}
 use Rattle.wm_txn.specs.Machine.{TxnValue, Windows, count_unanswered, find}
 use Rattle.wm_txn.specs.Schedule.{Turn, configure, configures, contents, ended, last_parts, past}
 
@@ -45,6 +45,15 @@ abbrev pub serial_of : Option (ℕ × Size) → ℕ
 serial_of None = 0
 serial_of (Some configure) = configure.0
 
+-- the numbers under which the buffers of v came never fall: those up to the last ended transaction are at most the serial
+-- of v's latest configure up to it
+pub record IsNumbered (history : List Entry) (turns : List Turn) (v : ConId) (acked under : ℕ) : Type 0 where
+  pub acked_done : acked ≤ length turns → acked ≤ serial_of (configure v turns)
+  pub shown_le : under_up_to (length turns) v history ≤ serial_of (configure v turns)
+  pub newest_under : (n : ℕ) → under ≤ n → under_up_to n v history ≡ under
+  pub gave_under : (n : ℕ) → gave n v history ≡ true → n ≤ under
+  pub gave_shown : (n : ℕ) → gave n v history ≡ true → n ≤ length turns → n ≤ under_up_to (length turns) v history
+
 -- what is kept of v is what the history says of it, where `turns` have ended and `begun` have begun
 pub record IsHeld (o : Opening) (history : List Entry) (turns begun : List Turn) (v : ConId) (w : Held) : Type 0 where
   pub live_is : is_open o v history ≡ w.live
@@ -58,6 +67,7 @@ pub record IsHeld (o : Opening) (history : List Entry) (turns begun : List Turn)
   pub acked_le : w.acked ≤ w.serial
   pub serial_le : w.serial ≤ length begun
   pub placed_le : w.placed ≤ length begun
+  pub numbers : IsNumbered history turns v w.acked w.under
 
 -- v was never open
 pub record IsUnknown (o : Opening) (history : List Entry) (begun : List Turn) (v : ConId) : Type 0 where
