@@ -64,7 +64,7 @@ module _ (c test : ConId → Bool) where
 
 -- ---- configures
 
-new_some : (found : Option Size) (before : Option (ℕ × Size)) → is_new found before ≡ true → is_some found ≡ true
+pub new_some : (found : Option Size) (before : Option (ℕ × Size)) → is_new found before ≡ true → is_some found ≡ true
 new_some None before h = h
 new_some (Some size) before h = refl
 

@@ -150,6 +150,7 @@ module _ (o : Opening) (history : List Entry) (turns begun : List Turn) (newest 
     no_configure = h.no_configure;
     no_buffer = λ n. same_buffer (buffer_up_to o n v history) ∙ h.no_buffer n;
     no_gift = h.no_gift;
+    no_under = λ n. rw not_fresh (h.no_under n);
   }
   kept_closed v (Some w) not_fresh same_buffer h = held_closed v w (list_any (same v) gone) refl not_fresh same_buffer h
 

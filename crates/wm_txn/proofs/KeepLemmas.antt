@@ -37,6 +37,7 @@ kept_same o before after turns begun v None a h = record {
   no_configure = h.no_configure;
   no_buffer = λ n. a.buffers n ∙ h.no_buffer n;
   no_gift = λ n. a.gifts n ∙ h.no_gift n;
+  no_under = λ n. a.unders n ∙ h.no_under n;
 }
 kept_same o before after turns begun v (Some w) a h = record {
   live_is = a.opens ∙ h.live_is;

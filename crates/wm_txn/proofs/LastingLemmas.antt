@@ -60,7 +60,7 @@ holds_here None test b history place h before = by (b && test history) refl h
     by false e k = cc
 
 -- the test holds at what is found
-first_holds : (test : List Entry → Bool) (n : ℕ) (history place : List Entry) → first_when test n history ≡ Some place → test place ≡ true
+pub first_holds : (test : List Entry → Bool) (n : ℕ) (history place : List Entry) → first_when test n history ≡ Some place → test place ≡ true
 first_holds test n [] place h = holds_here None test (leb n 0) [] place h (λ z none. cc)
 first_holds test n (entry ∷ history) place h = holds_here (first_when test n history) test (leb n (length history + 1)) (entry ∷ history) place h (λ z found. first_holds test n history z found)
 
@@ -74,15 +74,15 @@ ended_late o history t turns place h = (first_within (may_end o (length turns + 
 -- ---- how a transaction has begun
 
 -- the transactions before it, where the last of them ended, and where it began
-record Beginning (o : Opening) (history : List Entry) (before : Option (List Turn)) (t : Turn) (turns : List Turn) : Type 0 where
-  before_is : before ≡ Some turns
-  ended_place : List Entry
-  ended_at : ended o turns history ≡ Some ended_place
-  place : List Entry
-  found : first_when (differs o turns) (length ended_place) history ≡ Some place
-  turn_is : t ≡ turn_from o turns place
+pub record Beginning (o : Opening) (history : List Entry) (before : Option (List Turn)) (t : Turn) (turns : List Turn) : Type 0 where
+  pub before_is : before ≡ Some turns
+  pub ended_place : List Entry
+  pub ended_at : ended o turns history ≡ Some ended_place
+  pub place : List Entry
+  pub found : first_when (differs o turns) (length ended_place) history ≡ Some place
+  pub turn_is : t ≡ turn_from o turns place
 
-beginning : (o : Opening) (history : List Entry) (before : Option (List Turn)) (t : Turn) (turns : List Turn) → next o history before ≡ Some (t ∷ turns) → Beginning o history before t turns
+pub beginning : (o : Opening) (history : List Entry) (before : Option (List Turn)) (t : Turn) (turns : List Turn) → next o history before ≡ Some (t ∷ turns) → Beginning o history before t turns
 beginning o history None t turns h = cc
 beginning o history (Some us) t turns h =
     let s = mapped_some (λ at. turn_from o us at ∷ us) (begun o us history) (t ∷ turns) h in

@@ -15,6 +15,7 @@ pub mod OpeningLemmas
 pub mod ReadingLemmas
 pub mod ScheduleLemmas
 pub mod SettleLemmas
+pub mod ShownLemmas
 pub mod StandingLemmas
 pub mod StepLemmas
 pub mod WindowLemmas

@@ -41,7 +41,7 @@ stands_start first windows none no_windows sorted =
         number_is = refl;
         prefix_is = refl;
         current_is = refl;
-        each = subst Kept (sym no_windows) (λ v. record { not_open = refl; no_last = refl; no_configure = refl; no_buffer = λ n. refl; no_gift = λ n. refl });
+        each = subst Kept (sym no_windows) (λ v. record { not_open = refl; no_last = refl; no_configure = refl; no_buffer = λ n. refl; no_gift = λ n. refl; no_under = λ n. refl });
         sorted = sorted;
         open_contents = none_open o none;
       };

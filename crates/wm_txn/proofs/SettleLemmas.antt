@@ -90,6 +90,7 @@ module _ (o : Opening) (history : List Entry) (turns : List Turn) where
     no_configure = none (content_size v (arrangement o history)) refl;
     no_buffer = h.no_buffer;
     no_gift = h.no_gift;
+    no_under = h.no_under;
   }
     where
       none : (found : Option Size) → content_size v (arrangement o history) ≡ found → configure v (t_here ∷ turns) ≡ None

@@ -4,5 +4,6 @@ pub mod History
 pub mod Lasting
 pub mod Machine
 pub mod Schedule
+pub mod Shown
 pub mod Standing
 pub mod Stands

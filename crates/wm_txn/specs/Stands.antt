@@ -76,6 +76,7 @@ pub record IsUnknown (o : Opening) (history : List Entry) (begun : List Turn) (v
   pub no_configure : configure v begun ≡ None
   pub no_buffer : (n : ℕ) → buffer_up_to o n v history ≡ None
   pub no_gift : (n : ℕ) → gave n v history ≡ false
+  pub no_under : (n : ℕ) → under_up_to n v history ≡ 0
 
 abbrev pub IsKept : Opening → List Entry → List Turn → List Turn → ConId → Option Held → Type 0
 IsKept o history turns begun v None = IsUnknown o history begun v

@@ -1,5 +1,6 @@
 //! Laws of the transactions.
 ghost use Rattle.wm_txn.specs.Lasting.{BeginsOnce, BeginsThere, BegunStays, EndedStays, EndsThere, EndsTwiceAtMost, NeverFalls, SecondAwaitsNobody};
+ghost use Rattle.wm_txn.specs.Shown.{HasAskedSize, ShowsAnswer, ShowsOpening};
 ghost use Rattle.wm_txn.specs.Standing.{BeginsWithin, KnowsOpen, KnowsWindows, StillStands};
 
 /// An entry that is none of the machine's business leaves it standing for the history.
@@ -70,4 +71,21 @@ pub fn at_most_two_end()
 /// The second transaction that ends at one entry awaits nobody.
 pub fn the_second_awaits_nobody()
     ensures { SecondAwaitsNobody }
+{}
+
+/// A window in the arrangement that is done has the size that was asked of it last.
+#[tactic(auto, using(crate::proofs::ShownLemmas::has_asked_size))]
+pub fn a_window_has_the_asked_size()
+    ensures { HasAskedSize }
+{}
+
+/// A window shows its buffer under the number of the transaction that asked it last, unless a deadline ended that one or
+/// the window was closed then.
+pub fn a_window_shows_its_answer()
+    ensures { ShowsAnswer }
+{}
+
+/// A window that no ended transaction configured shows its buffer of the opening, before any has ended.
+pub fn a_window_shows_its_opening()
+    ensures { ShowsOpening }
 {}
