@@ -1,14 +1,19 @@
 -- What holds of each machine that stands for a history.
-use Rattle.std.proofs.Common.{◌≡◌, ℕ, suc, ◌+◌, ◌≤◌, Bool, true, false, inl, inr, List, [], ◌∷◌, length, Option, Some, None, is_some, refl, ap, sym, ◌∙◌, subst, arith}
+use Rattle.std.proofs.Common.{◌≡◌, ℕ, suc, ◌+◌, ◌≤◌, Bool, true, false, not, ◌&&◌, ◌||◌, inl, inr, List, [], ◌∷◌, length, Option, Some, None, is_some, refl, ap, sym, ◌∙◌, subst, arith}
 use Rattle.std.proofs.lemmas.Bool.{false_from_ne_true}
 use Rattle.std.specs.Option.{option_map}
+use Rattle.std.specs.List.{list_any}
+use Rattle.wm_base.specs.declared.ids.Buffer.{Buffer}
 use Rattle.wm_base.specs.declared.ids.ConId.{ConId}
+use Rattle.wm_tree.specs.Look.{same}
+use Rattle.wm_arrange.specs.declared.parts.Placed.{Placed}
+use Rattle.wm_txn.proofs.KeepLemmas.{same_id}
 use Rattle.wm_txn.specs.Commits.{prefix_of}
 use Rattle.wm_txn.specs.Heard.{heard}
-use Rattle.wm_txn.specs.History.{Opening, Entry, Still, is_open, was_open}
-use Rattle.wm_txn.specs.Machine.{TxnValue, find, is_live, last_prefix, prefix_with}
+use Rattle.wm_txn.specs.History.{Opening, Entry, Still, is_fresh, is_open, was_open}
+use Rattle.wm_txn.specs.Machine.{TxnValue, IsNewcomer, ShowsOpen, find, is_live, last_prefix, prefix_with}
 use Rattle.wm_txn.specs.Schedule.{Turn, begun, differs, first_when, next, past, turn_from}
-use Rattle.wm_txn.specs.Stands.{IsKept, Keeps, Stands, StandsFor}
+use Rattle.wm_txn.specs.Stands.{IsFit, IsKept, Keeps, Stands, StandsFor}
 use Rattle.wm_txn.specs.Standing.{StillStands, BeginsWithin, KnowsWindows, KnowsOpen}
 use Rattle.wm_txn.specs.declared.held.Held.{Held}
 use Rattle.wm_txn.proofs.EntryLemmas.{stands_still}
@@ -64,3 +69,20 @@ open_found o history turns others v (Some w) kept = sym kept.live_is
 
 pub knows_open : KnowsOpen
 knows_open o history d s v = open_found o (heard o history) s.turns s.begun v (find v d.windows) (s.keeps.each v) ∙ heard_opens o v history
+
+-- ---- an arrangement that may come
+
+newcomer : (o : Opening) (history : List Entry) (d : TxnValue) → Stands o history d → (fresh : Option (ConId × Buffer)) → ((v : ConId) → is_fresh v fresh ≡ true → was_open o v history ≡ false) → IsNewcomer fresh d.windows
+newcomer o history d s None new = tt
+newcomer o history d s (Some window) new =
+    none (find window.0 d.windows) (knows_windows o history d s window.0 ∙ new window.0 (same_id window.0))
+  where
+    none : (found : Option Held) → is_some found ≡ false → found ≡ None
+    none None h = refl
+    none (Some w) h = let bad : true ≡ false = h in cc
+
+-- where the arrangement may come, the window that is mapped is none that is kept, and each content is of one that stays open
+pub fit_windows : (o : Opening) (history : List Entry) (d : TxnValue) (newest : List Placed) (fresh : Option (ConId × Buffer)) (gone : List ConId) → Stands o history d → IsFit o history newest fresh gone
+    → IsNewcomer fresh d.windows × ShowsOpen newest fresh gone d.windows
+fit_windows o history d newest fresh gone s fit =
+    (newcomer o history d s fresh fit.new, λ v there. ap (λ z. (is_fresh v fresh || z) && not (list_any (same v) gone)) (knows_open o history d s v) ∙ fit.shows v there)

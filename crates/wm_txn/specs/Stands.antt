@@ -4,6 +4,7 @@ use Rattle.std.specs.List.Sorted.{IsStrictlySortedBy}
 use Rattle.std.specs.Map.{keys_of}
 use Rattle.std.specs.Ordering.{nat_cmp}
 use Rattle.wm_base.specs.declared.geometry.Size.{Size}
+use Rattle.wm_base.specs.declared.ids.Buffer.{Buffer}
 use Rattle.wm_base.specs.declared.ids.ConId.{ConId}
 use Rattle.wm_arrange.specs.declared.parts.Arrangement.{Arrangement}
 use Rattle.wm_arrange.specs.declared.parts.Placed.{Placed}
@@ -13,7 +14,7 @@ use Rattle.wm_txn.specs.declared.held.Held.{Held}
 use Rattle.wm_txn.specs.declared.held.Pending.{Pending}
 use Rattle.wm_txn.specs.Commits.{prefix_of}
 use Rattle.wm_txn.specs.Heard.{heard}
-use Rattle.wm_txn.specs.History.{Opening, Entry, arrangement, buffer_up_to, gave, is_open, last, under_up_to}
+use Rattle.wm_txn.specs.History.{Opening, Entry, Arranged, arrangement, buffer_up_to, gave, is_fresh, is_open, last, under_up_to, was_open}
 use Rattle.wm_txn.specs.Machine.{TxnValue, Windows, count_unanswered, find}
 use Rattle.wm_txn.specs.Schedule.{Turn, configure, configures, contents, ended, last_parts, past}
 
@@ -136,3 +137,9 @@ pub record StandsFor (o : Opening) (history : List Entry) (d : TxnValue) : Type 
 -- the machine stands for the history: it is what the history leaves
 abbrev pub Stands : Opening → List Entry → TxnValue → Type 0
 Stands o history d = StandsFor o (heard o history) d
+
+-- an arrangement that may come after the history: a window that is mapped was not there before, and each content is of a
+-- window that is open then
+pub record IsFit (o : Opening) (history : List Entry) (newest : List Placed) (fresh : Option (ConId × Buffer)) (gone : List ConId) : Type 0 where
+  pub new : (v : ConId) → is_fresh v fresh ≡ true → was_open o v history ≡ false
+  pub shows : (v : ConId) → is_some (content_size v newest) ≡ true → is_open o v (Arranged newest fresh gone ∷ history) ≡ true

@@ -2,8 +2,8 @@
 ghost use Rattle.std.specs.Prelude.{◌≡◌, ◌+◌, ◌<◌, ◌≤◌, ◌^◌, List, ◌∷◌, [], length, IfOk, OnOk, OnErr, is_some};
 ghost use Rattle.wm_txn.specs.Heard.{ack_answer, buffer_answer, heard};
 ghost use Rattle.wm_txn.specs.History.{Opening, Entry, Acked, Arranged, Deadline, Gave};
-ghost use Rattle.wm_txn.specs.Machine.{HasNoContent, IsNewcomer, ShowsOpen, last_prefix};
-ghost use Rattle.wm_txn.specs.Stands.{Stands};
+ghost use Rattle.wm_txn.specs.Machine.{HasNoContent, last_prefix};
+ghost use Rattle.wm_txn.specs.Stands.{IsFit, Stands};
 
 use crate::answers::{AckRefusal, BufferRefusal};
 use crate::txn::Txn;
@@ -42,9 +42,8 @@ impl Txn {
     ) -> Result<(), NoMemory>
         requires few { place < 2 ^ 48 }
         requires rises { last_prefix self.old ≤ place }
-        requires new { IsNewcomer fresh self.old.windows }
-        requires shows { ShowsOpen newest.parts fresh gone.now self.old.windows }
         ensures stands { (o : Opening) → (history : List Entry) → length history ≡ place → Stands o history self.old →
+            IsFit o history newest.parts fresh gone.now →
             OnOk result (Stands o (Arranged newest.parts fresh gone.now ∷ history) self.new) }
         ensures prefix { last_prefix self.new ≤ place + 1 }
         ensures err { OnErr result (self.new ≡ self.old) }

@@ -3,11 +3,13 @@ use Rattle.wm_txn.specs.Heard.{heard}
 use Rattle.wm_txn.specs.Machine.{TxnValue, AreSorted, arranged, opened, settled}
 use Rattle.wm_txn.specs.Stands.{StandsFor}
 use Rattle.wm_txn.proofs.EntryLemmas.{stands_arranged}
+use Rattle.wm_txn.proofs.StandingLemmas.{fit_windows}
 use Rattle.wm_txn.proofs.OpeningLemmas.{heard_length}
 use Rattle.wm_txn.proofs.txn.Txn.admit.Goals as goal
 
 pub returns-clause-stands : goal.returns-clause-stands
-returns-clause-stands c = λ o history at s.
+returns-clause-stands c = λ o history at s fit.
+    let fits = fit_windows o history c.args.self.now c.args.newest.parts c.args.fresh c.args.gone.now s fit in
     let d = c.args.self.now in
     let made : c.open.new.self ≡ opened c.args.fresh d = c.in_ok-open.ensures.ok in
     let sorted_windows = c.in_ok-open.ensures.sorted s.keeps.sorted in
@@ -15,4 +17,4 @@ returns-clause-stands c = λ o history at s.
     let sorted = subst Sorted_in made sorted_windows in
     let left : c.settle.new.self ≡ settled (c.args.place + 1) (arranged c.args.newest c.args.gone.now (opened c.args.fresh d)) =
     c.settle.ensures.value ∙ ap (settled (c.args.place + 1)) (c.arrange.ensures.value ∙ ap (arranged c.args.newest c.args.gone.now) made) in
-    rw left (stands_arranged o (heard o history) d s c.args.newest c.args.fresh c.args.gone.now (c.args.place + 1) (ap (λ n. n + 1) (sym at ∙ sym (heard_length o history))) c.requires.new c.requires.shows sorted)
+    rw left (stands_arranged o (heard o history) d s c.args.newest c.args.fresh c.args.gone.now (c.args.place + 1) (ap (λ n. n + 1) (sym at ∙ sym (heard_length o history))) fits.0 fits.1 sorted)
