@@ -11,7 +11,7 @@ use Rattle.wm_arrange.specs.declared.parts.Placed.{Placed}
 use Rattle.wm_arrange.specs.Sizes.{content_size, is_content}
 use Rattle.wm_txn.specs.History.{Opening, Entry, is_open, gave}
 use Rattle.wm_txn.specs.Schedule.{Turn, answered, configure, configures, contents, is_new}
-use Rattle.wm_txn.specs.Machine.{Windows, find, is_left, is_unanswered, count_unanswered}
+use Rattle.wm_txn.specs.Windows.{Windows, find, is_left, is_unanswered, count_unanswered}
 use Rattle.wm_txn.specs.Stands.{IsHeld, IsUnknown, IsKept, Keeps, configure_of, serial_of}
 use Rattle.wm_txn.specs.declared.held.Held.{Held}
 use Rattle.wm_txn.proofs.WindowLemmas.{one_id, none_left, all_answered}

@@ -11,7 +11,7 @@ use Rattle.wm_base.specs.declared.ids.ConId.{ConId}
 use Rattle.wm_tree.specs.Look.{same}
 use Rattle.wm_arrange.specs.declared.parts.Placed.{Placed}
 use Rattle.wm_arrange.specs.Sizes.{content_size, is_content}
-use Rattle.wm_txn.specs.Machine.{Windows, find, put, one_if, is_unanswered, asked_by, is_newly_asked, ask_found, count_found, ask_part, count_part, ask_all, count_all, count_unanswered, size_of}
+use Rattle.wm_txn.specs.Windows.{Windows, find, put, one_if, is_unanswered, asked_by, is_newly_asked, ask_found, count_found, ask_part, count_part, ask_all, count_all, count_unanswered, size_of}
 use Rattle.wm_txn.specs.declared.held.Held.{Held}
 use Rattle.wm_txn.proofs.WindowLemmas.{one_id, find_put, count_put}
 

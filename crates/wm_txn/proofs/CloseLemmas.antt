@@ -14,7 +14,7 @@ use Rattle.wm_tree.specs.Look.{same}
 use Rattle.wm_arrange.specs.declared.parts.Placed.{Placed}
 use Rattle.wm_arrange.specs.Sizes.{content_size}
 use Rattle.wm_txn.specs.History.{Opening, Entry, Arranged, buffer_up_to, gave, is_fresh, is_open, last, mapped_with, under_up_to}
-use Rattle.wm_txn.specs.Machine.{Windows, IsNewcomer, ShowsOpen, close_all, close_found, closed_held, count_awaited, count_closed, count_unanswered, find, held_of, is_live, is_unanswered, one_if, open_fresh, put, stays_open}
+use Rattle.wm_txn.specs.Windows.{Windows, IsNewcomer, ShowsOpen, close_all, close_found, closed_held, count_awaited, count_closed, count_unanswered, find, held_of, is_live, is_unanswered, one_if, open_fresh, put, stays_open}
 use Rattle.wm_txn.specs.Schedule.{Turn, configure}
 use Rattle.wm_txn.specs.Stands.{AreOpen, IsHeld, IsKept, IsNumbered, IsUnknown, Keeps, configure_of}
 use Rattle.wm_txn.specs.declared.held.Held.{Held}

@@ -6,7 +6,8 @@ use Rattle.wm_base.specs.declared.geometry.Size.{Size}
 use Rattle.wm_base.specs.declared.ids.ConId.{ConId}
 use Rattle.wm_arrange.specs.Sizes.{content_size}
 use Rattle.wm_txn.specs.History.{Opening, Entry}
-use Rattle.wm_txn.specs.Machine.{committed_serial, is_due_by}
+use Rattle.wm_txn.specs.Machine.{is_due_by}
+use Rattle.wm_txn.specs.Windows.{committed_serial}
 use Rattle.wm_txn.specs.Schedule.{Turn, configure, configures, is_new}
 use Rattle.wm_txn.specs.Stands.{IsHeld, configure_of, serial_of}
 use Rattle.wm_txn.specs.declared.held.Held.{Held}

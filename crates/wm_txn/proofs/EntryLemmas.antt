@@ -12,7 +12,8 @@ use Rattle.wm_arrange.specs.declared.parts.Arrangement.{Arrangement}
 use Rattle.wm_arrange.specs.declared.parts.Placed.{Placed}
 use Rattle.wm_txn.specs.History.{Opening, Entry, Arranged, Acked, Gave, Deadline, Still, is_open, last}
 use Rattle.wm_txn.specs.Heard.{ack_answer, buffer_answer, hear, heard, is_due, is_empty, is_serial}
-use Rattle.wm_txn.specs.Machine.{TxnValue, Windows, IsNewcomer, ShowsOpen, ack_step, acked, acked_with, answers, arranged, buffer_step, buffered, buffered_with, close_all, committed_serial, count_closed, count_unanswered, find, is_due_by, is_over, is_unanswered, judge_ack, judge_buffer, judge_serial, one_if, open_fresh, opened, put, settled, timed_out}
+use Rattle.wm_txn.specs.Machine.{TxnValue, ack_step, acked, answers, arranged, buffer_step, buffered, is_due_by, is_over, judge_ack, judge_buffer, judge_serial, opened, settled, timed_out}
+use Rattle.wm_txn.specs.Windows.{Windows, IsNewcomer, ShowsOpen, acked_with, buffered_with, close_all, committed_serial, count_closed, count_unanswered, find, is_unanswered, one_if, open_fresh, put}
 use Rattle.wm_txn.specs.Schedule.{Turn, configure, is_named, may_end}
 use Rattle.wm_txn.specs.Stands.{IsHeld, IsKept, Keeps, StandsFor, configure_of, serial_of}
 use Rattle.wm_txn.specs.declared.held.Held.{Held}
@@ -83,9 +84,6 @@ module _ (o : Opening) (history : List Entry) (d : TxnValue) (s : StandsFor o hi
   stands_timed number place at = timed_step number place at (is_over place number d.number d.waiting) refl
 
   -- ---- an acknowledgement
-
-  unanswered_acked : (n serial : ℕ) (w : Held) → is_unanswered n (acked_with serial w) ≡ is_unanswered n w
-  unanswered_acked n serial w = refl
 
   pub stands_acked : (v : ConId) (serial : ℕ) (w : Held) → find v d.windows ≡ Some w → is_due_by d.number serial w ≡ true → StandsFor o (Acked v serial ∷ history) (record d { windows = put v (acked_with serial w) d.windows })
   stands_acked v serial w at due =

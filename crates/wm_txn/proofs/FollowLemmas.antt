@@ -7,7 +7,8 @@ use Rattle.wm_arrange.specs.declared.parts.Arrangement.{Arrangement}
 use Rattle.wm_arrange.specs.declared.parts.Placed.{Placed}
 use Rattle.wm_arrange.specs.Same.{same_parts}
 use Rattle.wm_txn.specs.History.{Opening, Entry, arrangement}
-use Rattle.wm_txn.specs.Machine.{TxnValue, Windows, ask_all, began, commit_pending, committed, count_all, count_unanswered, finished, followed, next_with, settled}
+use Rattle.wm_txn.specs.Machine.{TxnValue, began, commit_pending, committed, finished, followed, next_with, settled}
+use Rattle.wm_txn.specs.Windows.{Windows, ask_all, count_all, count_unanswered}
 use Rattle.wm_txn.specs.Schedule.{Turn, answered, configures, contents, differs, is_named, last_parts, may_end, names, turn_from}
 use Rattle.wm_txn.specs.Stands.{IsNewest, IsScheduled, Idles, Keeps, StandsFor, Waits}
 use Rattle.wm_txn.specs.declared.held.Pending.{Pending}

@@ -10,7 +10,8 @@ use Rattle.wm_arrange.specs.Sizes.{content_size}
 use Rattle.wm_txn.specs.Commits.{begun_turns, ended_turns}
 use Rattle.wm_txn.specs.Heard.{ack_answer, buffer_answer, hear, is_due, is_empty, is_serial}
 use Rattle.wm_txn.specs.History.{Opening, Entry, Acked, Gave, Still, is_open, last}
-use Rattle.wm_txn.specs.Machine.{TxnValue, ack_found, ack_step, buffer_found, buffer_step, committed_serial, find, is_due_by, judge_ack, judge_buffer, judge_serial, judge_size, settled}
+use Rattle.wm_txn.specs.Machine.{TxnValue, ack_found, ack_step, buffer_found, buffer_step, is_due_by, judge_ack, judge_buffer, judge_serial, judge_size, settled}
+use Rattle.wm_txn.specs.Windows.{committed_serial, find}
 use Rattle.wm_txn.specs.Schedule.{Turn, configure, configures, is_new}
 use Rattle.wm_txn.specs.Stands.{IsHeld, IsKept, Keeps, StandsFor, configure_of, serial_of}
 use Rattle.wm_txn.specs.declared.held.Held.{Held}

@@ -11,7 +11,8 @@ use Rattle.wm_base.specs.declared.ids.ConId.{ConId}
 use Rattle.wm_tree.specs.Look.{same}
 use Rattle.wm_arrange.specs.declared.parts.Placed.{Placed}
 use Rattle.wm_txn.specs.History.{Opening, Entry, Arranged, Acked, Gave, Deadline, Still, buffer_up_to, gave, is_open, last, under_up_to}
-use Rattle.wm_txn.specs.Machine.{Windows, find, put, acked_with, buffered_with, shown_by, is_unanswered, one_if, answers, count_unanswered}
+use Rattle.wm_txn.specs.Machine.{answers}
+use Rattle.wm_txn.specs.Windows.{Windows, find, put, acked_with, buffered_with, shown_by, is_unanswered, one_if, count_unanswered}
 use Rattle.wm_txn.specs.Schedule.{Turn, configure}
 use Rattle.wm_txn.specs.Stands.{AreOpen, IsHeld, IsKept, IsNumbered, IsUnknown, Keeps, configure_of, serial_of}
 use Rattle.wm_txn.specs.declared.held.Held.{Held}

@@ -1,5 +1,6 @@
 pub mod AnswerLemmas
 pub mod AskLemmas
+pub mod BeginLemmas
 pub mod CloseLemmas
 pub mod DueLemmas
 pub mod EntryLemmas

@@ -7,7 +7,8 @@ use Rattle.wm_arrange.specs.Same.{same_parts}
 use Rattle.wm_arrange.specs.Sizes.{content_size}
 use Rattle.wm_txn.specs.Heard.{heard}
 use Rattle.wm_txn.specs.History.{Opening, Entry}
-use Rattle.wm_txn.specs.Machine.{TxnValue, AreSorted, HasNoContent, Windows, find}
+use Rattle.wm_txn.specs.Machine.{TxnValue}
+use Rattle.wm_txn.specs.Windows.{AreSorted, HasNoContent, Windows, find}
 use Rattle.wm_txn.specs.Schedule.{Turn, past}
 use Rattle.wm_txn.specs.Stands.{AreOpen, IsIdle, IsKept, IsNewest, Keeps, Stands, StandsFor}
 use Rattle.wm_txn.proofs.SettleLemmas.{same_itself}

@@ -10,7 +10,8 @@ use Rattle.wm_arrange.specs.declared.parts.Placed.{Placed}
 use Rattle.wm_arrange.specs.Sizes.{content_size, is_content}
 use Rattle.wm_txn.specs.Commits.{asked, begun_turns, current, done, ended_turns, least, lesser, prefix, prefix_of, shown, started, waiting, waiting_for, waiting_turn}
 use Rattle.wm_txn.specs.History.{Opening, Entry, buffer_up_to, gave, is_open, last}
-use Rattle.wm_txn.specs.Machine.{TxnValue, Windows, asked_of, find, has_acked, is_left, is_unanswered, least_left, shown_by, shown_of, waiting_in}
+use Rattle.wm_txn.specs.Machine.{TxnValue, asked_of, shown_of, waiting_in}
+use Rattle.wm_txn.specs.Windows.{Windows, find, has_acked, is_left, is_unanswered, least_left, shown_by}
 use Rattle.wm_txn.specs.Schedule.{Turn, answered, configure, configures, contents, last_parts}
 use Rattle.wm_txn.specs.Stands.{IsHeld, IsKept, Keeps, StandsFor, configure_of}
 use Rattle.wm_txn.specs.declared.answers.Waiting.{Waiting}

@@ -15,7 +15,8 @@ use Rattle.wm_arrange.specs.Sizes.{content_size}
 use Rattle.wm_arrange.proofs.SameLemmas.{parts-decide}
 use Rattle.wm_txn.specs.Commits.{prefix_of}
 use Rattle.wm_txn.specs.History.{Opening, Entry, arrangement, is_open, under_up_to}
-use Rattle.wm_txn.specs.Machine.{TxnValue, Windows, find, ask_all, asked_by, began, committed, count_all, count_unanswered, finished, followed, is_unanswered, next_with, settled}
+use Rattle.wm_txn.specs.Machine.{TxnValue, began, committed, finished, followed, next_with, settled}
+use Rattle.wm_txn.specs.Windows.{Windows, find, ask_all, asked_by, count_all, count_unanswered, is_unanswered}
 use Rattle.wm_txn.specs.Schedule.{Turn, answered, configure, configures, contents, differs, is_named, is_new, last_parts, may_end, names, same_size, turn_from}
 use Rattle.wm_txn.specs.Stands.{AreOpen, IsHeld, IsIdle, IsKept, IsNewest, IsScheduled, IsUnknown, IsWaiting, Idles, Keeps, StandsFor, Waits, configure_of, serial_of}
 use Rattle.wm_txn.specs.declared.held.Held.{Held}

@@ -9,14 +9,16 @@ use Rattle.wm_arrange.specs.Sizes.{content_size}
 use Rattle.wm_txn.specs.Commits.{current, done, ended_turns}
 use Rattle.wm_txn.specs.Heard.{heard}
 use Rattle.wm_txn.specs.History.{Opening, Entry, gave, is_open, under_up_to}
-use Rattle.wm_txn.specs.Machine.{TxnValue, find}
+use Rattle.wm_txn.specs.Machine.{TxnValue}
+use Rattle.wm_txn.specs.Windows.{find}
 use Rattle.wm_txn.specs.Schedule.{Turn, answered, configure, configures, contents, ended, first_when, is_named, is_new, last_parts, may_end, or_here, past, same_size, turn_from}
 use Rattle.wm_txn.specs.Shown.{HasAskedSize, ShowsAnswer, ShowsOpening}
 use Rattle.wm_txn.specs.Stands.{IsKept, Stands, serial_of}
 use Rattle.wm_txn.specs.declared.held.Held.{Held}
 use Rattle.wm_txn.proofs.AnswerLemmas.{configure_le, each_passes, has, new_some}
 use Rattle.wm_txn.proofs.JudgeLemmas.{Sees, sees}
-use Rattle.wm_txn.proofs.LastingLemmas.{Beginning, beginning, done_past, first_holds, past_length}
+use Rattle.wm_txn.proofs.BeginLemmas.{Beginning, beginning, first_holds, past_length}
+use Rattle.wm_txn.proofs.LastingLemmas.{done_past}
 
 -- ---- the size
 

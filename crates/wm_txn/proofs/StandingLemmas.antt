@@ -11,7 +11,8 @@ use Rattle.wm_txn.proofs.KeepLemmas.{same_id}
 use Rattle.wm_txn.specs.Commits.{prefix_of}
 use Rattle.wm_txn.specs.Heard.{heard}
 use Rattle.wm_txn.specs.History.{Opening, Entry, Still, is_fresh, is_open, was_open}
-use Rattle.wm_txn.specs.Machine.{TxnValue, IsNewcomer, ShowsOpen, find, is_live, last_prefix, prefix_with}
+use Rattle.wm_txn.specs.Machine.{TxnValue, last_prefix, prefix_with}
+use Rattle.wm_txn.specs.Windows.{IsNewcomer, ShowsOpen, find, is_live}
 use Rattle.wm_txn.specs.Schedule.{Turn, begun, differs, first_when, next, past, turn_from}
 use Rattle.wm_txn.specs.Stands.{IsFit, IsKept, Keeps, Stands, StandsFor}
 use Rattle.wm_txn.specs.Standing.{StillStands, BeginsWithin, KnowsWindows, KnowsOpen}

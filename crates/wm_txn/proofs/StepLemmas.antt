@@ -8,7 +8,8 @@ use Rattle.wm_arrange.specs.declared.parts.Arrangement.{Arrangement}
 use Rattle.wm_arrange.specs.declared.parts.Placed.{Placed}
 use Rattle.wm_arrange.specs.Same.{same_parts}
 use Rattle.wm_txn.specs.History.{Opening, Entry, Arranged, Acked, Gave, Deadline, Still, arrangement, is_open}
-use Rattle.wm_txn.specs.Machine.{TxnValue, Windows, count_unanswered, settled}
+use Rattle.wm_txn.specs.Machine.{TxnValue, settled}
+use Rattle.wm_txn.specs.Windows.{Windows, count_unanswered}
 use Rattle.wm_txn.specs.Schedule.{Turn, configures, contents, is_named, last_parts, may_end}
 use Rattle.wm_txn.specs.Stands.{AreOpen, Idles, IsIdle, IsNewest, IsScheduled, IsWaiting, Keeps, StandsFor, Waits}
 use Rattle.wm_txn.specs.declared.held.Pending.{Pending}

@@ -7,3 +7,4 @@ pub mod Schedule
 pub mod Shown
 pub mod Standing
 pub mod Stands
+pub mod Windows

@@ -2,7 +2,8 @@
 use Rattle.std.specs.Prelude.{◌≡◌, ◌≤◌, Bool, List, ◌∷◌, length, is_some}
 use Rattle.wm_base.specs.declared.ids.ConId.{ConId}
 use Rattle.wm_txn.specs.History.{Opening, Entry, Still, arrangement, is_open, was_open}
-use Rattle.wm_txn.specs.Machine.{TxnValue, find, is_live, last_prefix}
+use Rattle.wm_txn.specs.Machine.{TxnValue, last_prefix}
+use Rattle.wm_txn.specs.Windows.{find, is_live}
 use Rattle.wm_txn.specs.Stands.{Stands}
 
 -- an entry that is none of the machine's business leaves it standing

@@ -15,7 +15,8 @@ use Rattle.wm_txn.specs.declared.held.Pending.{Pending}
 use Rattle.wm_txn.specs.Commits.{prefix_of}
 use Rattle.wm_txn.specs.Heard.{heard}
 use Rattle.wm_txn.specs.History.{Opening, Entry, Arranged, arrangement, buffer_up_to, gave, is_fresh, is_open, last, under_up_to, was_open}
-use Rattle.wm_txn.specs.Machine.{TxnValue, Windows, count_unanswered, find}
+use Rattle.wm_txn.specs.Machine.{TxnValue}
+use Rattle.wm_txn.specs.Windows.{Windows, count_unanswered, find}
 use Rattle.wm_txn.specs.Schedule.{Turn, configure, configures, contents, ended, last_parts, past}
 
 -- these transactions have ended in the history

@@ -2,7 +2,8 @@
 ghost use Rattle.std.specs.Prelude.{◌≡◌, ◌+◌, ◌<◌, ◌≤◌, ◌^◌, List, ◌∷◌, [], length, IfOk, OnOk, OnErr, is_some};
 ghost use Rattle.wm_txn.specs.Heard.{ack_answer, buffer_answer, heard};
 ghost use Rattle.wm_txn.specs.History.{Opening, Entry, Acked, Arranged, Deadline, Gave};
-ghost use Rattle.wm_txn.specs.Machine.{HasNoContent, last_prefix};
+ghost use Rattle.wm_txn.specs.Machine.{last_prefix};
+ghost use Rattle.wm_txn.specs.Windows.{HasNoContent};
 ghost use Rattle.wm_txn.specs.Stands.{IsFit, Stands};
 
 use crate::answers::{AckRefusal, BufferRefusal};

@@ -1,6 +1,7 @@
 //! What is kept of a window, its last two buffers and its last two configures, and of a transaction that waits.
 ghost use Rattle.std.specs.Prelude.{◌≡◌};
-ghost use Rattle.wm_txn.specs.Machine.{asked_by, buffered_with, committed_serial, held_of, is_unanswered, judge_serial, shown_by};
+ghost use Rattle.wm_txn.specs.Machine.{judge_serial};
+ghost use Rattle.wm_txn.specs.Windows.{asked_by, buffered_with, committed_serial, held_of, is_unanswered, shown_by};
 
 use crate::answers::AckRefusal;
 use wm_arrange::Arrangement;

@@ -39,19 +39,19 @@ pub fn what_has_ended_stays()
 {}
 
 /// A transaction that has begun with one more entry began at that entry.
-#[tactic(auto, using(crate::proofs::LastingLemmas::begins_there))]
+#[tactic(auto, using(crate::proofs::BeginLemmas::begins_there))]
 pub fn a_transaction_begins_at_the_entry()
     ensures { BeginsThere }
 {}
 
 /// At most one transaction begins at one entry.
-#[tactic(auto, using(crate::proofs::LastingLemmas::begins_once))]
+#[tactic(auto, using(crate::proofs::BeginLemmas::begins_once))]
 pub fn at_most_one_begins()
     ensures { BeginsOnce }
 {}
 
 /// A transaction that has ended with one more entry ended at that entry.
-#[tactic(auto, using(crate::proofs::LastingLemmas::ends_there))]
+#[tactic(auto, using(crate::proofs::BeginLemmas::ends_there))]
 pub fn a_transaction_ends_at_the_entry()
     ensures { EndsThere }
 {}

@@ -4,7 +4,8 @@ ghost use Rattle.wm_txn.specs.Commits.{asked, current, done, prefix, shown, wait
 ghost use Rattle.wm_txn.specs.Heard.{heard};
 ghost use Rattle.wm_txn.specs.History.{Opening, Entry};
 ghost use Rattle.wm_txn.specs.Stands.{Stands};
-ghost use Rattle.wm_txn.specs.Machine.{asked_of, find, has_acked, shown_of, waiting_in};
+ghost use Rattle.wm_txn.specs.Machine.{asked_of, shown_of, waiting_in};
+ghost use Rattle.wm_txn.specs.Windows.{find, has_acked};
 
 use crate::answers::Waiting;
 use crate::txn::Txn;

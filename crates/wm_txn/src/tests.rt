@@ -42,6 +42,13 @@ fn alone(alloc: Global, con: ConId) -> Result<Arrangement, AllocError>
     })
 }
 
+/// The value, which may go to another thread.
+fn sent<T: Send>(value: T) -> T
+    ensures { result ≡ value }
+{
+    value
+}
+
 /// Transactions in which the window 4 was mapped.
 fn mapped(alloc: Global) -> Result<Txn, Fail>
     ensures { IfOk result (λ txn. last_prefix txn ≤ 1) }
@@ -52,7 +59,7 @@ fn mapped(alloc: Global) -> Result<Txn, Fail>
     let mut txn = Txn::start(alloc, first)?;
     let fresh = Some((VIEW, buffer(1, 640, 480)));
     txn.admit(0, alone(alloc, VIEW)?, fresh, &[])?;
-    Ok(txn)
+    Ok(sent(txn))
 }
 
 #[test]

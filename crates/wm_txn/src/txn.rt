@@ -1,6 +1,7 @@
 //! The machine of transactions: what has ended, what waits, and what came since.
 ghost use Rattle.std.specs.Prelude.{◌≡◌, ◌+◌, ◌<◌, ◌≤◌, ◌^◌, IfOk, OnOk, OnErr};
-ghost use Rattle.wm_txn.specs.Machine.{AreSorted, ack_step, arranged, began, buffer_step, buffered, committed, find, finished, followed, is_over, judge_ack, judge_buffer, judge_size, last_prefix, opened, settled, timed_out};
+ghost use Rattle.wm_txn.specs.Machine.{ack_step, arranged, began, buffer_step, buffered, committed, finished, followed, is_over, judge_ack, judge_buffer, judge_size, last_prefix, opened, settled, timed_out};
+ghost use Rattle.wm_txn.specs.Windows.{AreSorted, find};
 
 use crate::answers::{AckRefusal, BufferRefusal};
 use crate::held::{Held, Pending};

@@ -1,6 +1,6 @@
 //! The windows by id: what transactions ask of them, and those that close.
 ghost use Rattle.std.specs.Prelude.{◌≡◌, ◌≤◌, Some};
-ghost use Rattle.wm_txn.specs.Machine.{ask_all, ask_found, close_all, close_found, count_all, count_awaited, count_closed, count_found, find, is_left, least_left, one_if, size_of};
+ghost use Rattle.wm_txn.specs.Windows.{ask_all, ask_found, close_all, close_found, count_all, count_awaited, count_closed, count_found, find, is_left, least_left, one_if, size_of};
 ghost use Rattle.wm_txn.specs.Commits.{lesser};
 ghost use Rattle.wm_arrange.specs.Sizes.{is_content};
 

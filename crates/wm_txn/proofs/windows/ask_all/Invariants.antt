@@ -1,5 +1,5 @@
 use Rattle.std.proofs.Common.{◌≡◌, ◌+◌, ◌≤◌, length}
-use Rattle.wm_txn.specs.Machine.{ask_all, count_all}
+use Rattle.wm_txn.specs.Windows.{ask_all, count_all}
 use Rattle.wm_txn.proofs.windows.ask_all.Given as goal
 
 -- what is asked so far and what the rest asks is what all parts ask

@@ -1,5 +1,5 @@
 use Rattle.std.proofs.Common.{◌≡◌, ◌+◌, ◌≤◌, length}
-use Rattle.wm_txn.specs.Machine.{close_all, count_closed}
+use Rattle.wm_txn.specs.Windows.{close_all, count_closed}
 use Rattle.wm_txn.proofs.windows.close_all.Given as goal
 
 -- what is closed so far and what the rest closes is what all close

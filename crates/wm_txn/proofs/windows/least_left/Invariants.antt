@@ -1,5 +1,5 @@
 use Rattle.std.proofs.Common.{◌≡◌, length}
-use Rattle.wm_txn.specs.Machine.{least_left}
+use Rattle.wm_txn.specs.Windows.{least_left}
 use Rattle.wm_txn.proofs.LeastLemmas.{least_of}
 use Rattle.wm_txn.proofs.windows.least_left.Given as goal
 

@@ -1,6 +1,7 @@
 use Rattle.std.proofs.Common.{◌≡◌, ◌+◌, ◌∙◌, ap, subst, sym}
 use Rattle.wm_txn.specs.Heard.{heard}
-use Rattle.wm_txn.specs.Machine.{TxnValue, AreSorted, arranged, opened, settled}
+use Rattle.wm_txn.specs.Machine.{TxnValue, arranged, opened, settled}
+use Rattle.wm_txn.specs.Windows.{AreSorted}
 use Rattle.wm_txn.specs.Stands.{StandsFor}
 use Rattle.wm_txn.proofs.EntryLemmas.{stands_arranged}
 use Rattle.wm_txn.proofs.StandingLemmas.{fit_windows}
