@@ -1,6 +1,6 @@
 -- Those that are awaited have answered exactly where none are left.
-use Rattle.std.proofs.Common.{◌≡◌, ℕ, suc, ◌+◌, ◌≤◌, ◌<◌, Bool, true, false, cond, not, ◌&&◌, ◌||◌, eqb, leb, ltb, ◌⊎◌, inl, inr, ⊎_elim, List, [], ◌∷◌, length, Option, Some, None, is_some, refl, ap, sym, ◌∙◌, subst, arith}
-use Rattle.std.proofs.lemmas.Bool.{eqb-true, eq-eqb, leb-true, ltb-true, lt-ltb, le-ltb, le-leb, lt-leb, and_parts, cases_Bool, cases_lt, false_from_ne_true}
+use Rattle.std.proofs.Common.{◌≡◌, ℕ, ◌+◌, ◌≤◌, ◌<◌, Bool, true, false, cond, not, ◌&&◌, ◌||◌, eqb, leb, ltb, List, [], ◌∷◌, length, Option, Some, None, is_some, refl, ap, sym, ◌∙◌, subst, arith}
+use Rattle.std.proofs.lemmas.Bool.{eqb-true, eq-eqb, ltb-true, lt-leb, and_parts, false_from_ne_true}
 use Rattle.std.proofs.lemmas.Bool.Decides.{nat_tests}
 use Rattle.std.specs.List.{list_all}
 use Rattle.std.specs.Option.{option_map}
@@ -12,7 +12,7 @@ use Rattle.wm_arrange.specs.Sizes.{content_size, is_content}
 use Rattle.wm_txn.specs.History.{Opening, Entry, is_open, gave}
 use Rattle.wm_txn.specs.Schedule.{Turn, answered, configure, configures, contents, is_new}
 use Rattle.wm_txn.specs.Windows.{Windows, find, is_left, is_unanswered, count_unanswered}
-use Rattle.wm_txn.specs.Stands.{IsHeld, IsUnknown, IsKept, Keeps, configure_of, serial_of}
+use Rattle.wm_txn.specs.Stands.{IsHeld, IsKept, Keeps, configure_of, serial_of}
 use Rattle.wm_txn.specs.declared.held.Held.{Held}
 use Rattle.wm_txn.proofs.WindowLemmas.{one_id, none_left, all_answered}
 

@@ -1,5 +1,5 @@
 -- What is kept of the windows after an arrangement came, a window was mapped and windows closed.
-use Rattle.std.proofs.Common.{◌≡◌, ℕ, suc, ◌+◌, ◌≤◌, ◌<◌, Bool, true, false, cond, not, ◌&&◌, ◌||◌, eqb, leb, ltb, List, [], ◌∷◌, length, Option, Some, None, is_some, refl, ap, ap₂, sym, ◌∙◌, subst, arith}
+use Rattle.std.proofs.Common.{◌≡◌, ℕ, ◌+◌, ◌<◌, Bool, true, false, cond, not, ◌&&◌, ◌||◌, eqb, List, [], ◌∷◌, length, Option, Some, None, refl, ap, sym, ◌∙◌, subst, arith}
 use Rattle.std.proofs.lemmas.Bool.{lt-leb, ne_eqb}
 use Rattle.std.proofs.lemmas.Map.{keys-set_value}
 use Rattle.std.specs.BTreeMap.{insert_entry, is_at}
@@ -12,11 +12,10 @@ use Rattle.wm_base.specs.declared.ids.Buffer.{Buffer}
 use Rattle.wm_base.specs.declared.ids.ConId.{ConId}
 use Rattle.wm_tree.specs.Look.{same}
 use Rattle.wm_arrange.specs.declared.parts.Placed.{Placed}
-use Rattle.wm_arrange.specs.Sizes.{content_size}
-use Rattle.wm_txn.specs.History.{Opening, Entry, Arranged, buffer_up_to, gave, is_fresh, is_open, last, mapped_with, under_up_to}
-use Rattle.wm_txn.specs.Windows.{Windows, IsNewcomer, ShowsOpen, close_all, close_found, closed_held, count_awaited, count_closed, count_unanswered, find, held_of, is_live, is_unanswered, one_if, open_fresh, put, stays_open}
-use Rattle.wm_txn.specs.Schedule.{Turn, configure}
-use Rattle.wm_txn.specs.Stands.{AreOpen, IsHeld, IsKept, IsNumbered, IsUnknown, Keeps, configure_of}
+use Rattle.wm_txn.specs.History.{Opening, Entry, Arranged, buffer_up_to, is_fresh, is_open, mapped_with, under_up_to}
+use Rattle.wm_txn.specs.Windows.{Windows, IsNewcomer, ShowsOpen, close_all, close_found, closed_held, count_awaited, count_closed, count_unanswered, find, held_of, is_live, is_unanswered, one_if, open_fresh}
+use Rattle.wm_txn.specs.Schedule.{Turn}
+use Rattle.wm_txn.specs.Stands.{IsHeld, IsKept, IsNumbered, IsUnknown, Keeps}
 use Rattle.wm_txn.specs.declared.held.Held.{Held}
 use Rattle.wm_txn.proofs.KeepLemmas.{same_id}
 use Rattle.wm_txn.proofs.WindowLemmas.{one_id, find_put, find_insert, count_put, count_insert}

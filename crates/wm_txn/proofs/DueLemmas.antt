@@ -1,5 +1,5 @@
 -- Which serials are due.
-use Rattle.std.proofs.Common.{◌≡◌, ℕ, suc, ◌+◌, ◌≤◌, ◌<◌, Bool, true, false, cond, not, ◌&&◌, ◌||◌, eqb, leb, ltb, ◌⊎◌, inl, inr, List, [], ◌∷◌, length, Option, Some, None, is_some, refl, ap, sym, ◌∙◌, arith}
+use Rattle.std.proofs.Common.{◌≡◌, ℕ, suc, ◌+◌, ◌≤◌, ◌<◌, Bool, true, false, cond, ◌||◌, eqb, leb, ltb, ◌⊎◌, inl, inr, List, ◌∷◌, length, Option, Some, None, is_some, refl, ap, sym, ◌∙◌, arith}
 use Rattle.std.proofs.lemmas.Bool.{and_parts, eqb-true, le-leb, leb-false, leb-true, ltb-true, or_cases}
 use Rattle.std.specs.Option.{option_map}
 use Rattle.wm_base.specs.declared.geometry.Size.{Size}
@@ -9,7 +9,7 @@ use Rattle.wm_txn.specs.History.{Opening, Entry}
 use Rattle.wm_txn.specs.Machine.{is_due_by}
 use Rattle.wm_txn.specs.Windows.{committed_serial}
 use Rattle.wm_txn.specs.Schedule.{Turn, configure, configures, is_new}
-use Rattle.wm_txn.specs.Stands.{IsHeld, configure_of, serial_of}
+use Rattle.wm_txn.specs.Stands.{IsHeld, serial_of}
 use Rattle.wm_txn.specs.declared.held.Held.{Held}
 use Rattle.wm_txn.proofs.AnswerLemmas.{configure_le, serial_is}
 

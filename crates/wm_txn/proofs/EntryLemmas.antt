@@ -1,30 +1,25 @@
 -- What each entry does to the machine is what it says of the history.
-use Rattle.std.proofs.Common.{◌≡◌, ℕ, suc, ◌+◌, ◌-◌, ◌≤◌, ◌<◌, Bool, true, false, cond, not, ◌&&◌, ◌||◌, eqb, leb, ltb, ◌⊎◌, inl, inr, List, [], ◌∷◌, length, Option, Some, None, Result, Ok, Err, is_ok, refl, ap, ap₂, sym, ◌∙◌, subst, arith}
-use Rattle.std.proofs.lemmas.Bool.{and_parts, and_right, eqb-true, eq-eqb, le-leb, leb-true, leb-false, lt-leb, ltb-true, ltb-false, ne_eqb, or_cases, or_right, cases_lt}
-use Rattle.std.proofs.lemmas.Bool.Decides.{nat_tests}
+use Rattle.std.proofs.Common.{◌≡◌, ℕ, ◌+◌, ◌-◌, ◌≤◌, Bool, true, false, cond, not, ◌&&◌, eqb, ltb, inl, inr, List, ◌∷◌, length, Option, Some, refl, ap, sym, ◌∙◌, subst, arith}
+use Rattle.std.proofs.lemmas.Bool.{ltb-true, ltb-false, or_right}
 use Rattle.std.specs.List.Sorted.{IsStrictlySortedBy}
 use Rattle.std.specs.Map.{keys_of}
 use Rattle.std.specs.Ordering.{nat_cmp}
-use Rattle.wm_base.specs.declared.geometry.Size.{Size}
 use Rattle.wm_base.specs.declared.ids.Buffer.{Buffer}
 use Rattle.wm_base.specs.declared.ids.ConId.{ConId}
 use Rattle.wm_arrange.specs.declared.parts.Arrangement.{Arrangement}
-use Rattle.wm_arrange.specs.declared.parts.Placed.{Placed}
-use Rattle.wm_txn.specs.History.{Opening, Entry, Arranged, Acked, Gave, Deadline, Still, is_open, last}
-use Rattle.wm_txn.specs.Heard.{ack_answer, buffer_answer, hear, heard, is_due, is_empty, is_serial}
-use Rattle.wm_txn.specs.Machine.{TxnValue, ack_step, acked, answers, arranged, buffer_step, buffered, is_due_by, is_over, judge_ack, judge_buffer, judge_serial, opened, settled, timed_out}
-use Rattle.wm_txn.specs.Windows.{Windows, IsNewcomer, ShowsOpen, acked_with, buffered_with, close_all, committed_serial, count_closed, count_unanswered, find, is_unanswered, one_if, open_fresh, put}
-use Rattle.wm_txn.specs.Schedule.{Turn, configure, is_named, may_end}
-use Rattle.wm_txn.specs.Stands.{IsHeld, IsKept, Keeps, StandsFor, configure_of, serial_of}
+use Rattle.wm_txn.specs.History.{Opening, Entry, Arranged, Acked, Gave, Deadline, Still}
+use Rattle.wm_txn.specs.Machine.{TxnValue, acked, answers, arranged, is_due_by, is_over, opened, settled, timed_out}
+use Rattle.wm_txn.specs.Windows.{IsNewcomer, ShowsOpen, acked_with, buffered_with, close_all, count_closed, find, one_if, open_fresh, put}
+use Rattle.wm_txn.specs.Schedule.{Turn, is_named}
+use Rattle.wm_txn.specs.Stands.{IsKept, StandsFor}
 use Rattle.wm_txn.specs.declared.held.Held.{Held}
 use Rattle.wm_txn.specs.declared.held.Pending.{Pending}
-use Rattle.wm_txn.proofs.AnswerLemmas.{serial_is}
 use Rattle.wm_txn.proofs.CloseLemmas.{count_fresh, count_gone, keeps_arranged}
 use Rattle.wm_txn.proofs.DueLemmas.{due_bounds, few_begun}
-use Rattle.wm_txn.proofs.FollowLemmas.{Awaits, settles_waiting}
+use Rattle.wm_txn.proofs.FollowLemmas.{settles_waiting}
 use Rattle.wm_txn.proofs.KeepLemmas.{agree_acked, agree_deadline, agree_gave, agree_still, held_acked, held_buffered, keeps_put, keeps_same}
 use Rattle.wm_txn.proofs.ScheduleLemmas.{was_waiting}
-use Rattle.wm_txn.proofs.StepLemmas.{Pends, Rests, known, stands_on, stands_settled}
+use Rattle.wm_txn.proofs.StepLemmas.{Pends, known, stands_on, stands_settled}
 use Rattle.wm_txn.proofs.WindowLemmas.{count_put}
 
 module _ (o : Opening) (history : List Entry) (d : TxnValue) (s : StandsFor o history d) where
@@ -89,10 +84,10 @@ module _ (o : Opening) (history : List Entry) (d : TxnValue) (s : StandsFor o hi
   stands_acked v serial w at due =
       stands_on o history (Acked v serial) d (put v (acked_with serial w) d.windows) d.left d.newest
       (λ turns begun one k.
-        let held = subst (IsKept o history turns begun v) at (k.each v) in
-        let bounds = due_bounds o history turns begun v w held one d.number k.number_is serial due in
-        keeps_put o history (Acked v serial ∷ history) turns begun d.number d.prefix d.current.parts v w (acked_with serial w) d.windows at
-        (held_acked o history turns begun v serial w held bounds.above bounds.within bounds.done) (agree_acked o history v serial) k.open_contents k)
+      let held = subst (IsKept o history turns begun v) at (k.each v) in
+      let bounds = due_bounds o history turns begun v w held one d.number k.number_is serial due in
+      keeps_put o history (Acked v serial ∷ history) turns begun d.number d.prefix d.current.parts v w (acked_with serial w) d.windows at
+      (held_acked o history turns begun v serial w held bounds.above bounds.within bounds.done) (agree_acked o history v serial) k.open_contents k)
       (λ last new. new) (λ zero. zero) (λ counted. let same_count = count_put (d.number + 1) v (acked_with serial w) w d.windows at in omega arith) (λ turns t p w. refl) refl refl s
 
   -- ---- a buffer

@@ -1,16 +1,15 @@
 -- After an entry the machine stands where the schedule does: what waits ends or waits on, and the next one begins.
-use Rattle.std.proofs.Common.{◌≡◌, ℕ, suc, ◌+◌, ◌≤◌, ◌<◌, Bool, true, false, cond, not, ◌&&◌, ◌||◌, eqb, leb, List, [], ◌∷◌, length, Option, Some, None, refl, ap, ap₂, sym, ◌∙◌, subst, arith}
-use Rattle.std.proofs.lemmas.Bool.{eqb-true, eqb-false, lt-leb, and_right}
+use Rattle.std.proofs.Common.{◌≡◌, ℕ, ◌+◌, ◌≤◌, ◌<◌, Bool, true, false, cond, not, ◌||◌, eqb, leb, List, ◌∷◌, length, Option, Some, None, refl, ap, ap₂, sym, ◌∙◌, subst, arith}
+use Rattle.std.proofs.lemmas.Bool.{eqb-true, lt-leb, and_right}
 use Rattle.std.proofs.lemmas.Bool.Decides.{nat_tests}
-use Rattle.std.specs.List.{list_all}
 use Rattle.wm_arrange.specs.declared.parts.Arrangement.{Arrangement}
 use Rattle.wm_arrange.specs.declared.parts.Placed.{Placed}
 use Rattle.wm_arrange.specs.Same.{same_parts}
 use Rattle.wm_txn.specs.History.{Opening, Entry, arrangement}
 use Rattle.wm_txn.specs.Machine.{TxnValue, began, commit_pending, committed, finished, followed, next_with, settled}
 use Rattle.wm_txn.specs.Windows.{Windows, ask_all, count_all, count_unanswered}
-use Rattle.wm_txn.specs.Schedule.{Turn, answered, configures, contents, differs, is_named, last_parts, may_end, names, turn_from}
-use Rattle.wm_txn.specs.Stands.{IsNewest, IsScheduled, Idles, Keeps, StandsFor, Waits}
+use Rattle.wm_txn.specs.Schedule.{Turn, configures, contents, differs, is_named, last_parts, may_end, names, turn_from}
+use Rattle.wm_txn.specs.Stands.{IsNewest, IsScheduled, Keeps, StandsFor}
 use Rattle.wm_txn.specs.declared.held.Pending.{Pending}
 use Rattle.wm_txn.proofs.AnswerLemmas.{answered_is}
 use Rattle.wm_txn.proofs.ScheduleLemmas.{WasIdle, WasWaiting, begins_here, ends_here, idles_on, waits_on}

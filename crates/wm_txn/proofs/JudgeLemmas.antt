@@ -1,25 +1,23 @@
 -- What the machine refuses is what the history refuses.
-use Rattle.std.proofs.Common.{◌≡◌, ℕ, suc, ◌+◌, ◌≤◌, ◌<◌, Bool, true, false, cond, not, ◌&&◌, ◌||◌, eqb, leb, ltb, ◌⊎◌, inl, inr, List, [], ◌∷◌, length, Option, Some, None, is_some, Result, Ok, Err, is_ok, refl, ap, ap₂, sym, ◌∙◌, subst, arith}
-use Rattle.std.proofs.lemmas.Bool.{and_parts, and_right, eqb-true, leb-false, leb-true, ltb-true, ne_eqb, or_cases}
+use Rattle.std.proofs.Common.{◌≡◌, ℕ, ◌+◌, ◌<◌, Bool, true, false, cond, ◌||◌, eqb, ltb, inl, inr, List, ◌∷◌, length, Option, Some, None, Ok, is_ok, refl, ap, sym, ◌∙◌, subst, arith}
+use Rattle.std.proofs.lemmas.Bool.{and_right, ltb-true, ne_eqb}
 use Rattle.std.proofs.lemmas.Bool.Decides.{nat_tests}
-use Rattle.std.specs.Option.{option_map}
 use Rattle.wm_base.specs.declared.geometry.Size.{Size}
 use Rattle.wm_base.specs.declared.ids.Buffer.{Buffer}
 use Rattle.wm_base.specs.declared.ids.ConId.{ConId}
-use Rattle.wm_arrange.specs.Sizes.{content_size}
 use Rattle.wm_txn.specs.Commits.{begun_turns, ended_turns}
 use Rattle.wm_txn.specs.Heard.{ack_answer, buffer_answer, hear, is_due, is_empty, is_serial}
-use Rattle.wm_txn.specs.History.{Opening, Entry, Acked, Gave, Still, is_open, last}
-use Rattle.wm_txn.specs.Machine.{TxnValue, ack_found, ack_step, buffer_found, buffer_step, is_due_by, judge_ack, judge_buffer, judge_serial, judge_size, settled}
+use Rattle.wm_txn.specs.History.{Opening, Entry, Acked, Gave, is_open}
+use Rattle.wm_txn.specs.Machine.{TxnValue, ack_found, ack_step, buffer_found, buffer_step, is_due_by, judge_ack, judge_buffer, settled}
 use Rattle.wm_txn.specs.Windows.{committed_serial, find}
-use Rattle.wm_txn.specs.Schedule.{Turn, configure, configures, is_new}
-use Rattle.wm_txn.specs.Stands.{IsHeld, IsKept, Keeps, StandsFor, configure_of, serial_of}
+use Rattle.wm_txn.specs.Schedule.{Turn, configure}
+use Rattle.wm_txn.specs.Stands.{IsHeld, IsKept, Keeps, StandsFor, serial_of}
 use Rattle.wm_txn.specs.declared.held.Held.{Held}
-use Rattle.wm_txn.proofs.AnswerLemmas.{configure_le, serial_is}
+use Rattle.wm_txn.proofs.AnswerLemmas.{serial_is}
 use Rattle.wm_txn.proofs.DueLemmas.{OneMore, committed_is}
 use Rattle.wm_txn.proofs.EntryLemmas.{stands_acked, stands_buffered, stands_still}
 use Rattle.wm_txn.proofs.NumberLemmas.{Numbers, numbers_idle, numbers_waiting}
-use Rattle.wm_txn.proofs.StepLemmas.{Pends, Rests, known}
+use Rattle.wm_txn.proofs.StepLemmas.{known}
 
 -- what the machine knows of the history
 pub record Sees (o : Opening) (history : List Entry) (d : TxnValue) : Type 0 where

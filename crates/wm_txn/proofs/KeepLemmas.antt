@@ -1,5 +1,5 @@
 -- What is kept of the windows is what the history says after one more entry.
-use Rattle.std.proofs.Common.{◌≡◌, ℕ, suc, ◌+◌, ◌-◌, ◌≤◌, ◌<◌, max, Bool, true, false, cond, not, ◌&&◌, ◌||◌, eqb, leb, ltb, ◌⊎◌, inl, inr, List, [], ◌∷◌, length, Option, Some, None, refl, ap, ap₂, sym, ◌∙◌, subst, arith}
+use Rattle.std.proofs.Common.{◌≡◌, ℕ, ◌+◌, ◌≤◌, ◌<◌, Bool, true, false, cond, ◌||◌, eqb, leb, ◌⊎◌, inl, inr, List, ◌∷◌, length, Option, Some, None, refl, ap, sym, ◌∙◌, subst, arith}
 use Rattle.std.proofs.lemmas.Bool.{eq-eqb, eqb-true, le-leb, lt-leb, leb-true, leb-false, or_cases}
 use Rattle.std.proofs.lemmas.Map.{keys-set_value}
 use Rattle.std.specs.BTreeMap.{is_at}
@@ -10,11 +10,10 @@ use Rattle.wm_base.specs.declared.ids.Buffer.{Buffer}
 use Rattle.wm_base.specs.declared.ids.ConId.{ConId}
 use Rattle.wm_tree.specs.Look.{same}
 use Rattle.wm_arrange.specs.declared.parts.Placed.{Placed}
-use Rattle.wm_txn.specs.History.{Opening, Entry, Arranged, Acked, Gave, Deadline, Still, buffer_up_to, gave, is_open, last, under_up_to}
-use Rattle.wm_txn.specs.Machine.{answers}
-use Rattle.wm_txn.specs.Windows.{Windows, find, put, acked_with, buffered_with, shown_by, is_unanswered, one_if, count_unanswered}
+use Rattle.wm_txn.specs.History.{Opening, Entry, Acked, Gave, Deadline, Still, buffer_up_to, gave, is_open, last, under_up_to}
+use Rattle.wm_txn.specs.Windows.{Windows, find, put, acked_with, buffered_with, shown_by}
 use Rattle.wm_txn.specs.Schedule.{Turn, configure}
-use Rattle.wm_txn.specs.Stands.{AreOpen, IsHeld, IsKept, IsNumbered, IsUnknown, Keeps, configure_of, serial_of}
+use Rattle.wm_txn.specs.Stands.{AreOpen, IsHeld, IsKept, IsNumbered, Keeps, serial_of}
 use Rattle.wm_txn.specs.declared.held.Held.{Held}
 use Rattle.wm_txn.proofs.WindowLemmas.{one_id, find_put}
 
@@ -140,15 +139,15 @@ older_buffer o history turns begun v w h false at = h.older_is (leb-false w.unde
 module _ (history : List Entry) (turns : List Turn) (v : ConId) (buffer : Buffer) (acked under : ℕ) (last_is : last v history ≡ acked) (under_le : under ≤ acked) (h : IsNumbered history turns v acked under) where
   gave_now : (n : ℕ) → gave n v (Gave v buffer ∷ history) ≡ true → (acked ≡ n) ⊎ (gave n v history ≡ true)
   gave_now n gave_it = elim (or_cases (eqb acked n) (gave n v history) (rw (same_id v, last_is) at gave_it)) [
-      | inl here ↦ inl (eqb-true acked n here)
-      | inr before ↦ inr before
-    ]
+    | inl here ↦ inl (eqb-true acked n here)
+    | inr before ↦ inr before
+  ]
 
   now_under : (n : ℕ) → gave n v (Gave v buffer ∷ history) ≡ true → n ≤ acked
   now_under n gave_it = elim (gave_now n gave_it) [
-      | inl here ↦ omega arith
-      | inr before ↦ omega (arith, h.gave_under n before)
-    ]
+    | inl here ↦ omega arith
+    | inr before ↦ omega (arith, h.gave_under n before)
+  ]
 
   under_now : (n : ℕ) (b : Bool) → leb acked n ≡ b → under_up_to n v (Gave v buffer ∷ history) ≡ cond b acked (under_up_to n v history)
   under_now n b at = rw (same_id v, last_is, at) refl

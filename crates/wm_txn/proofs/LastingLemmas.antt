@@ -1,29 +1,27 @@
 -- Laws of the schedule as the history grows.
-use Rattle.std.proofs.Common.{◌≡◌, ℕ, zero, suc, ◌+◌, ◌≤◌, ◌<◌, Bool, true, false, cond, not, ◌&&◌, ◌||◌, eqb, leb, ◌⊎◌, inl, inr, ⊎_elim, List, [], ◌∷◌, length, Option, Some, None, is_some, refl, ap, ap₂, sym, ◌∙◌, subst, arith}
-use Rattle.std.proofs.lemmas.Bool.{and_parts, and_right, cases_lt, cases_Bool, false_from_ne_true, lt-leb, ne_eqb, or_from}
+use Rattle.std.proofs.Common.{◌≡◌, ℕ, zero, suc, ◌+◌, ◌≤◌, ◌<◌, Bool, true, false, cond, ◌&&◌, ◌||◌, eqb, leb, ◌⊎◌, inl, inr, List, [], ◌∷◌, length, Option, Some, None, is_some, refl, ap, sym, ◌∙◌, subst, arith}
+use Rattle.std.proofs.lemmas.Bool.{and_parts, and_right, cases_lt, false_from_ne_true, lt-leb, ne_eqb, or_from}
 use Rattle.std.specs.List.{list_all}
-use Rattle.std.specs.Option.{option_map, option_and_then, unwrap_or}
+use Rattle.std.specs.Option.{option_and_then}
 use Rattle.wm_base.specs.declared.ids.ConId.{ConId}
 use Rattle.wm_arrange.specs.declared.parts.Placed.{Placed}
 use Rattle.wm_arrange.specs.Sizes.{is_content}
-use Rattle.wm_txn.specs.Commits.{done, ended_turns, greatest, has_ended, prefix, prefix_of, turns_up_to}
+use Rattle.wm_txn.specs.Commits.{done, ended_turns, greatest, has_ended, prefix_of, turns_up_to}
 use Rattle.wm_txn.specs.Heard.{hear, heard}
 use Rattle.wm_txn.specs.History.{Opening, Entry, arrangement, gave, gives, is_open, last}
-use Rattle.wm_txn.specs.Lasting.{BegunStays, EndedStays, BeginsThere, BeginsOnce, EndsThere, NeverFalls, EndsTwiceAtMost, SecondAwaitsNobody}
+use Rattle.wm_txn.specs.Lasting.{BegunStays, EndedStays, NeverFalls, EndsTwiceAtMost, SecondAwaitsNobody}
 use Rattle.wm_txn.specs.Machine.{TxnValue}
 use Rattle.wm_txn.specs.Windows.{find}
-use Rattle.wm_txn.specs.Schedule.{Turn, answered, begun, configures, contents, differs, ended, first_when, is_named, may_end, names, next, or_here, past, turn_from}
-use Rattle.wm_txn.specs.Stands.{IsKept, Stands}
+use Rattle.wm_txn.specs.Schedule.{Turn, answered, configures, contents, differs, ended, is_named, may_end, names, next, past}
+use Rattle.wm_txn.specs.Stands.{IsKept}
 use Rattle.wm_txn.specs.declared.held.Held.{Held}
 use Rattle.wm_txn.proofs.AnswerLemmas.{has, has_here, has_later}
-use Rattle.wm_txn.proofs.FirstLemmas.{first_none, first_short, first_stays, first_within}
+use Rattle.wm_txn.proofs.FirstLemmas.{first_within}
 use Rattle.wm_txn.proofs.JudgeLemmas.{Sees, sees}
 use Rattle.wm_txn.proofs.DueLemmas.{few_begun}
 use Rattle.wm_txn.proofs.NumberLemmas.{beyond}
-use Rattle.wm_txn.proofs.ScheduleLemmas.{ended_stays, mapped_none, mapped_some, past_stays, then_some}
-use Rattle.wm_txn.proofs.SettleLemmas.{same_itself}
-
-use Rattle.wm_txn.proofs.BeginLemmas.{Beginning, beginning, begins_once, begins_step, begins_there, ended_late, ends_there, first_holds, first_late, first_new, holds_here, length_step, new_here, none_beyond, old_or_new, once_step, past_length, some_past}
+use Rattle.wm_txn.proofs.ScheduleLemmas.{ended_stays, past_stays}
+use Rattle.wm_txn.proofs.BeginLemmas.{Beginning, beginning, begins_there, ended_late, first_holds, first_late, none_beyond, once_step, past_length}
 
 pub begun_lasts : BegunStays
 begun_lasts o history entry i turns h = past_stays o history entry i turns h

@@ -1,6 +1,5 @@
 -- The lesser of two windows, where there are any.
-use Rattle.std.proofs.Common.{◌≡◌, ℕ, ◌≤◌, ◌<◌, Bool, true, false, cond, leb, Option, Some, None, refl, ap, sym, ◌∙◌, arith}
-use Rattle.std.proofs.lemmas.Bool.Decides.{nat_tests}
+use Rattle.std.proofs.Common.{Option, Some, None}
 use Rattle.wm_base.specs.declared.ids.ConId.{ConId}
 use Rattle.wm_txn.specs.Commits.{lesser}
 

@@ -1,9 +1,8 @@
 -- The numbers of the last transactions that have ended and begun, by what is known of the schedule.
-use Rattle.std.proofs.Common.{◌≡◌, ℕ, zero, suc, ◌+◌, ◌≤◌, ◌<◌, Bool, true, false, cond, ◌⊎◌, inl, inr, ⊎_elim, List, [], ◌∷◌, length, Option, Some, None, is_some, refl, ap, sym, ◌∙◌, arith}
-use Rattle.std.specs.Option.{option_map, option_and_then, unwrap_or}
+use Rattle.std.proofs.Common.{◌≡◌, ℕ, zero, suc, ◌+◌, ◌≤◌, ◌<◌, Bool, true, false, cond, ◌⊎◌, inl, inr, ⊎_elim, List, ◌∷◌, length, None, refl, ap, sym, ◌∙◌, arith}
 use Rattle.std.proofs.lemmas.Bool.{cases_lt}
 use Rattle.wm_txn.specs.History.{Opening, Entry}
-use Rattle.wm_txn.specs.Schedule.{Turn, first_when, differs, turn_from, ended, begun, next, past}
+use Rattle.wm_txn.specs.Schedule.{Turn, next, past}
 use Rattle.wm_txn.specs.Commits.{greatest, has_begun, has_ended, done, started, turns_up_to, ended_turns, begun_turns}
 use Rattle.wm_txn.specs.Stands.{HasEnded, IsIdle, IsWaiting}
 

@@ -1,16 +1,12 @@
 -- The machine at its beginning, and how long what was heard is.
-use Rattle.std.proofs.Common.{◌≡◌, ℕ, suc, ◌+◌, ◌≤◌, ◌<◌, Bool, true, false, cond, not, eqb, leb, List, [], ◌∷◌, length, Option, Some, None, is_some, refl, ap, sym, ◌∙◌, subst, arith}
+use Rattle.std.proofs.Common.{◌≡◌, suc, true, false, List, [], ◌∷◌, length, None, is_some, refl, ap, sym, ◌∙◌, subst, arith}
 use Rattle.wm_base.specs.declared.ids.ConId.{ConId}
 use Rattle.wm_arrange.specs.declared.parts.Arrangement.{Arrangement}
-use Rattle.wm_arrange.specs.declared.parts.Placed.{Placed}
-use Rattle.wm_arrange.specs.Same.{same_parts}
-use Rattle.wm_arrange.specs.Sizes.{content_size}
 use Rattle.wm_txn.specs.Heard.{heard}
 use Rattle.wm_txn.specs.History.{Opening, Entry}
 use Rattle.wm_txn.specs.Machine.{TxnValue}
 use Rattle.wm_txn.specs.Windows.{AreSorted, HasNoContent, Windows, find}
-use Rattle.wm_txn.specs.Schedule.{Turn, past}
-use Rattle.wm_txn.specs.Stands.{AreOpen, IsIdle, IsKept, IsNewest, Keeps, Stands, StandsFor}
+use Rattle.wm_txn.specs.Stands.{AreOpen, IsIdle, IsKept, Stands}
 use Rattle.wm_txn.proofs.SettleLemmas.{same_itself}
 
 -- as much is heard as there are entries

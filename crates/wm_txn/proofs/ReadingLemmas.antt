@@ -1,26 +1,24 @@
 -- What the machine tells is what the history says.
-use Rattle.std.proofs.Common.{◌≡◌, ℕ, suc, ◌+◌, ◌≤◌, ◌<◌, Bool, true, false, cond, not, ◌&&◌, ◌||◌, eqb, leb, ltb, ◌⊎◌, inl, inr, List, [], ◌∷◌, length, Option, Some, None, is_some, refl, ap, ap₂, sym, ◌∙◌, subst, arith}
-use Rattle.std.proofs.lemmas.Bool.{eqb-true, eq-eqb, leb-false, leb-true, lt-leb, ltb-true, ne_eqb}
-use Rattle.std.proofs.lemmas.Bool.Decides.{nat_tests}
+use Rattle.std.proofs.Common.{◌≡◌, ℕ, ◌+◌, ◌<◌, Bool, true, false, cond, not, ◌&&◌, eqb, leb, inl, inr, List, [], ◌∷◌, length, Option, Some, None, refl, ap, sym, ◌∙◌, arith}
+use Rattle.std.proofs.lemmas.Bool.{eq-eqb, leb-false, leb-true, ne_eqb}
 use Rattle.std.specs.Option.{option_map}
 use Rattle.wm_base.specs.declared.geometry.Size.{Size}
-use Rattle.wm_base.specs.declared.ids.Buffer.{Buffer}
 use Rattle.wm_base.specs.declared.ids.ConId.{ConId}
 use Rattle.wm_arrange.specs.declared.parts.Placed.{Placed}
-use Rattle.wm_arrange.specs.Sizes.{content_size, is_content}
-use Rattle.wm_txn.specs.Commits.{asked, begun_turns, current, done, ended_turns, least, lesser, prefix, prefix_of, shown, started, waiting, waiting_for, waiting_turn}
-use Rattle.wm_txn.specs.History.{Opening, Entry, buffer_up_to, gave, is_open, last}
+use Rattle.wm_arrange.specs.Sizes.{is_content}
+use Rattle.wm_txn.specs.Commits.{asked, begun_turns, current, done, least, lesser, prefix, prefix_of, shown, started, waiting, waiting_for}
+use Rattle.wm_txn.specs.History.{Opening, Entry, buffer_up_to, last}
 use Rattle.wm_txn.specs.Machine.{TxnValue, asked_of, shown_of, waiting_in}
-use Rattle.wm_txn.specs.Windows.{Windows, find, has_acked, is_left, is_unanswered, least_left, shown_by}
-use Rattle.wm_txn.specs.Schedule.{Turn, answered, configure, configures, contents, last_parts}
-use Rattle.wm_txn.specs.Stands.{IsHeld, IsKept, Keeps, StandsFor, configure_of}
+use Rattle.wm_txn.specs.Windows.{Windows, find, has_acked, is_left, least_left, shown_by}
+use Rattle.wm_txn.specs.Schedule.{Turn, answered, configures, contents, last_parts}
+use Rattle.wm_txn.specs.Stands.{IsHeld, IsKept, StandsFor}
 use Rattle.wm_txn.specs.declared.answers.Waiting.{Waiting}
 use Rattle.wm_txn.specs.declared.held.Held.{Held}
 use Rattle.wm_txn.specs.declared.held.Pending.{Pending}
 use Rattle.wm_txn.proofs.AnswerLemmas.{has, has_here, has_later, is_left_where}
 use Rattle.wm_txn.proofs.JudgeLemmas.{Sees, sees}
-use Rattle.wm_txn.proofs.NumberLemmas.{Numbers, numbers_idle, numbers_waiting}
-use Rattle.wm_txn.proofs.StepLemmas.{Pends, Rests, known}
+use Rattle.wm_txn.proofs.NumberLemmas.{numbers_idle, numbers_waiting}
+use Rattle.wm_txn.proofs.StepLemmas.{Pends, known}
 
 abbrev wait_of : ℕ → ConId → Bool → Waiting
 wait_of n v acked = record { number = n; least = v; acked = acked }

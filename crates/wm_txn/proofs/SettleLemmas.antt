@@ -1,29 +1,23 @@
 -- After an entry the machine ends the transaction that waits and begins the next one where the schedule does.
-use Rattle.std.proofs.Common.{◌≡◌, ℕ, zero, suc, ◌+◌, ◌≤◌, ◌<◌, Bool, true, false, cond, not, ◌&&◌, ◌||◌, eqb, leb, ◌⊎◌, inl, inr, List, [], ◌∷◌, length, Option, Some, None, is_some, refl, ap, ap₂, sym, ◌∙◌, subst, arith}
-use Rattle.std.proofs.lemmas.Bool.{eqb-true, eq-eqb, lt-leb, and_right, ne_eqb}
-use Rattle.std.proofs.lemmas.Bool.Decides.{nat_tests}
+use Rattle.std.proofs.Common.{◌≡◌, ℕ, ◌+◌, Bool, true, false, cond, not, ◌||◌, eqb, inr, List, ◌∷◌, length, Option, Some, None, is_some, refl, ap, sym, ◌∙◌, subst, arith}
+use Rattle.std.proofs.lemmas.Bool.{and_right, ne_eqb}
 use Rattle.std.specs.List.Sorted.{IsStrictlySortedBy}
-use Rattle.std.specs.Map.{keys_of}
 use Rattle.std.specs.Option.{option_map}
 use Rattle.std.specs.Ordering.{nat_cmp}
 use Rattle.wm_base.specs.declared.geometry.Size.{Size}
 use Rattle.wm_base.specs.declared.ids.ConId.{ConId}
-use Rattle.wm_arrange.specs.declared.parts.Arrangement.{Arrangement}
 use Rattle.wm_arrange.specs.declared.parts.Placed.{Placed}
 use Rattle.wm_arrange.specs.Same.{same_parts}
 use Rattle.wm_arrange.specs.Sizes.{content_size}
 use Rattle.wm_arrange.proofs.SameLemmas.{parts-decide}
-use Rattle.wm_txn.specs.Commits.{prefix_of}
-use Rattle.wm_txn.specs.History.{Opening, Entry, arrangement, is_open, under_up_to}
-use Rattle.wm_txn.specs.Machine.{TxnValue, began, committed, finished, followed, next_with, settled}
-use Rattle.wm_txn.specs.Windows.{Windows, find, ask_all, asked_by, count_all, count_unanswered, is_unanswered}
-use Rattle.wm_txn.specs.Schedule.{Turn, answered, configure, configures, contents, differs, is_named, is_new, last_parts, may_end, names, same_size, turn_from}
-use Rattle.wm_txn.specs.Stands.{AreOpen, IsHeld, IsIdle, IsKept, IsNewest, IsScheduled, IsUnknown, IsWaiting, Idles, Keeps, StandsFor, Waits, configure_of, serial_of}
+use Rattle.wm_txn.specs.History.{Opening, Entry, arrangement, under_up_to}
+use Rattle.wm_txn.specs.Windows.{Windows, find, ask_all, count_all, count_unanswered, is_unanswered}
+use Rattle.wm_txn.specs.Schedule.{Turn, configure, is_new, same_size, turn_from}
+use Rattle.wm_txn.specs.Stands.{AreOpen, IsHeld, IsKept, IsUnknown, Keeps, configure_of, serial_of}
 use Rattle.wm_txn.specs.declared.held.Held.{Held}
 use Rattle.wm_txn.specs.declared.held.Pending.{Pending}
-use Rattle.wm_txn.proofs.AnswerLemmas.{answered_is, serial_is, some_serial}
-use Rattle.wm_txn.proofs.AskLemmas.{after_ask, count_asked, find_asked, keys_asked, placed_asked}
-use Rattle.wm_txn.proofs.ScheduleLemmas.{WasIdle, WasWaiting, begins_here, ends_here, idles_on, waits_on}
+use Rattle.wm_txn.proofs.AnswerLemmas.{serial_is, some_serial}
+use Rattle.wm_txn.proofs.AskLemmas.{after_ask, count_asked, find_asked, keys_asked}
 use Rattle.wm_txn.proofs.WindowLemmas.{all_answered}
 
 pub same_itself : (parts : List Placed) → same_parts parts parts ≡ true

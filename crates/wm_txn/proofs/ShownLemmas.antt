@@ -1,23 +1,23 @@
 -- Why a window shows its buffer.
-use Rattle.std.proofs.Common.{◌≡◌, ℕ, zero, suc, ◌+◌, ◌≤◌, ◌<◌, Bool, true, false, cond, not, ◌&&◌, ◌||◌, eqb, leb, ◌⊎◌, inl, inr, ⊎_elim, List, [], ◌∷◌, length, Option, Some, None, is_some, refl, ap, ap₂, ◌≢◌, sym, ◌∙◌, subst, arith}
-use Rattle.std.proofs.lemmas.Bool.{and_parts, cases_Bool, eqb-true, not-false, not-true, or_cases, or_right}
+use Rattle.std.proofs.Common.{◌≡◌, ℕ, suc, ◌+◌, ◌≤◌, Bool, true, false, cond, not, eqb, ◌⊎◌, inl, inr, List, [], ◌∷◌, length, Option, Some, None, refl, ap, ap₂, sym, ◌∙◌, subst, arith}
+use Rattle.std.proofs.lemmas.Bool.{and_parts, eqb-true, not-false, not-true, or_cases, or_right}
 use Rattle.std.specs.List.{list_all}
 use Rattle.std.specs.Option.{option_map}
 use Rattle.wm_base.specs.declared.geometry.Size.{Size}
 use Rattle.wm_base.specs.declared.ids.ConId.{ConId}
 use Rattle.wm_arrange.specs.Sizes.{content_size}
-use Rattle.wm_txn.specs.Commits.{current, done, ended_turns}
+use Rattle.wm_txn.specs.Commits.{ended_turns}
 use Rattle.wm_txn.specs.Heard.{heard}
 use Rattle.wm_txn.specs.History.{Opening, Entry, gave, is_open, under_up_to}
 use Rattle.wm_txn.specs.Machine.{TxnValue}
 use Rattle.wm_txn.specs.Windows.{find}
-use Rattle.wm_txn.specs.Schedule.{Turn, answered, configure, configures, contents, ended, first_when, is_named, is_new, last_parts, may_end, or_here, past, same_size, turn_from}
+use Rattle.wm_txn.specs.Schedule.{Turn, answered, configure, configures, contents, ended, first_when, is_named, is_new, last_parts, may_end, or_here, past, same_size}
 use Rattle.wm_txn.specs.Shown.{HasAskedSize, ShowsAnswer, ShowsOpening}
-use Rattle.wm_txn.specs.Stands.{IsKept, Stands, serial_of}
+use Rattle.wm_txn.specs.Stands.{IsKept, serial_of}
 use Rattle.wm_txn.specs.declared.held.Held.{Held}
-use Rattle.wm_txn.proofs.AnswerLemmas.{configure_le, each_passes, has, new_some}
+use Rattle.wm_txn.proofs.AnswerLemmas.{configure_le, each_passes, new_some}
 use Rattle.wm_txn.proofs.JudgeLemmas.{Sees, sees}
-use Rattle.wm_txn.proofs.BeginLemmas.{Beginning, beginning, first_holds, past_length}
+use Rattle.wm_txn.proofs.BeginLemmas.{beginning, first_holds, past_length}
 use Rattle.wm_txn.proofs.LastingLemmas.{done_past}
 
 -- ---- the size

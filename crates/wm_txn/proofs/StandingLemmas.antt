@@ -1,7 +1,6 @@
 -- What holds of each machine that stands for a history.
-use Rattle.std.proofs.Common.{◌≡◌, ℕ, suc, ◌+◌, ◌≤◌, Bool, true, false, not, ◌&&◌, ◌||◌, inl, inr, List, [], ◌∷◌, length, Option, Some, None, is_some, refl, ap, sym, ◌∙◌, subst, arith}
+use Rattle.std.proofs.Common.{◌≡◌, ◌≤◌, true, false, not, ◌&&◌, ◌||◌, inl, inr, List, [], ◌∷◌, length, Option, Some, None, is_some, refl, ap, sym, ◌∙◌, arith}
 use Rattle.std.proofs.lemmas.Bool.{false_from_ne_true}
-use Rattle.std.specs.Option.{option_map}
 use Rattle.std.specs.List.{list_any}
 use Rattle.wm_base.specs.declared.ids.Buffer.{Buffer}
 use Rattle.wm_base.specs.declared.ids.ConId.{ConId}
@@ -10,11 +9,11 @@ use Rattle.wm_arrange.specs.declared.parts.Placed.{Placed}
 use Rattle.wm_txn.proofs.KeepLemmas.{same_id}
 use Rattle.wm_txn.specs.Commits.{prefix_of}
 use Rattle.wm_txn.specs.Heard.{heard}
-use Rattle.wm_txn.specs.History.{Opening, Entry, Still, is_fresh, is_open, was_open}
+use Rattle.wm_txn.specs.History.{Opening, Entry, is_fresh, is_open, was_open}
 use Rattle.wm_txn.specs.Machine.{TxnValue, last_prefix, prefix_with}
 use Rattle.wm_txn.specs.Windows.{IsNewcomer, ShowsOpen, find, is_live}
 use Rattle.wm_txn.specs.Schedule.{Turn, begun, differs, first_when, next, past, turn_from}
-use Rattle.wm_txn.specs.Stands.{IsFit, IsKept, Keeps, Stands, StandsFor}
+use Rattle.wm_txn.specs.Stands.{IsFit, IsKept, Stands}
 use Rattle.wm_txn.specs.Standing.{StillStands, BeginsWithin, KnowsWindows, KnowsOpen}
 use Rattle.wm_txn.specs.declared.held.Held.{Held}
 use Rattle.wm_txn.proofs.EntryLemmas.{stands_still}

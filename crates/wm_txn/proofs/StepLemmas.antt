@@ -1,22 +1,18 @@
 -- The machine that stood for what was heard stands for it with one more entry.
-use Rattle.std.proofs.Common.{◌≡◌, ℕ, suc, ◌+◌, ◌-◌, ◌≤◌, ◌<◌, Bool, true, false, cond, not, ◌&&◌, ◌||◌, eqb, leb, ltb, ◌⊎◌, inl, inr, List, [], ◌∷◌, length, Option, Some, None, refl, ap, ap₂, sym, ◌∙◌, subst, arith}
-use Rattle.std.proofs.lemmas.Bool.{and_right, and_left, eq-eqb, ne_eqb, or_right}
-use Rattle.std.proofs.lemmas.Bool.Decides.{nat_tests}
-use Rattle.wm_base.specs.declared.ids.Buffer.{Buffer}
-use Rattle.wm_base.specs.declared.ids.ConId.{ConId}
+use Rattle.std.proofs.Common.{◌≡◌, ℕ, suc, ◌+◌, ◌≤◌, ◌<◌, true, false, eqb, ◌⊎◌, inl, inr, List, ◌∷◌, length, Option, Some, None, refl, ap, sym, ◌∙◌, subst, arith}
+use Rattle.std.proofs.lemmas.Bool.{ne_eqb}
 use Rattle.wm_arrange.specs.declared.parts.Arrangement.{Arrangement}
 use Rattle.wm_arrange.specs.declared.parts.Placed.{Placed}
 use Rattle.wm_arrange.specs.Same.{same_parts}
-use Rattle.wm_txn.specs.History.{Opening, Entry, Arranged, Acked, Gave, Deadline, Still, arrangement, is_open}
+use Rattle.wm_txn.specs.History.{Opening, Entry, arrangement}
 use Rattle.wm_txn.specs.Machine.{TxnValue, settled}
 use Rattle.wm_txn.specs.Windows.{Windows, count_unanswered}
-use Rattle.wm_txn.specs.Schedule.{Turn, configures, contents, is_named, last_parts, may_end}
-use Rattle.wm_txn.specs.Stands.{AreOpen, Idles, IsIdle, IsNewest, IsScheduled, IsWaiting, Keeps, StandsFor, Waits}
+use Rattle.wm_txn.specs.Schedule.{Turn, configures, contents, is_named, last_parts}
+use Rattle.wm_txn.specs.Stands.{Idles, IsIdle, IsNewest, IsScheduled, IsWaiting, Keeps, StandsFor, Waits}
 use Rattle.wm_txn.specs.declared.held.Pending.{Pending}
 use Rattle.wm_txn.proofs.AnswerLemmas.{answered_is}
 use Rattle.wm_txn.proofs.DueLemmas.{OneMore}
 use Rattle.wm_txn.proofs.FollowLemmas.{Awaits, or_none, settles_idle, settles_waiting, stands_idle, stands_waiting}
-use Rattle.wm_txn.proofs.KeepLemmas.{agree_still, keeps_same}
 use Rattle.wm_txn.proofs.ScheduleLemmas.{was_idle, was_waiting}
 
 -- ---- the transactions that the machine knows

@@ -1,12 +1,7 @@
 -- The machine of transactions: what it keeps, and its steps. It never looks back.
-use Rattle.std.specs.Prelude.{◌≡◌, ℕ, zero, suc, ◌+◌, ◌-◌, ◌==◌, nat_le, nat_lt, Bool, true, false, not, ◌&&◌, ◌||◌, if◌then◌else◌, List, [], ◌∷◌, Option, None, Some, is_some, Result, Ok, Err, is_ok, refl}
-use Rattle.std.specs.BTreeMap.{insert_entry, is_at}
+use Rattle.std.specs.Prelude.{ℕ, ◌+◌, ◌-◌, ◌==◌, nat_le, nat_lt, Bool, false, not, ◌&&◌, ◌||◌, if◌then◌else◌, List, Option, None, Some, Result, Ok, Err, is_ok, refl}
 use Rattle.std.specs.Coded.{Coded, code_by, coded×, coded_ℕ, coded_list, coded_option}
-use Rattle.std.specs.List.{list_any}
-use Rattle.std.specs.List.Sorted.{IsStrictlySortedBy}
-use Rattle.std.specs.Map.{keys_of, lookup, set_value}
 use Rattle.std.specs.Option.{option_map}
-use Rattle.std.specs.Ordering.{nat_cmp}
 use Rattle.wm_base.specs.declared.geometry.Size.{Size}
 use Rattle.wm_base.specs.declared.ids.Buffer.{Buffer}
 use Rattle.wm_base.specs.declared.ids.ConId.{ConId}
@@ -14,13 +9,7 @@ use Rattle.wm_arrange.specs.contracts.parts.Arrangement as arrangement
 use Rattle.wm_txn.specs.contracts.held.Held as held
 use Rattle.wm_txn.specs.contracts.held.Pending as pending
 use Rattle.wm_arrange.specs.declared.parts.Arrangement.{Arrangement}
-use Rattle.wm_arrange.specs.declared.parts.Placed.{Placed}
 use Rattle.wm_arrange.specs.Same.{same_parts}
-use Rattle.wm_arrange.specs.Sizes.{content_size, is_content}
-use Rattle.wm_tree.specs.Look.{same}
-use Rattle.wm_txn.specs.History.{is_fresh}
-use Rattle.wm_txn.specs.Schedule.{same_size}
-use Rattle.wm_txn.specs.Commits.{lesser}
 use Rattle.wm_txn.specs.Heard.{is_empty}
 use Rattle.wm_txn.specs.declared.answers.Waiting.{Waiting}
 use Rattle.wm_txn.specs.declared.answers.AckRefusal.{AckRefusal}
@@ -29,7 +18,7 @@ use Rattle.wm_txn.specs.declared.answers.BufferRefusal.{BufferRefusal}
 use Rattle.wm_txn.specs.declared.answers.BufferRefusal.TheVariants as buffers
 use Rattle.wm_txn.specs.declared.held.Held.{Held}
 use Rattle.wm_txn.specs.declared.held.Pending.{Pending}
-use Rattle.wm_txn.specs.Windows.{AreSorted, HasNoContent, IsNewcomer, ShowsOpen, Windows, acked_with, ask_all, ask_found, ask_part, asked_by, buffered_with, close_all, close_found, closed_held, committed_serial, count_all, count_awaited, count_closed, count_found, count_part, count_unanswered, find, has_acked, held_of, is_left, is_live, is_newly_asked, is_unanswered, least_left, one_if, open_fresh, put, shown_by, size_of, stays_open}
+use Rattle.wm_txn.specs.Windows.{Windows, acked_with, ask_all, buffered_with, close_all, committed_serial, count_all, count_closed, find, has_acked, is_unanswered, least_left, one_if, open_fresh, put, shown_by}
 
 -- ---- the machine
 

@@ -1,7 +1,7 @@
 -- Laws that hold of each machine that stands for a history.
-use Rattle.std.specs.Prelude.{◌≡◌, ◌≤◌, Bool, List, ◌∷◌, length, is_some}
+use Rattle.std.specs.Prelude.{◌≡◌, ◌≤◌, List, ◌∷◌, length, is_some}
 use Rattle.wm_base.specs.declared.ids.ConId.{ConId}
-use Rattle.wm_txn.specs.History.{Opening, Entry, Still, arrangement, is_open, was_open}
+use Rattle.wm_txn.specs.History.{Opening, Entry, Still, is_open, was_open}
 use Rattle.wm_txn.specs.Machine.{TxnValue, last_prefix}
 use Rattle.wm_txn.specs.Windows.{find, is_live}
 use Rattle.wm_txn.specs.Stands.{Stands}

@@ -1,10 +1,9 @@
 -- The windows that the transactions keep, by id: what is asked of them, and those that are mapped and close.
-use Rattle.std.specs.Prelude.{◌≡◌, ℕ, zero, suc, ◌+◌, ◌-◌, ◌==◌, nat_le, nat_lt, Bool, true, false, not, ◌&&◌, ◌||◌, if◌then◌else◌, List, [], ◌∷◌, Option, None, Some, is_some, Result, Ok, Err, is_ok, refl}
+use Rattle.std.specs.Prelude.{◌≡◌, ℕ, ◌+◌, ◌==◌, nat_le, nat_lt, Bool, true, false, not, ◌&&◌, ◌||◌, if◌then◌else◌, List, [], ◌∷◌, Option, None, Some, is_some}
 use Rattle.std.specs.BTreeMap.{insert_entry, is_at}
 use Rattle.std.specs.List.{list_any}
 use Rattle.std.specs.List.Sorted.{IsStrictlySortedBy}
 use Rattle.std.specs.Map.{keys_of, lookup, set_value}
-use Rattle.std.specs.Option.{option_map}
 use Rattle.std.specs.Ordering.{nat_cmp}
 use Rattle.wm_base.specs.declared.geometry.Size.{Size}
 use Rattle.wm_base.specs.declared.ids.Buffer.{Buffer}
@@ -15,7 +14,6 @@ use Rattle.wm_tree.specs.Look.{same}
 use Rattle.wm_txn.specs.History.{is_fresh}
 use Rattle.wm_txn.specs.Schedule.{same_size}
 use Rattle.wm_txn.specs.Commits.{lesser}
-use Rattle.wm_txn.specs.Heard.{is_empty}
 use Rattle.wm_txn.specs.declared.held.Held.{Held}
 
 -- ---- a window

@@ -2,7 +2,6 @@ use Rattle.std.proofs.Common.{◌≡◌, ◌+◌, ◌∙◌, ap, subst, sym}
 use Rattle.wm_txn.specs.Heard.{heard}
 use Rattle.wm_txn.specs.Machine.{TxnValue, arranged, opened, settled}
 use Rattle.wm_txn.specs.Windows.{AreSorted}
-use Rattle.wm_txn.specs.Stands.{StandsFor}
 use Rattle.wm_txn.proofs.EntryLemmas.{stands_arranged}
 use Rattle.wm_txn.proofs.StandingLemmas.{fit_windows}
 use Rattle.wm_txn.proofs.OpeningLemmas.{heard_length}

@@ -1,4 +1,4 @@
-use Rattle.std.proofs.Common.{◌≡◌, ◌+◌, ◌∙◌, ap, length, sym}
+use Rattle.std.proofs.Common.{◌+◌, ◌∙◌, ap, sym}
 use Rattle.wm_txn.specs.Heard.{heard}
 use Rattle.wm_txn.proofs.JudgeLemmas.{buffer_is, stands_buffer}
 use Rattle.wm_txn.proofs.OpeningLemmas.{heard_length}
