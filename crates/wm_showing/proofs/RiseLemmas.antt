@@ -25,7 +25,7 @@ then_same a b c p q = record { next = q.next ∙ p.next; recency = q.recency ∙
 none : (t : TreeValue) → SameIds t t
 none t = record { next = refl; recency = refl }
 
-remembered_same : (was : ConId) (name : Option (List ℕ)) (t : TreeValue) → SameIds t (remembered was name t)
+pub remembered_same : (was : ConId) (name : Option (List ℕ)) (t : TreeValue) → SameIds t (remembered was name t)
 remembered_same was name t = step (same was (shown t)) where
   step : (b : Bool) → SameIds t (cond b t (record t { previous = name }))
   step true = none t
@@ -44,7 +44,7 @@ shown_same w t = step (parent t w) where
   step None = none t
   step (Some o) = record { next = refl; recency = refl }
 
-there_same : (w : ConId) (o : Option ConId) (t : TreeValue) → SameIds t (shown_there w o t)
+pub there_same : (w : ConId) (o : Option ConId) (t : TreeValue) → SameIds t (shown_there w o t)
 there_same w None t = none t
 there_same w (Some o) t =
     let t1 : TreeValue = with_current o t in
