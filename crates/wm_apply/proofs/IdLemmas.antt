@@ -18,6 +18,9 @@ use Rattle.wm_grammar.specs.declared.command.Command.{Command}
 use Rattle.wm_grammar.specs.declared.command.Command.TheVariants as commands
 use Rattle.wm_showing.proofs.RiseLemmas.{ids_focusing, ids_same as as_same, output_same, over_same}
 use Rattle.wm_showing.specs.Showing.{output_focused}
+use Rattle.wm_spaces.proofs.RiseLemmas.{ids_renamed, ids_shown}
+use Rattle.wm_spaces.specs.Renaming.{renamed_space}
+use Rattle.wm_spaces.specs.Targets.{goal_of}
 use Rattle.wm_tree.specs.Ids.{IdsRise}
 use Rattle.wm_tree.specs.declared.place.Place.TheVariants.{After}
 use Rattle.wm_tree.specs.Move.{exchanged, moved, unmarked, with_marks, wrapped}
@@ -27,8 +30,8 @@ use Rattle.wm_tree.proofs.IdLemmas.{ids_raised, ids_refl, ids_settled, ids_trans
 use Rattle.wm_apply.specs.declared.rows.How.{How}
 use Rattle.wm_apply.specs.declared.targets.Targets.{Targets}
 use Rattle.wm_apply.specs.Batches.{Outcome, command_done, commands_done, group_done, groups_done, groups_of, outcome, targets}
-use Rattle.wm_apply.specs.Commands.{Course, course, course_tree, on, refused}
-use Rattle.wm_apply.specs.Rows.{row_refusal, row_tree, unmark_subject}
+use Rattle.wm_apply.specs.Commands.{Course, course, course_tree, on, refused, whole}
+use Rattle.wm_apply.specs.Rows.{row_refusal, row_tree, unmark_subject, whole_refusal, whole_tree}
 use Rattle.wm_apply.specs.Subjects.{each_tree, is_there, one_tree, unless_refused}
 
 -- ---- the commands
@@ -107,20 +110,20 @@ ids_gone None t = ids_refl t
 ids_gone (Some (goals.Node n)) t = ids_focusing_some (leaf t n) t
 ids_gone (Some (goals.Output o)) t = as_same t (output_focused o t) (output_same o t)
 
-pub ids_row : (how : How) (command : Command) (c : ConId) (t : TreeValue) → IdsRise t (row_tree how command c t)
-ids_row how (commands.Split arg) c t = ids_split c _ t
-ids_row how (commands.SetLayout arg) c t = ids_laid c _ t
-ids_row how (commands.CycleLayout cycle) c t = ids_laid c _ t
-ids_row how commands.Focus c t = ids_focusing c t
-ids_row how (commands.FocusDir d) c t = ids_gone _ t
-ids_row how commands.FocusParent c t = ids_raised_some _ t
-ids_row how commands.FocusChild c t = ids_raised_some _ t
-ids_row how (commands.MoveDir d px) c t = ids_step d c (beside d c t) t
-ids_row how (commands.MoveToMark name) c t = ids_moved_after c _ t
-ids_row how (commands.Swap arg) c t = ids_exchanged c _ t
-ids_row how (commands.Mark add toggle name) c t = ids_mark c name add toggle t
-ids_row how (commands.Unmark name) c t = ids_unmark (unmark_subject how c) name t
-ids_row how other c t = ids_refl t
+pub ids_row : (homes : List (List ℕ × List ℕ)) (how : How) (command : Command) (c : ConId) (t : TreeValue) → IdsRise t (row_tree homes how command c t)
+ids_row homes how (commands.Split arg) c t = ids_split c _ t
+ids_row homes how (commands.SetLayout arg) c t = ids_laid c _ t
+ids_row homes how (commands.CycleLayout cycle) c t = ids_laid c _ t
+ids_row homes how commands.Focus c t = ids_focusing c t
+ids_row homes how (commands.FocusDir d) c t = ids_gone _ t
+ids_row homes how commands.FocusParent c t = ids_raised_some _ t
+ids_row homes how commands.FocusChild c t = ids_raised_some _ t
+ids_row homes how (commands.MoveDir d px) c t = ids_step d c (beside d c t) t
+ids_row homes how (commands.MoveToMark name) c t = ids_moved_after c _ t
+ids_row homes how (commands.Swap arg) c t = ids_exchanged c _ t
+ids_row homes how (commands.Mark add toggle name) c t = ids_mark c name add toggle t
+ids_row homes how (commands.Unmark name) c t = ids_unmark (unmark_subject how c) name t
+ids_row homes how other c t = ids_refl t
 
 -- ---- subjects, commands and groups
 
@@ -128,37 +131,45 @@ ids_unless : (r : Option Refusal) (t new : TreeValue) → IdsRise t new → IdsR
 ids_unless None t new h = h
 ids_unless (Some e) t new h = ids_refl t
 
-ids_one : (how : How) (command : Command) (c : ConId) (t : TreeValue) → IdsRise t (one_tree how command c t)
-ids_one how command c t = step (is_there c t)
+ids_one : (homes : List (List ℕ × List ℕ)) (how : How) (command : Command) (c : ConId) (t : TreeValue) → IdsRise t (one_tree homes how command c t)
+ids_one homes how command c t = step (is_there c t)
   where
     after : TreeValue
-    after = settled (row_tree how command c t)
+    after = settled (row_tree homes how command c t)
 
-    step : (b : Bool) → IdsRise t (cond b (unless_refused (row_refusal how command c t) t after) t)
-    step true = ids_unless (row_refusal how command c t) t after (ids_trans t (row_tree how command c t) after (ids_row how command c t) (ids_settled (row_tree how command c t)))
+    step : (b : Bool) → IdsRise t (cond b (unless_refused (row_refusal homes how command c t) t after) t)
+    step true = ids_unless (row_refusal homes how command c t) t after (ids_trans t (row_tree homes how command c t) after (ids_row homes how command c t) (ids_settled (row_tree homes how command c t)))
     step false = ids_refl t
 
-ids_each : (how : How) (command : Command) (cs : List ConId) (t : TreeValue) → IdsRise t (each_tree how command cs t)
-ids_each how command [] t = ids_refl t
-ids_each how command (c ∷ cs) t = ids_trans t (one_tree how command c t) (each_tree how command (c ∷ cs) t) (ids_one how command c t) (ids_each how command cs (one_tree how command c t))
+ids_each : (homes : List (List ℕ × List ℕ)) (how : How) (command : Command) (cs : List ConId) (t : TreeValue) → IdsRise t (each_tree homes how command cs t)
+ids_each homes how command [] t = ids_refl t
+ids_each homes how command (c ∷ cs) t = ids_trans t (one_tree homes how command c t) (each_tree homes how command (c ∷ cs) t) (ids_one homes how command c t) (ids_each homes how command cs (one_tree homes how command c t))
 
-ids_course : (c : Course) (command : Command) (t : TreeValue) → IdsRise t (course_tree c command t)
-ids_course (refused e) command t = ids_refl t
-ids_course (on how cs) command t = ids_each how command cs t
+ids_whole : (homes : List (List ℕ × List ℕ)) (command : Command) (t : TreeValue) → IdsRise t (whole_tree homes command t)
+ids_whole homes (commands.Workspace target) t = ids_shown (goal_of target t) homes t
+ids_whole homes (commands.Rename was name) t = ids_renamed (renamed_space was t) name t
+ids_whole homes other t = ids_refl t
 
-ids_commands : (found : Targets) (cs : List Command) (o : Outcome) → IdsRise o.tree (commands_done found cs o).tree
-ids_commands found [] o = ids_refl o.tree
-ids_commands found (c ∷ cs) o =
-    ids_trans o.tree (command_done found c o).tree (commands_done found (c ∷ cs) o).tree (ids_course (course found c o.tree) c o.tree) (ids_commands found cs (command_done found c o))
+ids_course : (homes : List (List ℕ × List ℕ)) (c : Course) (command : Command) (t : TreeValue) → IdsRise t (course_tree homes c command t)
+ids_course homes (refused e) command t = ids_refl t
+ids_course homes (on how cs) command t = ids_each homes how command cs t
+ids_course homes whole command t =
+    let new : TreeValue = whole_tree homes command t in
+    ids_unless (whole_refusal command t) t (settled new) (ids_trans t new (settled new) (ids_whole homes command t) (ids_settled new))
 
-ids_groups : (subject : Option ConId) (gs : List Group) (o : Outcome) → IdsRise o.tree (groups_done subject gs o).tree
-ids_groups subject [] o = ids_refl o.tree
-ids_groups subject (g ∷ gs) o =
-    ids_trans o.tree (group_done subject g o).tree (groups_done subject (g ∷ gs) o).tree (ids_commands (targets g.criteria subject o.tree) g.commands o) (ids_groups subject gs (group_done subject g o))
+ids_commands : (homes : List (List ℕ × List ℕ)) (found : Targets) (cs : List Command) (o : Outcome) → IdsRise o.tree (commands_done homes found cs o).tree
+ids_commands homes found [] o = ids_refl o.tree
+ids_commands homes found (c ∷ cs) o =
+    ids_trans o.tree (command_done homes found c o).tree (commands_done homes found (c ∷ cs) o).tree (ids_course homes (course found c o.tree) c o.tree) (ids_commands homes found cs (command_done homes found c o))
 
-pub ids_outcome : (verdict : Verdict) (subject : Option ConId) (t : TreeValue) → IdsRise t (outcome verdict subject t).tree
-ids_outcome verdict subject t = ids_groups subject (groups_of verdict) (record { tree = t; replies = []; exit = false })
+ids_groups : (homes : List (List ℕ × List ℕ)) (subject : Option ConId) (gs : List Group) (o : Outcome) → IdsRise o.tree (groups_done homes subject gs o).tree
+ids_groups homes subject [] o = ids_refl o.tree
+ids_groups homes subject (g ∷ gs) o =
+    ids_trans o.tree (group_done homes subject g o).tree (groups_done homes subject (g ∷ gs) o).tree (ids_commands homes (targets g.criteria subject o.tree) g.commands o) (ids_groups homes subject gs (group_done homes subject g o))
+
+pub ids_outcome : (homes : List (List ℕ × List ℕ)) (verdict : Verdict) (subject : Option ConId) (t : TreeValue) → IdsRise t (outcome homes verdict subject t).tree
+ids_outcome homes verdict subject t = ids_groups homes subject (groups_of verdict) (record { tree = t; replies = []; exit = false })
 
 -- a tree that a text leaves
-pub ids_left : (verdict : Verdict) (subject : Option ConId) (t new : TreeValue) → new ≡ (outcome verdict subject t).tree → IdsRise t new
-ids_left verdict subject t new e = subst (IdsRise t) (sym e) (ids_outcome verdict subject t)
+pub ids_left : (homes : List (List ℕ × List ℕ)) (verdict : Verdict) (subject : Option ConId) (t new : TreeValue) → new ≡ (outcome homes verdict subject t).tree → IdsRise t new
+ids_left homes verdict subject t new e = subst (IdsRise t) (sym e) (ids_outcome homes verdict subject t)

@@ -1,5 +1,5 @@
 -- What the groups of a text do to a tree, one after another, and what they are answered.
-use Rattle.std.specs.Prelude.{Bool, false, ◌||◌, List, [], ◌∷◌, ◌++◌, Option, None, Some, refl}
+use Rattle.std.specs.Prelude.{ℕ, Bool, false, ◌||◌, List, [], ◌∷◌, ◌++◌, Option, None, Some, refl}
 use Rattle.std.specs.Coded.{Coded, code_by, coded×, coded_list, coded_bool}
 use Rattle.wm_base.specs.declared.ids.ConId.{ConId}
 use Rattle.wm_criteria.specs.declared.verdict.Verdict.{Verdict}
@@ -31,23 +31,23 @@ abbrev pub targets : Option Criteria → Option ConId → TreeValue → Targets
 targets None subject t = alone subject
 targets (Some criteria) subject t = Matched (matching t criteria.keys)
 
-abbrev pub command_done : Targets → Command → Outcome → Outcome
-command_done targets command o = record {
-  tree = command_tree targets command o.tree;
-  replies = o.replies ++ command_reply targets command o.tree ∷ [];
+abbrev pub command_done : List (List ℕ × List ℕ) → Targets → Command → Outcome → Outcome
+command_done homes targets command o = record {
+  tree = command_tree homes targets command o.tree;
+  replies = o.replies ++ command_reply homes targets command o.tree ∷ [];
   exit = o.exit || is_exit command;
 }
 
-abbrev pub commands_done : Targets → List Command → Outcome → Outcome
-commands_done targets [] o = o
-commands_done targets (c ∷ cs) o = commands_done targets cs (command_done targets c o)
+abbrev pub commands_done : List (List ℕ × List ℕ) → Targets → List Command → Outcome → Outcome
+commands_done homes targets [] o = o
+commands_done homes targets (c ∷ cs) o = commands_done homes targets cs (command_done homes targets c o)
 
-abbrev pub group_done : Option ConId → Group → Outcome → Outcome
-group_done subject g o = commands_done (targets g.criteria subject o.tree) g.commands o
+abbrev pub group_done : List (List ℕ × List ℕ) → Option ConId → Group → Outcome → Outcome
+group_done homes subject g o = commands_done homes (targets g.criteria subject o.tree) g.commands o
 
-abbrev pub groups_done : Option ConId → List Group → Outcome → Outcome
-groups_done subject [] o = o
-groups_done subject (g ∷ gs) o = groups_done subject gs (group_done subject g o)
+abbrev pub groups_done : List (List ℕ × List ℕ) → Option ConId → List Group → Outcome → Outcome
+groups_done homes subject [] o = o
+groups_done homes subject (g ∷ gs) o = groups_done homes subject gs (group_done homes subject g o)
 
 -- the groups of a text that reads
 abbrev pub groups_of : Verdict → List Group
@@ -56,8 +56,8 @@ groups_of (Bad at) = []
 groups_of (PatternRefused n) = []
 
 -- what a text that reads does to a tree
-abbrev pub outcome : Verdict → Option ConId → TreeValue → Outcome
-outcome verdict subject t = groups_done subject (groups_of verdict) (record { tree = t; replies = []; exit = false })
+abbrev pub outcome : List (List ℕ × List ℕ) → Verdict → Option ConId → TreeValue → Outcome
+outcome homes verdict subject t = groups_done homes subject (groups_of verdict) (record { tree = t; replies = []; exit = false })
 
 -- ---- how the logic stores it
 

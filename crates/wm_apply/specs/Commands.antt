@@ -1,5 +1,6 @@
 -- What one command of a group does, and its reply.
-use Rattle.std.specs.Prelude.{Bool, true, false, not, ◌&&◌, ◌==◌, if◌then◌else◌, nat_le, List, [], ◌∷◌, length, filter}
+use Rattle.std.specs.Prelude.{ℕ, Bool, true, false, not, ◌&&◌, ◌==◌, if◌then◌else◌, nat_le, List, [], ◌∷◌, length, filter}
+use Rattle.std.specs.Option.{option_map}
 use Rattle.wm_base.specs.declared.errors.ErrorText.{ErrorText}
 use Rattle.wm_base.specs.declared.errors.ErrorText.TheVariants as errors
 use Rattle.wm_base.specs.declared.ids.ConId.{ConId}
@@ -12,7 +13,8 @@ use Rattle.wm_apply.specs.declared.rows.How.{How}
 use Rattle.wm_apply.specs.declared.rows.How.TheVariants as how
 use Rattle.wm_apply.specs.declared.targets.Targets.{Targets}
 use Rattle.wm_apply.specs.declared.targets.Targets.TheVariants.{Matched, Handed, Focused}
-use Rattle.wm_apply.specs.Subjects.{each_error, each_tree, is_there, reply_of}
+use Rattle.wm_apply.specs.Rows.{whole_refusal, whole_tree}
+use Rattle.wm_apply.specs.Subjects.{each_error, each_tree, error_of, is_there, reply_of, whole_done}
 
 -- ---- kinds of commands
 
@@ -30,17 +32,25 @@ is_built (commands.MoveToMark name) = true
 is_built (commands.Swap arg) = true
 is_built (commands.Mark add toggle name) = true
 is_built (commands.Unmark name) = true
+is_built (commands.Workspace target) = true
+is_built (commands.Rename was name) = true
 is_built commands.Nop = true
 is_built commands.Idle = true
 is_built commands.Exit = true
 is_built other = false
 
--- the command runs once, whatever the criteria, and has no subject
+-- the command changes no tree, runs once, whatever the criteria, and has no subject
 abbrev pub runs_once : Command → Bool
 runs_once commands.Nop = true
 runs_once commands.Idle = true
 runs_once commands.Exit = true
 runs_once other = false
+
+-- the command runs once on the tree as a whole, whatever the criteria, and has no subject
+abbrev pub is_whole : Command → Bool
+is_whole (commands.Workspace target) = true
+is_whole (commands.Rename was name) = true
+is_whole other = false
 
 abbrev pub is_mark : Command → Bool
 is_mark (commands.Mark add toggle name) = true
@@ -60,10 +70,11 @@ still_there cs t = filter (λ c. is_there c t) cs
 abbrev pub subject : ConId → TreeValue → ConId
 subject c t = if is_there c t then c else focused t
 
--- a command is refused before it runs, or runs on these subjects
+-- a command is refused before it runs, runs on these subjects, or once on the tree as a whole
 pub data Course : Type 0 where
   refused : ErrorText → Course
   on : How → List ConId → Course
+  whole : Course
 
 -- more than one of the containers is still there
 abbrev pub many_there : List ConId → TreeValue → Bool
@@ -86,20 +97,23 @@ abbrev pub course : Targets → Command → TreeValue → Course
 course targets command t =
     if not (is_built command) then refused errors.NotBuilt
     else if runs_once command then on how.Focused []
+    else if is_whole command then whole
     else targets_course targets command t
 
-abbrev pub course_tree : Course → Command → TreeValue → TreeValue
-course_tree (refused e) command t = t
-course_tree (on how cs) command t = each_tree how command cs t
+abbrev pub course_tree : List (List ℕ × List ℕ) → Course → Command → TreeValue → TreeValue
+course_tree homes (refused e) command t = t
+course_tree homes (on how cs) command t = each_tree homes how command cs t
+course_tree homes whole command t = whole_done (whole_refusal command t) t (whole_tree homes command t)
 
-abbrev pub course_reply : Course → Command → TreeValue → CommandReply
-course_reply (refused e) command t = Error e
-course_reply (on how cs) command t = reply_of (each_error how command cs t)
+abbrev pub course_reply : List (List ℕ × List ℕ) → Course → Command → TreeValue → CommandReply
+course_reply homes (refused e) command t = Error e
+course_reply homes (on how cs) command t = reply_of (each_error homes how command cs t)
+course_reply homes whole command t = reply_of (option_map error_of (whole_refusal command t))
 
 -- the tree that the command leaves
-abbrev pub command_tree : Targets → Command → TreeValue → TreeValue
-command_tree targets command t = course_tree (course targets command t) command t
+abbrev pub command_tree : List (List ℕ × List ℕ) → Targets → Command → TreeValue → TreeValue
+command_tree homes targets command t = course_tree homes (course targets command t) command t
 
 -- the reply to the command
-abbrev pub command_reply : Targets → Command → TreeValue → CommandReply
-command_reply targets command t = course_reply (course targets command t) command t
+abbrev pub command_reply : List (List ℕ × List ℕ) → Targets → Command → TreeValue → CommandReply
+command_reply homes targets command t = course_reply homes (course targets command t) command t

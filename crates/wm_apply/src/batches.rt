@@ -12,7 +12,7 @@ use crate::commands::{is_exit, run_command};
 use crate::targets::Targets;
 use std::alloc::Global;
 use std::marker::Model;
-use wm_base::{ConId, List, NoMemory};
+use wm_base::{ConId, List, NoMemory, Text};
 use wm_criteria::{Prepared, Verdict, matching};
 use wm_grammar::{Command, Group};
 use wm_layouts::Env;
@@ -39,26 +39,36 @@ impl Model for Running {
 
 impl Running {
     /// Runs one command on what its group acts on.
-    fn command(&mut self, targets: &Targets, command: &Command) -> Result<(), NoMemory>
+    fn command(
+        &mut self,
+        homes: &[(Text, Text)],
+        targets: &Targets,
+        command: &Command,
+    ) -> Result<(), NoMemory>
         requires { IsSound self.old.tree }
-        ensures done { OnOk result (self.new ≡ command_done targets.now command.now self.old) }
+        ensures done { OnOk result (self.new ≡ command_done homes.now targets.now command.now self.old) }
         ensures sound { OnOk result (IsSound self.new.tree) }
     {
-        let reply = run_command(&mut self.tree, targets, command)?;
+        let reply = run_command(&mut self.tree, homes, targets, command)?;
         self.replies.push(reply)?;
         self.exit = self.exit || is_exit(command);
         Ok(())
     }
 
     /// Runs the commands of a group, one after another.
-    fn commands(&mut self, targets: &Targets, commands: &[Command]) -> Result<(), NoMemory>
+    fn commands(
+        &mut self,
+        homes: &[(Text, Text)],
+        targets: &Targets,
+        commands: &[Command],
+    ) -> Result<(), NoMemory>
         requires { IsSound self.old.tree }
-        ensures done { OnOk result (self.new ≡ commands_done targets.now commands.now self.old) }
+        ensures done { OnOk result (self.new ≡ commands_done homes.now targets.now commands.now self.old) }
         ensures sound { OnOk result (IsSound self.new.tree) }
     {
         let mut rest = commands;
         while let [command, after @ ..] = rest {
-            self.command(targets, command)?;
+            self.command(homes, targets, command)?;
             rest = after;
         }
         Ok(())
@@ -91,6 +101,7 @@ impl Running {
     fn groups(
         &mut self,
         alloc: Global,
+        homes: &[(Text, Text)],
         p: &Prepared,
         groups: &[Group],
         subject: Option<ConId>,
@@ -98,14 +109,14 @@ impl Running {
         requires built { IsTrue (is_built p.now) }
         requires sound { IsSound self.old.tree }
         requires groups { groups_of p.now.verdict ≡ groups.now }
-        ensures done { OnOk result (self.new ≡ groups_done subject groups.now self.old) }
+        ensures done { OnOk result (self.new ≡ groups_done homes.now subject groups.now self.old) }
         ensures sound { OnOk result (IsSound self.new.tree) }
     {
         let mut number = 0;
         let mut rest = groups;
         while let [group, after @ ..] = rest {
             let targets = self.targets(alloc, p, number, group, subject)?;
-            self.commands(&targets, group.commands.items())?;
+            self.commands(homes, &targets, group.commands.items())?;
             number += 1;
             rest = after;
         }
@@ -120,20 +131,20 @@ impl Running {
 pub fn run(
     alloc: Global,
     t: &Tree,
-    _env: &Env,
+    env: &Env,
     p: &Prepared,
     subject: Option<ConId>,
 ) -> Result<(Tree, Applied), NoMemory>
     requires built { IsTrue (is_built p.now) }
     requires sound { IsSound t.now }
-    ensures tree { IfOk result (λ r. r.0 ≡ (outcome p.now.verdict subject t.now).tree) }
-    ensures replies { IfOk result (λ r. r.1.replies ≡ (outcome p.now.verdict subject t.now).replies) }
-    ensures exit { IfOk result (λ r. r.1.exit ≡ (outcome p.now.verdict subject t.now).exit) }
+    ensures tree { IfOk result (λ r. r.0 ≡ (outcome env.now.homes p.now.verdict subject t.now).tree) }
+    ensures replies { IfOk result (λ r. r.1.replies ≡ (outcome env.now.homes p.now.verdict subject t.now).replies) }
+    ensures exit { IfOk result (λ r. r.1.exit ≡ (outcome env.now.homes p.now.verdict subject t.now).exit) }
     ensures others { IfOk result (λ r. (r.1.mode ≡ None) × (r.1.kills ≡ [])) }
     ensures sound { IfOk result (λ r. IsSound r.0) }
     ensures ids { IfOk result (λ r. IdsRise t.now r.0) }
 {
-    let ran = run_groups(alloc, t, p, subject)?;
+    let ran = run_groups(alloc, t, env.homes.items(), p, subject)?;
     let applied = Applied {
         replies: List::of(ran.replies),
         mode: None,
@@ -147,12 +158,13 @@ pub fn run(
 fn run_groups(
     alloc: Global,
     t: &Tree,
+    homes: &[(Text, Text)],
     p: &Prepared,
     subject: Option<ConId>,
 ) -> Result<Running, NoMemory>
     requires built { IsTrue (is_built p.now) }
     requires sound { IsSound t.now }
-    ensures done { IfOk result (λ ran. ran ≡ outcome p.now.verdict subject t.now) }
+    ensures done { IfOk result (λ ran. ran ≡ outcome homes.now p.now.verdict subject t.now) }
     ensures sound { IfOk result (λ ran. IsSound ran.tree) }
 {
     let mut ran = Running {
@@ -161,7 +173,7 @@ fn run_groups(
         exit: false,
     };
     if let Verdict::Ready(batch) = &p.verdict {
-        ran.groups(alloc, p, batch.groups.items(), subject)?;
+        ran.groups(alloc, homes, p, batch.groups.items(), subject)?;
     }
     Ok(ran)
 }
@@ -176,9 +188,9 @@ pub fn apply(
 ) -> Result<Applied, NoMemory>
     requires built { IsTrue (is_built p.now) }
     requires sound { IsSound t.old }
-    ensures tree { OnOk result (t.new ≡ (outcome p.now.verdict subject t.old).tree) }
-    ensures replies { IfOk result (λ a. a.replies ≡ (outcome p.now.verdict subject t.old).replies) }
-    ensures exit { IfOk result (λ a. a.exit ≡ (outcome p.now.verdict subject t.old).exit) }
+    ensures tree { OnOk result (t.new ≡ (outcome env.now.homes p.now.verdict subject t.old).tree) }
+    ensures replies { IfOk result (λ a. a.replies ≡ (outcome env.now.homes p.now.verdict subject t.old).replies) }
+    ensures exit { IfOk result (λ a. a.exit ≡ (outcome env.now.homes p.now.verdict subject t.old).exit) }
     ensures others { IfOk result (λ a. (a.mode ≡ None) × (a.kills ≡ [])) }
     ensures err { OnErr result (t.new ≡ t.old) }
     ensures sound { IsSound t.new }

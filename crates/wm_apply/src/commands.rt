@@ -1,14 +1,14 @@
 //! One command of a group.
 ghost use Rattle.std.specs.Prelude.{◌≡◌, length, IfOk, OnOk};
-ghost use Rattle.wm_apply.specs.Commands.{command_reply, command_tree, is_built, is_exit, course_reply, course_tree, is_mark, matched_course, runs_once, still_there, subject, targets_course};
+ghost use Rattle.wm_apply.specs.Commands.{command_reply, command_tree, is_built, is_exit, is_whole, course_reply, course_tree, is_mark, matched_course, runs_once, still_there, subject, targets_course, whole};
 ghost use Rattle.wm_apply.specs.declared.targets.Targets.TheVariants as targets;
 ghost use Rattle.wm_tree.specs.Sound.{IsSound};
 
 use crate::applied::CommandReply;
-use crate::rows::How;
-use crate::subjects::run_each;
+use crate::rows::{How, run_whole};
+use crate::subjects::{run_each, text_of};
 use crate::targets::Targets;
-use wm_base::{ConId, ErrorText, NoMemory};
+use wm_base::{ConId, ErrorText, NoMemory, Text};
 use wm_grammar::Command;
 use wm_showing::is_subject;
 use wm_tree::Tree;
@@ -22,16 +22,24 @@ fn is_built(command: &Command) -> bool
         Command::Focus | Command::FocusDir(_) | Command::FocusParent | Command::FocusChild => true,
         Command::MoveDir(..) | Command::MoveToMark(_) | Command::Swap(_) => true,
         Command::Mark { .. } | Command::Unmark(_) => true,
+        Command::Workspace(_) | Command::Rename(..) => true,
         Command::Nop | Command::Idle | Command::Exit => true,
         _ => false,
     }
 }
 
-/// Whether the command runs once, whatever the criteria, and has no subject.
+/// Whether the command changes no tree, runs once, whatever the criteria, and has no subject.
 fn runs_once(command: &Command) -> bool
     ensures { result ≡ runs_once command.now }
 {
     matches!(command, Command::Nop | Command::Idle | Command::Exit)
+}
+
+/// Whether the command runs once on the tree as a whole, whatever the criteria, and has no subject.
+fn is_whole(command: &Command) -> bool
+    ensures { result ≡ is_whole command.now }
+{
+    matches!(command, Command::Workspace(_) | Command::Rename(..))
 }
 
 fn is_mark(command: &Command) -> bool
@@ -72,12 +80,13 @@ fn subject(t: &Tree, con: ConId) -> ConId
 /// Runs one command on what its group acts on.
 pub fn run_command(
     t: &mut Tree,
+    homes: &[(Text, Text)],
     targets: &Targets,
     command: &Command,
 ) -> Result<CommandReply, NoMemory>
     requires { IsSound t.old }
-    ensures tree { OnOk result (t.new ≡ command_tree targets.now command.now t.old) }
-    ensures reply { IfOk result (λ r. r ≡ command_reply targets.now command.now t.old) }
+    ensures tree { OnOk result (t.new ≡ command_tree homes.now targets.now command.now t.old) }
+    ensures reply { IfOk result (λ r. r ≡ command_reply homes.now targets.now command.now t.old) }
     ensures sound { IsSound t.new }
 {
     if !is_built(command) {
@@ -86,18 +95,46 @@ pub fn run_command(
     if runs_once(command) {
         return Ok(CommandReply::Done);
     }
+    if is_whole(command) {
+        return run_all(t, homes, command);
+    }
     match targets {
-        Targets::Matched(cons) => run_matched(t, command, cons.items()),
-        Targets::Handed(con) => run_handed(t, command, *con),
-        Targets::Focused => run_focused(t, command),
+        Targets::Matched(cons) => run_matched(t, homes, command, cons.items()),
+        Targets::Handed(con) => run_handed(t, homes, command, *con),
+        Targets::Focused => run_focused(t, homes, command),
+    }
+}
+
+/// Runs a command on the tree as a whole, and settles it.
+fn run_all(
+    t: &mut Tree,
+    homes: &[(Text, Text)],
+    command: &Command,
+) -> Result<CommandReply, NoMemory>
+    requires { IsSound t.old }
+    ensures tree { OnOk result (t.new ≡ course_tree homes.now whole command.now t.old) }
+    ensures reply { IfOk result (λ r. r ≡ course_reply homes.now whole command.now t.old) }
+    ensures sound { IsSound t.new }
+{
+    match run_whole(t, homes, command) {
+        Ok(()) => {
+            t.settle();
+            Ok(CommandReply::Done)
+        }
+        Err(refusal) => Ok(CommandReply::Error(text_of(refusal)?)),
     }
 }
 
 /// Runs a command on the containers that criteria matched.
-fn run_matched(t: &mut Tree, command: &Command, cons: &[ConId]) -> Result<CommandReply, NoMemory>
+fn run_matched(
+    t: &mut Tree,
+    homes: &[(Text, Text)],
+    command: &Command,
+    cons: &[ConId],
+) -> Result<CommandReply, NoMemory>
     requires { IsSound t.old }
-    ensures tree { OnOk result (t.new ≡ course_tree (matched_course command.now cons.now t.old) command.now t.old) }
-    ensures reply { IfOk result (λ r. r ≡ course_reply (matched_course command.now cons.now t.old) command.now t.old) }
+    ensures tree { OnOk result (t.new ≡ course_tree homes.now (matched_course command.now cons.now t.old) command.now t.old) }
+    ensures reply { IfOk result (λ r. r ≡ course_reply homes.now (matched_course command.now cons.now t.old) command.now t.old) }
     ensures sound { IsSound t.new }
 {
     if cons.is_empty() {
@@ -106,27 +143,36 @@ fn run_matched(t: &mut Tree, command: &Command, cons: &[ConId]) -> Result<Comman
     if is_mark(command) && count_there(t, cons) >= 2 {
         return Ok(CommandReply::Error(ErrorText::ManyMatch));
     }
-    run_each(t, How::Matched, command, cons)
+    run_each(t, homes, How::Matched, command, cons)
 }
 
 /// Runs a command on the subject that was handed in.
-fn run_handed(t: &mut Tree, command: &Command, con: ConId) -> Result<CommandReply, NoMemory>
+fn run_handed(
+    t: &mut Tree,
+    homes: &[(Text, Text)],
+    command: &Command,
+    con: ConId,
+) -> Result<CommandReply, NoMemory>
     requires { IsSound t.old }
-    ensures tree { OnOk result (t.new ≡ course_tree (targets_course (targets.Handed con) command.now t.old) command.now t.old) }
-    ensures reply { IfOk result (λ r. r ≡ course_reply (targets_course (targets.Handed con) command.now t.old) command.now t.old) }
+    ensures tree { OnOk result (t.new ≡ course_tree homes.now (targets_course (targets.Handed con) command.now t.old) command.now t.old) }
+    ensures reply { IfOk result (λ r. r ≡ course_reply homes.now (targets_course (targets.Handed con) command.now t.old) command.now t.old) }
     ensures sound { IsSound t.new }
 {
     let con = subject(t, con);
-    run_each(t, How::Handed, command, &[con])
+    run_each(t, homes, How::Handed, command, &[con])
 }
 
 /// Runs a command on the focused container.
-fn run_focused(t: &mut Tree, command: &Command) -> Result<CommandReply, NoMemory>
+fn run_focused(
+    t: &mut Tree,
+    homes: &[(Text, Text)],
+    command: &Command,
+) -> Result<CommandReply, NoMemory>
     requires { IsSound t.old }
-    ensures tree { OnOk result (t.new ≡ course_tree (targets_course targets.Focused command.now t.old) command.now t.old) }
-    ensures reply { IfOk result (λ r. r ≡ course_reply (targets_course targets.Focused command.now t.old) command.now t.old) }
+    ensures tree { OnOk result (t.new ≡ course_tree homes.now (targets_course targets.Focused command.now t.old) command.now t.old) }
+    ensures reply { IfOk result (λ r. r ≡ course_reply homes.now (targets_course targets.Focused command.now t.old) command.now t.old) }
     ensures sound { IsSound t.new }
 {
     let con = t.focused();
-    run_each(t, How::Focused, command, &[con])
+    run_each(t, homes, How::Focused, command, &[con])
 }

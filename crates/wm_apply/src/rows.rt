@@ -1,17 +1,18 @@
-//! One command on one subject: a case for each command that is built.
+//! One command on one subject, or on the tree as a whole: a case for each command that is built.
 ghost use Rattle.std.specs.Prelude.{◌≡◌, None, OnOk, OnErr, IfErr};
-ghost use Rattle.wm_apply.specs.Rows.{focus_refusal, row_refusal, row_tree, unmark_subject};
+ghost use Rattle.wm_apply.specs.Rows.{focus_refusal, row_refusal, row_tree, unmark_subject, whole_refusal, whole_tree};
 ghost use Rattle.wm_showing.specs.Refusing.{IsCause};
 ghost use Rattle.wm_showing.specs.Showing.{focusing};
 ghost use Rattle.wm_showing.specs.Subject.{IsSubject};
 ghost use Rattle.wm_tree.specs.Sound.{IsSound};
 
-use wm_base::{ConId, ErrorText, NoMemory, Refusal};
+use wm_base::{ConId, ErrorText, NoMemory, Refusal, Text};
 use wm_focus::{
     cycle_layout, focus_child, focus_dir, focus_parent, mark, move_dir, move_to_mark, set_layout,
     split, swap, unmark,
 };
 use wm_grammar::Command;
+use wm_spaces::{rename, show};
 use wm_tree::Tree;
 
 /// How a command came to its subject: criteria matched it, it was handed in, or it is the focused one.
@@ -23,12 +24,18 @@ pub enum How {
 }
 
 /// Does a command to one subject. The tree is not settled.
-pub fn run_row(t: &mut Tree, how: How, command: &Command, con: ConId) -> Result<(), Refusal>
+pub fn run_row(
+    t: &mut Tree,
+    homes: &[(Text, Text)],
+    how: How,
+    command: &Command,
+    con: ConId,
+) -> Result<(), Refusal>
     requires { IsSubject t.old con }
-    ensures tree { OnOk result (t.new ≡ row_tree how command.now con t.old) }
-    ensures fine { OnOk result (row_refusal how command.now con t.old ≡ None) }
+    ensures tree { OnOk result (t.new ≡ row_tree homes.now how command.now con t.old) }
+    ensures fine { OnOk result (row_refusal homes.now how command.now con t.old ≡ None) }
     ensures err { OnErr result (t.new ≡ t.old) }
-    ensures cause { IfErr result (IsCause (row_refusal how command.now con t.old)) }
+    ensures cause { IfErr result (IsCause (row_refusal homes.now how command.now con t.old)) }
     ensures sound { IsSound t.new }
 {
     match command {
@@ -44,6 +51,22 @@ pub fn run_row(t: &mut Tree, how: How, command: &Command, con: ConId) -> Result<
         Command::Swap(arg) => swap(t, con, arg),
         Command::Mark { add, toggle, name } => mark(t, con, name, *add, *toggle),
         Command::Unmark(name) => unmark(t, how.unmark_subject(con), name.as_ref()),
+        _ => Err(Refusal::NoTarget(ErrorText::NotBuilt)),
+    }
+}
+
+/// Does a command to the tree as a whole. The tree is not settled.
+pub fn run_whole(t: &mut Tree, homes: &[(Text, Text)], command: &Command) -> Result<(), Refusal>
+    requires { IsSound t.old }
+    ensures tree { OnOk result (t.new ≡ whole_tree homes.now command.now t.old) }
+    ensures fine { OnOk result (whole_refusal command.now t.old ≡ None) }
+    ensures err { OnErr result (t.new ≡ t.old) }
+    ensures cause { IfErr result (IsCause (whole_refusal command.now t.old)) }
+    ensures sound { IsSound t.new }
+{
+    match command {
+        Command::Workspace(target) => show(t, target, homes),
+        Command::Rename(was, name) => rename(t, was.as_ref(), name),
         _ => Err(Refusal::NoTarget(ErrorText::NotBuilt)),
     }
 }

@@ -1,12 +1,13 @@
 //! One command on its subjects, one after another.
-ghost use Rattle.std.specs.Prelude.{◌≡◌, ◌∷◌, [], true, IfOk, OnOk};
+ghost use Rattle.wm_base.specs.declared.errors.Refusal.TheVariants as refusals;
+ghost use Rattle.std.specs.Prelude.{◌≡◌, ◌≢◌, ◌∷◌, [], true, IfOk, OnOk};
 ghost use Rattle.wm_apply.specs.Subjects.{each_error, each_tree, error_of, full_text, one_error, one_tree, or_error, reply_of};
 ghost use Rattle.wm_showing.specs.Subject.{IsSubject};
 ghost use Rattle.wm_tree.specs.Sound.{IsSound};
 
 use crate::applied::CommandReply;
 use crate::rows::{How, run_row};
-use wm_base::{ConId, ErrorText, Limit, NoMemory, Refusal};
+use wm_base::{ConId, ErrorText, Limit, NoMemory, Refusal, Text};
 use wm_grammar::Command;
 use wm_showing::is_subject;
 use wm_tree::Tree;
@@ -26,50 +27,61 @@ fn full_text(limit: Limit) -> ErrorText
     }
 }
 
+/// The text with which a refusal is answered.
+pub fn text_of(refusal: Refusal) -> Result<ErrorText, NoMemory>
+    ensures text { IfOk result (λ text. (text ≡ error_of refusal) × (refusal ≢ refusals.NoMemory)) }
+{
+    match refusal {
+        Refusal::NoTarget(text) => Ok(text),
+        Refusal::Full { limit } => Ok(full_text(limit)),
+        Refusal::NameTaken => Ok(ErrorText::NameTaken),
+        Refusal::NoMemory => Err(NoMemory),
+    }
+}
+
 /// Does a command to one subject, and settles the tree. Gives the error of a subject that refuses; one that is gone is
 /// passed over.
 fn run_one(
     t: &mut Tree,
+    homes: &[(Text, Text)],
     how: How,
     command: &Command,
     con: ConId,
 ) -> Result<Option<ErrorText>, NoMemory>
     requires { IsSound t.old }
-    ensures tree { OnOk result (t.new ≡ one_tree how command.now con t.old) }
-    ensures error { IfOk result (λ e. e ≡ one_error how command.now con t.old) }
+    ensures tree { OnOk result (t.new ≡ one_tree homes.now how command.now con t.old) }
+    ensures error { IfOk result (λ e. e ≡ one_error homes.now how command.now con t.old) }
     ensures sound { IsSound t.new }
 {
     if !is_subject(t, con) {
         return Ok(None);
     }
-    match run_row(t, how, command, con) {
+    match run_row(t, homes, how, command, con) {
         Ok(()) => {
             t.settle();
             Ok(None)
         }
-        Err(Refusal::NoTarget(text)) => Ok(Some(text)),
-        Err(Refusal::Full { limit }) => Ok(Some(full_text(limit))),
-        Err(Refusal::NameTaken) => Ok(Some(ErrorText::NameTaken)),
-        Err(Refusal::NoMemory) => Err(NoMemory),
+        Err(refusal) => Ok(Some(text_of(refusal)?)),
     }
 }
 
 /// Does a command to each of the subjects that is still there. Gives the first error.
 pub fn run_each(
     t: &mut Tree,
+    homes: &[(Text, Text)],
     how: How,
     command: &Command,
     cons: &[ConId],
 ) -> Result<CommandReply, NoMemory>
     requires { IsSound t.old }
-    ensures tree { OnOk result (t.new ≡ each_tree how command.now cons.now t.old) }
-    ensures reply { IfOk result (λ r. r ≡ reply_of (each_error how command.now cons.now t.old)) }
+    ensures tree { OnOk result (t.new ≡ each_tree homes.now how command.now cons.now t.old) }
+    ensures reply { IfOk result (λ r. r ≡ reply_of (each_error homes.now how command.now cons.now t.old)) }
     ensures sound { IsSound t.new }
 {
     let mut first = None;
     let mut rest = cons;
     while let [con, after @ ..] = rest {
-        first = first.or(run_one(t, how, command, *con)?);
+        first = first.or(run_one(t, homes, how, command, *con)?);
         rest = after;
     }
     Ok(match first {
