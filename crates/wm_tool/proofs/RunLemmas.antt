@@ -5,7 +5,7 @@ use Rattle.std.proofs.lemmas.List.{append-nil, drop_all, take_all, take-append-d
 use Rattle.wm_frames.specs.declared.message.Message.{Message}
 use Rattle.wm_base.specs.declared.plan.Border.TheVariants.{Bare}
 use Rattle.wm_layouts.specs.Plan.{IsStandard, default_outputs}
-use Rattle.wm_tree.specs.TreeValue.{opening}
+use Rattle.wm_tree.specs.TreeValue.{TreeValue, opening}
 use Rattle.wm_core.specs.DeskValue.{DeskValue, Stands}
 use Rattle.wm_criteria.specs.Building.{Tells}
 use Rattle.wm_core.specs.History.{History, opening_of}
@@ -243,6 +243,9 @@ ok_weaker (Err e) p weaker = tt
 -- ---- lines
 
 line_longer : (l : Line) (rs : List Refused) (h : History) → length (after l rs h) ≡ length h + length (line_step l)
+line_longer (line.Border b) rs h = omega arith
+line_longer (line.Inner n) rs h = omega arith
+line_longer (line.Outer n) rs h = omega arith
 line_longer (line.Map props buffer) rs h = omega arith
 line_longer (line.Close con) rs h = omega arith
 line_longer (line.Run text) rs h = omega arith
@@ -250,52 +253,62 @@ line_longer line.Paint rs h = omega arith
 line_longer line.Marks rs h = omega arith
 
 line_same : (l : Line) (rs more : List Refused) (h : History) → IsRising (length (after l rs h)) more → deed_of (rs ++ more) h l ≡ deed_of rs h l
+line_same (line.Border b) rs more h rising = refl
+line_same (line.Inner n) rs more h rising = refl
+line_same (line.Outer n) rs more h rising = refl
 line_same (line.Map props buffer) rs more h rising = refl
 line_same (line.Close con) rs more h rising = refl
 line_same (line.Run text) rs more h rising = ap (λ e. Takes e) (run_same rs more h text rising)
 line_same line.Paint rs more h rising = refl
 line_same line.Marks rs more h rising = refl
 
+-- what is said of what is written from an opening tree, of the same tree
+pub from_start : (P : List ℕ → Type 0) (a b : TreeValue) (lines : List Line) (refused : List Refused) → a ≡ b → P (out_from a lines refused []) → P (out_from b lines refused [])
+from_start P a b lines refused same p = subst (λ start. P (out_from start lines refused [])) same p
+
 pub none_left : (rest : List Line) → length rest < 1 → rest ≡ []
 none_left [] few = refl
 none_left (l ∷ rest) few = absurd (omega (arith, few))
 
 pub one_step : (l : Line) → length (line_step l) ≤ 1
+one_step (line.Border b) = omega arith
+one_step (line.Inner n) = omega arith
+one_step (line.Outer n) = omega arith
 one_step (line.Map props buffer) = omega arith
 one_step (line.Close con) = omega arith
 one_step (line.Run text) = omega arith
 one_step line.Paint = omega arith
 one_step line.Marks = omega arith
 
-rest_is : (g d : Line) (rest : List Line) → 1 ≤ length rest → g ≡ get_or rest 0 d → rest ≡ g ∷ take (length rest - 1) (drop 1 rest)
+pub rest_is : (g d : Line) (rest : List Line) → 1 ≤ length rest → g ≡ get_or rest 0 d → rest ≡ g ∷ take (length rest - 1) (drop 1 rest)
 rest_is g d [] some is = absurd (omega arith)
 rest_is g d (l ∷ rest) some is = ap (λ x. x ∷ rest) (sym is) ∙ ap (λ xs. g ∷ xs) (sym (take_all (suc (length rest) - 1) rest (omega arith)))
 
-module _ (old now : Option (List ℕ)) (desk : DeskValue) (before after_refused : List Refused) (piece : List ℕ) (whole : List Refused → List ℕ) (texts : List (Option (List ℕ)))
+module _ (start : TreeValue) (old now : Option (List ℕ)) (desk : DeskValue) (before after_refused : List Refused) (piece : List ℕ) (whole : List Refused → List ℕ) (texts : List (Option (List ℕ)))
     (count c1 c2 : ℕ) (told_first t1 t2 : Option (List (List ℕ))) (g d : Line) (rest : List Line) (some : 1 ≤ length rest) (is : g ≡ get_or rest 0 d)
-    (p : Plays old now desk before piece (out_from rest) whole texts (line_texts rest) count c1 told_first t1)
+    (p : Plays old now desk before piece (out_from start rest) whole texts (line_texts rest) count c1 told_first t1)
     (grown : Grows desk.steps (line_step g) before after_refused) (backs : Backs desk.steps (line_step g) before after_refused c1 c2 t1 t2)
   where
     abbrev pub others : List Line
     others = take (length rest - 1) (drop 1 rest)
 
-    first_line : Plays old now desk before piece (out_from (g ∷ others)) whole texts (line_step g ++ line_texts others) count c1 told_first t1
-    first_line = subst (λ ls. Plays old now desk before piece (out_from ls) whole texts (line_texts ls) count c1 told_first t1) (rest_is g d rest some is) p
+    first_line : Plays old now desk before piece (out_from start (g ∷ others)) whole texts (line_step g ++ line_texts others) count c1 told_first t1
+    first_line = subst (λ ls. Plays old now desk before piece (out_from start ls) whole texts (line_texts ls) count c1 told_first t1) (rest_is g d rest some is) p
 
     pub stops_line : Stops old now whole after_refused texts count c2 told_first t2
     stops_line =
-        stops_step old now desk before after_refused piece (after g) (told start g) (out_from (g ∷ others)) (out_from others) whole texts (line_step g) (line_texts others) count c1 c2 told_first t1 t2
+        stops_step old now desk before after_refused piece (after g) (told start g) (out_from start (g ∷ others)) (out_from start others) whole texts (line_step g) (line_texts others) count c1 c2 told_first t1 t2
         (line_longer g) first_line grown backs
 
-    pub plays_line : (next : DeskValue) (text : List ℕ) → IsStandard desk.plan
+    pub plays_line : (next : DeskValue) (text : List ℕ) → start ≡ opening_of desk.plan
         → (refusal_at desk.steps before ≡ None → Leads desk next (after g after_refused) (told (opening_of desk.plan) g after_refused) piece text)
-        → next.steps ≡ desk.steps + length (line_step g) → Plays old now next after_refused text (out_from others) whole texts (line_texts others) count c2 told_first t2
+        → next.steps ≡ desk.steps + length (line_step g) → Plays old now next after_refused text (out_from start others) whole texts (line_texts others) count c2 told_first t2
     plays_line next text plan leads moved =
-        plays_step old now desk before after_refused piece (after g) (told start g) (out_from (g ∷ others)) (out_from others) whole texts (line_step g) (line_texts others) count c1 c2 told_first t1 t2
+        plays_step old now desk before after_refused piece (after g) (told start g) (out_from start (g ∷ others)) (out_from start others) whole texts (line_step g) (line_texts others) count c1 c2 told_first t1 t2
         (line_longer g) first_line grown backs
         next text (λ rs h. refl)
         (λ rs more h rising. let same = line_same g rs more h rising in (ap (λ d. after_deed d h) same, ap (deed_text start h) same))
-        (subst (λ tree. refusal_at desk.steps before ≡ None → Leads desk next (after g after_refused) (told tree g after_refused) piece text) (sym (opens desk plan)) leads)
+        (subst (λ tree. refusal_at desk.steps before ≡ None → Leads desk next (after g after_refused) (told tree g after_refused) piece text) (sym plan) leads)
         moved
 
 -- ---- messages

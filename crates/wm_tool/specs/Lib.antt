@@ -2,6 +2,7 @@ pub mod Ending
 pub mod Fields
 pub mod Ipc
 pub mod Output
+pub mod Planning
 pub mod Properties
 pub mod Refusals
 pub mod Running

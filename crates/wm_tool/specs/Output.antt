@@ -1,6 +1,7 @@
 -- What the tool writes for a script.
 use Rattle.std.specs.Prelude.{ℕ, List, [], ◌∷◌, ◌++◌, length, Option, None, Some, Result, Ok, Err, codes}
 use Rattle.std.specs.Fmt.{decimal}
+use Rattle.wm_base.specs.declared.plan.Border.{Border}
 use Rattle.wm_base.specs.declared.plan.Border.TheVariants.{Bare}
 use Rattle.wm_base.specs.ErrorText.{word_of}
 use Rattle.wm_tree.specs.TreeValue.{TreeValue, opening}
@@ -37,6 +38,42 @@ answer_text (answers.Full limit) = codes "full " ++ (word_of limit ++ new_line)
 abbrev pub start : TreeValue
 start = opening default_outputs Bare 0 0
 
+-- ---- the plan of a script
+
+-- the default border and gaps
+pub record Setting : Type 0 where
+  pub border : Border
+  pub inner : ℕ
+  pub outer : ℕ
+
+-- no borders and no gaps
+abbrev pub plain : Setting
+plain = record { border = Bare; inner = 0; outer = 0 }
+
+-- the setting after a line; only those of the plan change it
+abbrev pub set_by : Line → Setting → Setting
+set_by (line.Border b) s = record s { border = b }
+set_by (line.Inner n) s = record s { inner = n }
+set_by (line.Outer n) s = record s { outer = n }
+set_by (line.Map props buffer) s = s
+set_by (line.Close con) s = s
+set_by (line.Run text) s = s
+set_by line.Paint s = s
+set_by line.Marks s = s
+
+abbrev pub set_by_all : List Line → Setting → Setting
+set_by_all [] s = s
+set_by_all (l ∷ lines) s = set_by_all lines (set_by l s)
+
+abbrev pub opening_set : Setting → TreeValue
+opening_set s = opening default_outputs s.border s.inner s.outer
+
+-- the opening tree of a script
+abbrev pub start_of : List Line → TreeValue
+start_of lines = opening_set (set_by_all lines plain)
+
+-- ---- what lines do
+
 -- a step of caller 0
 abbrev pub entry_of : Act → Entry
 entry_of act = record { who = 0; act = act }
@@ -49,14 +86,18 @@ abbrev pub after_entry : Option Entry → History → History
 after_entry None history = history
 after_entry (Some entry) history = entry ∷ history
 
--- what a line does: it takes a step, paints the frame, or looks at the tree
+-- what a line does: nothing after the opening, or it takes a step, paints the frame, or looks at the tree
 pub data Deed : Type 0 where
+  Rests : Deed
   Takes : Entry → Deed
   Paints : Deed
   Looks : Query → Deed
 
 -- what a line does after a history
 abbrev pub deed_of : List Refused → History → Line → Deed
+deed_of refused history (line.Border b) = Rests
+deed_of refused history (line.Inner n) = Rests
+deed_of refused history (line.Outer n) = Rests
 deed_of refused history (line.Map props buffer) = Takes (entry_of (Map props buffer))
 deed_of refused history (line.Close con) = Takes (entry_of (Close con))
 deed_of refused history (line.Run text) = Takes (run_entry refused history text)
@@ -64,6 +105,7 @@ deed_of refused history line.Paint = Paints
 deed_of refused history line.Marks = Looks query.Marks
 
 abbrev pub after_deed : Deed → History → History
+after_deed Rests history = history
 after_deed (Takes entry) history = entry ∷ history
 after_deed Paints history = history
 after_deed (Looks q) history = history
@@ -74,6 +116,7 @@ view_text (view.Marks marks) = texts_text marks ++ new_line
 
 -- the answer of a step, the frame, or what caller 0 sees
 abbrev pub deed_text : TreeValue → History → Deed → List ℕ
+deed_text start history Rests = []
 deed_text start history (Takes entry) = answer_text (answer start history entry)
 deed_text start history Paints = frame_text (frame start history)
 deed_text start history (Looks q) = view_text (look (tree start history) 0 q)
@@ -86,13 +129,16 @@ after l refused history = after_deed (deed_of refused history l) history
 abbrev pub told : TreeValue → Line → List Refused → History → List ℕ
 told start l refused history = deed_text start history (deed_of refused history l)
 
--- what is written for the lines after a history, given which patterns were refused
-abbrev pub out_from : List Line → List Refused → History → List ℕ
-out_from [] refused history = []
-out_from (l ∷ lines) refused history = told start l refused history ++ out_from lines refused (after l refused history)
+-- what is written for the lines after a history from an opening tree, given which patterns were refused
+abbrev pub out_from : TreeValue → List Line → List Refused → History → List ℕ
+out_from start [] refused history = []
+out_from start (l ∷ lines) refused history = told start l refused history ++ out_from start lines refused (after l refused history)
 
 -- the steps of lines, each with the text that it runs, where it runs one; a line has one step or none
 abbrev pub line_step : Line → List (Option (List ℕ))
+line_step (line.Border b) = []
+line_step (line.Inner n) = []
+line_step (line.Outer n) = []
 line_step (line.Map props buffer) = None ∷ []
 line_step (line.Close con) = None ∷ []
 line_step (line.Run text) = Some text ∷ []
@@ -109,4 +155,4 @@ lines_in (Err n) = []
 
 -- what is written for the bytes of a script; nothing where a line is outside the grammar
 abbrev pub out : List ℕ → List Refused → List ℕ
-out bytes refused = out_from (lines_in (script bytes)) refused []
+out bytes refused = out_from (start_of (lines_in (script bytes))) (lines_in (script bytes)) refused []

@@ -6,6 +6,7 @@ mod fields;
 mod ipc;
 mod judging;
 mod laws;
+mod planning;
 mod properties;
 mod quoted;
 mod replay;

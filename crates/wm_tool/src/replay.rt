@@ -7,10 +7,9 @@ ghost use Rattle.wm_paint.specs.FrameText.{frame_text};
 ghost use Rattle.wm_core.specs.History.{answer, tree, History, opening_of};
 ghost use Rattle.wm_core.specs.Sizes.{IsFitStep};
 ghost use Rattle.wm_defs.specs.Counts.{Rose};
-ghost use Rattle.wm_layouts.specs.Plan.{IsStandard};
 ghost use Rattle.wm_ports.specs.Told.{TakesAll, TakesPart};
 ghost use Rattle.wm_tool.specs.Ending.{HasStopped};
-ghost use Rattle.wm_tool.specs.Output.{after, answer_text, entry_of, line_step, line_texts, out_from, told, view_text};
+ghost use Rattle.wm_tool.specs.Output.{after, answer_text, entry_of, line_step, line_texts, out_from, start_of, told, view_text};
 ghost use Rattle.wm_tool.specs.Refusals.{refusal_at, IsBacked};
 ghost use Rattle.wm_tool.specs.Running.{Backs, Grows, Leads, Plays, Stops, Writes};
 ghost use Rattle.wm_tool.specs.Script.{IsFitLine};
@@ -19,13 +18,13 @@ ghost use Rattle.wm_tool.specs.declared.replay.Stop.TheVariants as stops;
 
 use crate::answers::push_answer;
 use crate::judging::run_text;
+use crate::planning::plan_of;
 use crate::script::Line;
 use std::alloc::{AllocError, Global};
 use wm_base::NoMemory;
 use wm_core::{Desk, Query, Step, View};
 use wm_criteria::Build;
 use wm_json::texts_json;
-use wm_layouts::Plan;
 use wm_paint::frame_text;
 use wm_ports::{Failed, Sink, write_all};
 use wm_tree::copy_props;
@@ -64,7 +63,7 @@ impl From<AllocError> for Stop {
     }
 }
 
-/// Runs the lines on the desk of the standard plan, and writes what they tell. Patterns that are refused are listed.
+/// Runs the lines on the desk of their plan, and writes what they tell. Patterns that are refused are listed.
 pub fn replay<B: Build, W: Sink>(
     alloc: Global,
     lines: &[Line],
@@ -75,13 +74,14 @@ pub fn replay<B: Build, W: Sink>(
     requires few { length lines.now ≤ 16777216 }
     requires fit { All IsFitLine lines.now }
     requires none { refused.old.items ≡ [] }
-    ensures ok { OnOk result (TakesAll (W.taken sink.old) (W.taken sink.new) (out_from lines.now refused.new.items [])) }
-    ensures part { OnErr result (TakesPart (W.taken sink.old) (W.taken sink.new) (out_from lines.now refused.new.items [])) }
+    ensures ok { OnOk result (TakesAll (W.taken sink.old) (W.taken sink.new) (out_from (start_of lines.now) lines.now refused.new.items [])) }
+    ensures part { OnErr result (TakesPart (W.taken sink.old) (W.taken sink.new) (out_from (start_of lines.now) lines.now refused.new.items [])) }
     ensures backed { IsBacked (line_texts lines.now) refused.new.items
         (B.refusals build.old) (B.refusals build.new) (B.refused build.old) (B.refused build.new) }
     ensures err { IfErr result (HasStopped (W.faults sink.old) (W.faults sink.new)) }
 {
-    let mut desk = Desk::start(alloc, Plan::standard(alloc)?)?;
+    let plan = plan_of(alloc, lines)?;
+    let mut desk = Desk::start(alloc, plan)?;
     let mut piece = Vec::new(alloc);
     run_lines(alloc, lines, &mut desk, build, refused, &mut piece, sink)?;
     write_all(sink, &piece)?;
@@ -100,14 +100,13 @@ fn run_lines<B: Build, W: Sink>(
 ) -> Result<(), Stop>
     requires few { desk.old.steps + length lines.now ≤ 16777216 }
     requires fit { All IsFitLine lines.now }
-    requires plan { IsStandard desk.old.plan }
     ensures ok { (old : Option (List ℕ)) → (whole : List Refused → List ℕ) → (texts : List (Option (List ℕ))) → (count : ℕ) → (told : Option (List (List ℕ))) →
-        Plays old (W.taken sink.old) desk.old refused.old.items piece.old.items (out_from lines.now) whole texts (line_texts lines.now)
+        Plays old (W.taken sink.old) desk.old refused.old.items piece.old.items (out_from (opening_of desk.old.plan) lines.now) whole texts (line_texts lines.now)
         count (B.refusals build.old) told (B.refused build.old) →
-        OnOk result (Plays old (W.taken sink.new) desk.new refused.new.items piece.new.items (out_from []) whole texts []
+        OnOk result (Plays old (W.taken sink.new) desk.new refused.new.items piece.new.items (out_from (opening_of desk.old.plan) []) whole texts []
         count (B.refusals build.new) told (B.refused build.new)) }
     ensures part { (old : Option (List ℕ)) → (whole : List Refused → List ℕ) → (texts : List (Option (List ℕ))) → (count : ℕ) → (told : Option (List (List ℕ))) →
-        Plays old (W.taken sink.old) desk.old refused.old.items piece.old.items (out_from lines.now) whole texts (line_texts lines.now)
+        Plays old (W.taken sink.old) desk.old refused.old.items piece.old.items (out_from (opening_of desk.old.plan) lines.now) whole texts (line_texts lines.now)
         count (B.refusals build.old) told (B.refused build.old) →
         OnErr result (Stops old (W.taken sink.new) whole refused.new.items texts count (B.refusals build.new) told (B.refused build.new)) }
     ensures err { IfErr result (HasStopped (W.faults sink.old) (W.faults sink.new)) }
@@ -156,6 +155,7 @@ fn run_line<B: Build>(
         (B.refusals build.old) (B.refusals build.new) (B.refused build.old) (B.refused build.new) }
 {
     match line {
+        Line::Border(_) | Line::Inner(_) | Line::Outer(_) => Ok(()),
         Line::Map { props, buffer } => {
             let step = Step::Map {
                 props: copy_props(props)?,

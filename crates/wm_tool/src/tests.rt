@@ -69,6 +69,20 @@ fn scripts_and_what_they_tell(rt: HostRuntime) -> Result<(), Fail> {
         ("paint\n\npaint\n", 3, ""),
         ("map 00000g 1x1\n", 3, ""),
         ("map 000000 16385x1\n", 3, ""),
+        (
+            "gaps outer 5\ngaps inner 10\nmap 000001 9x9\nmap 000002 9x9\npaint\n",
+            0,
+            "ok 4\nok 5\nframe 2 2\nback 3 0,0 1000x800\nwindow 4 15,15 480x770 000001 9x9\nwindow 5 505,15 480x770 000002 9x9\nend\n",
+        ),
+        (
+            "border none\nborder pixel 3\nmap 000001 9x9\npaint\n",
+            0,
+            "ok 4\nframe 1 1\nback 3 0,0 1000x800\nborder 4 0,0 1000x800 4c7899\nwindow 4 3,3 994x794 000001 9x9\nend\n",
+        ),
+        ("border normal 64\n", 0, ""),
+        ("border normal 65\n", 3, ""),
+        ("gaps inner 1001\n", 3, ""),
+        ("paint\ngaps inner 1\n", 3, ""),
     ];
     for (script, number, text) in cases {
         let mut bytes = Vec::new(rt.alloc());

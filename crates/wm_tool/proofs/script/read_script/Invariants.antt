@@ -9,7 +9,7 @@ invariant-loop-rest l = record {
   numbered : l.number ≡ vec_len l.lines + 1;
   few : vec_len l.lines + length l.rest ≤ length l.bytes;
   fit : All IsFitLine l.lines.items;
-  read : with_lines l.lines.items (script_from l.number (lines_of l.rest)) ≡ script l.bytes;
+  read : with_lines l.lines.items (script_from l.begun l.number (lines_of l.rest)) ≡ script l.bytes;
 }
 
 abbrev pub decreases-loop-rest : goal.decreases-loop-rest
