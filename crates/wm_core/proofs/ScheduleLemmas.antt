@@ -4,7 +4,7 @@ use Rattle.std.specs.Option.{option_map}
 use Rattle.std.proofs.lemmas.Bool.{le-leb, lt-leb, cases_lt}
 use Rattle.wm_tree.specs.TreeValue.{TreeValue}
 use Rattle.wm_arrange.specs.Same.{same_parts}
-use Rattle.wm_core.specs.History.{Entry}
+use Rattle.wm_core.specs.History.{Entry, Start}
 use Rattle.wm_core.specs.Schedule.{arrangement, or_here, first_when, Turn, turn_from, differs, next_turn, turn, greatest, done}
 use Rattle.wm_arrange.proofs.SameLemmas.{parts-decide}
 
@@ -50,7 +50,7 @@ mapped_none : {A B : Type 0} (f : A → B) (o : Option A) → option_map f o ≡
 mapped_none f None h = refl
 mapped_none f (Some x) h = cc
 
-module _ (start : TreeValue) (history : List Entry) (entry : Entry) where
+module _ (start : Start) (history : List Entry) (entry : Entry) where
   stays_step : (o p : Option Turn) (t : Turn) → ((u : Turn) → o ≡ Some u → p ≡ Some u) → next_turn start history o ≡ Some t → next_turn start (entry ∷ history) p ≡ Some t
   stays_step None p t same h = cc
   stays_step (Some u) p t same h =
@@ -89,7 +89,7 @@ module _ (start : TreeValue) (history : List Entry) (entry : Entry) where
 -- ---- the last number
 
 -- behind one that has not begun none has
-beyond : (start : TreeValue) (history : List Entry) (n j : ℕ) → turn start (suc n) history ≡ None → n < j → turn start j history ≡ None
+beyond : (start : Start) (history : List Entry) (n j : ℕ) → turn start (suc n) history ≡ None → n < j → turn start j history ≡ None
 beyond start history n zero h above = absurd (omega arith)
 beyond start history n (suc j) h above =
     elim (cases_lt n j) [
@@ -116,6 +116,6 @@ greatest_is test n (suc m) within holds above =
     at_last test n m (test (suc m)) refl within holds (above (suc m)) (λ less. greatest_is test n m less holds above)
 
 -- the last transaction that has begun is the last one that has ended
-pub done_is : (start : TreeValue) (history : List Entry) (n : ℕ) (t : Turn) → turn start n history ≡ Some t → turn start (suc n) history ≡ None → n ≤ length history → done start history ≡ n
+pub done_is : (start : Start) (history : List Entry) (n : ℕ) (t : Turn) → turn start n history ≡ Some t → turn start (suc n) history ≡ None → n ≤ length history → done start history ≡ n
 done_is start history n t current last within =
     greatest_is (λ i. is_some (turn start i history)) n (length history) within (inr (ap is_some current)) (λ j above. ap is_some (beyond start history n j last above))

@@ -41,11 +41,11 @@ abbrev turn_at : ℕ → List Placed → Turn
 turn_at prefix parts = record { prefix = prefix; parts = parts }
 
 module _ (d : DeskValue) (history : List Entry) (entry : Entry) (t : TreeValue) (buffers : List (ℕ × Buffer)) (s : Stands d history) (early : d.prefix ≤ d.steps)
-    (after : t ≡ tree_after d.tree entry.who entry.act)
+    (after : t ≡ tree_after d.plan.env.homes d.tree entry.who entry.act)
     (given : (v : ConId) → IsNotGone t v → buffer_in buffers v ≡ buffer_after d.tree entry.act v (shown (opening_of d.plan) history v))
   where
     next_tree : t ≡ tree (opening_of d.plan) (entry ∷ history)
-    next_tree = after ∙ ap (λ z. tree_after z entry.who entry.act) s.tree_is
+    next_tree = after ∙ ap (λ z. tree_after d.plan.env.homes z entry.who entry.act) s.tree_is
 
     next_parts : arranged t ≡ arrangement (opening_of d.plan) (entry ∷ history)
     next_parts = ap arranged next_tree
@@ -81,7 +81,7 @@ module _ (d : DeskValue) (history : List Entry) (entry : Entry) (t : TreeValue) 
     stands_next = by_same (same_parts (arranged t) d.parts) refl
 
 -- a step that changes neither tree nor buffers is counted
-pub stands_counted : (d : DeskValue) (history : List Entry) (entry : Entry) → Stands d history → d.prefix ≤ d.steps → d.tree ≡ tree_after d.tree entry.who entry.act
+pub stands_counted : (d : DeskValue) (history : List Entry) (entry : Entry) → Stands d history → d.prefix ≤ d.steps → d.tree ≡ tree_after d.plan.env.homes d.tree entry.who entry.act
     → ((v : ConId) (b : Option Buffer) → buffer_after d.tree entry.act v b ≡ b) → Stands (record d { steps = d.steps + 1 }) (entry ∷ history)
 stands_counted d history entry s early same_tree same_buffers =
     let Standing : Bool → Type 0 = λ b. Stands (desk_by b d.tree d.buffers d) (entry ∷ history) in
@@ -89,10 +89,10 @@ stands_counted d history entry s early same_tree same_buffers =
     subst Standing same (stands_next d history entry d.tree d.buffers s early same_tree (λ v h. s.buffers v h ∙ sym (same_buffers v (shown (opening_of d.plan) history v))))
 
 -- a desk at the opening of its plan stands for the history without entries
-pub stands_start : (plan : Plan) (t : TreeValue) (buffers : List (ℕ × Buffer)) (parts : List Placed) → t ≡ opening_of plan → buffers ≡ [] → parts ≡ arranged t
+pub stands_start : (plan : Plan) (t : TreeValue) (buffers : List (ℕ × Buffer)) (parts : List Placed) → t ≡ (opening_of plan).opened → buffers ≡ [] → parts ≡ arranged t
     → Stands (record { plan = plan; steps = 0; tree = t; buffers = buffers; number = 0; prefix = 0; parts = parts }) []
 stands_start plan t buffers parts opened none laid =
-    let start = opening_of plan in
+    let start : TreeValue = (opening_of plan).opened in
     let here : arranged start ≡ parts = ap arranged (sym opened) ∙ sym laid in
     let alike : same_parts (arranged start) (arranged start) ≡ true = (parts-decide (arranged start) (arranged start)).1 refl in
     record {

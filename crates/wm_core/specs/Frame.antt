@@ -13,7 +13,7 @@ use Rattle.wm_paint.specs.declared.frame.Quad.{Quad}
 use Rattle.wm_paint.specs.declared.frame.What.{What}
 use Rattle.wm_paint.specs.declared.frame.What.TheVariants as shows
 use Rattle.wm_core.specs.Act.{Act, Run, Map, Close, Still}
-use Rattle.wm_core.specs.History.{Entry, tree, has_no_pixels, limit_of}
+use Rattle.wm_core.specs.History.{Entry, Start, has_no_pixels, limit_of, tree}
 use Rattle.wm_core.specs.Schedule.{Turn, turn, done}
 
 -- ---- the buffer that a window shows
@@ -30,7 +30,7 @@ buffer_after t (Close c) v before = before
 buffer_after t Still v before = before
 
 -- the last buffer that v was mapped with in the history
-abbrev pub shown : TreeValue → List Entry → ConId → Option Buffer
+abbrev pub shown : Start → List Entry → ConId → Option Buffer
 shown start [] v = None
 shown start (entry ∷ history) v = buffer_after (tree start history) entry.act v (shown start history v)
 
@@ -63,5 +63,5 @@ frame_at number buffers None = record { number = number; prefix = 0; quads = [] 
 frame_at number buffers (Some t) = record { number = number; prefix = t.prefix; quads = quads buffers t.parts }
 
 -- the frame of a history
-abbrev pub frame : TreeValue → List Entry → Frame
+abbrev pub frame : Start → List Entry → Frame
 frame start history = frame_at (done start history) (shown start history) (turn start (done start history) history)

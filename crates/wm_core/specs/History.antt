@@ -35,9 +35,14 @@ History = List Entry
 
 -- ---- the opening
 
--- the opening tree of a plan
-abbrev pub opening_of : Plan → TreeValue
-opening_of plan = opening plan.outputs plan.border plan.inner plan.outer
+-- with what a desk starts: its tree, and for names of workspaces the outputs on which they are made
+pub record Start : Type 0 where
+  pub opened : TreeValue
+  pub homes : List (List ℕ × List ℕ)
+
+-- the opening tree of a plan, and its homes
+abbrev pub opening_of : Plan → Start
+opening_of plan = record { opened = opening plan.outputs plan.border plan.inner plan.outer; homes = plan.env.homes }
 
 -- ---- what a step does to a tree
 
@@ -78,36 +83,36 @@ reply_to applied.Done = reply.Ok
 reply_to (applied.Error text) = reply.Error text
 
 -- the replies to a text with this verdict: one for each command, or one that says why it is not run
-abbrev pub verdict_replies : Verdict → TreeValue → List Reply
-verdict_replies (Ready batch) t = map reply_to (outcome (Ready batch) None t).replies
-verdict_replies (Bad at) t = reply.Parse at ∷ []
-verdict_replies (PatternRefused pattern) t = reply.Pattern pattern ∷ []
+abbrev pub verdict_replies : List (List ℕ × List ℕ) → Verdict → TreeValue → List Reply
+verdict_replies homes (Ready batch) t = map reply_to (outcome homes (Ready batch) None t).replies
+verdict_replies homes (Bad at) t = reply.Parse at ∷ []
+verdict_replies homes (PatternRefused pattern) t = reply.Pattern pattern ∷ []
 
 -- the tree that a text with this verdict leaves
-abbrev pub verdict_tree : Verdict → TreeValue → TreeValue
-verdict_tree verdict t = (outcome verdict None t).tree
+abbrev pub verdict_tree : List (List ℕ × List ℕ) → Verdict → TreeValue → TreeValue
+verdict_tree homes verdict t = (outcome homes verdict None t).tree
 
 -- what the step is answered
-abbrev pub answer_to : TreeValue → ℕ → Act → Answer
-answer_to t who (Run text verdict) = Replies (verdict_replies verdict t)
-answer_to t who (Map props buffer) = if has_no_pixels buffer.size then Empty else map_answer t (limit_of t)
-answer_to t who (Close v) = if is_window t who v then Done else NoView
-answer_to t who Still = Done
+abbrev pub answer_to : List (List ℕ × List ℕ) → TreeValue → ℕ → Act → Answer
+answer_to homes t who (Run text verdict) = Replies (verdict_replies homes verdict t)
+answer_to homes t who (Map props buffer) = if has_no_pixels buffer.size then Empty else map_answer t (limit_of t)
+answer_to homes t who (Close v) = if is_window t who v then Done else NoView
+answer_to homes t who Still = Done
 
 -- the tree that the step leaves; a refused step leaves it as it was
-abbrev pub tree_after : TreeValue → ℕ → Act → TreeValue
-tree_after t who (Run text verdict) = verdict_tree verdict t
-tree_after t who (Map props buffer) = if has_no_pixels buffer.size then t else map_tree t who props buffer.size (limit_of t)
-tree_after t who (Close v) = if is_window t who v then settled (detached v t) else t
-tree_after t who Still = t
+abbrev pub tree_after : List (List ℕ × List ℕ) → TreeValue → ℕ → Act → TreeValue
+tree_after homes t who (Run text verdict) = verdict_tree homes verdict t
+tree_after homes t who (Map props buffer) = if has_no_pixels buffer.size then t else map_tree t who props buffer.size (limit_of t)
+tree_after homes t who (Close v) = if is_window t who v then settled (detached v t) else t
+tree_after homes t who Still = t
 
 -- ---- the tree and the answers of a history
 
--- the tree after a history, from an opening tree
-abbrev pub tree : TreeValue → List Entry → TreeValue
-tree start [] = start
-tree start (entry ∷ history) = tree_after (tree start history) entry.who entry.act
+-- the tree after a history, from an opening
+abbrev pub tree : Start → List Entry → TreeValue
+tree start [] = start.opened
+tree start (entry ∷ history) = tree_after start.homes (tree start history) entry.who entry.act
 
 -- what an entry is answered after a history
-abbrev pub answer : TreeValue → List Entry → Entry → Answer
-answer start history entry = answer_to (tree start history) entry.who entry.act
+abbrev pub answer : Start → List Entry → Entry → Answer
+answer start history entry = answer_to start.homes (tree start history) entry.who entry.act

@@ -85,7 +85,7 @@ impl Desk {
         requires fit { IsFitStep step.now }
         ensures answer { (history : History) → Stands self.old history →
             IfOk result (λ a. a ≡ answer (opening_of self.old.plan) history (record { who = who; act = act_of step.now })) }
-        ensures there { IfOk result (λ a. a ≡ answer_to self.old.tree who (act_of step.now)) }
+        ensures there { IfOk result (λ a. a ≡ answer_to self.old.plan.env.homes self.old.tree who (act_of step.now)) }
         ensures stands { (history : History) → Stands self.old history →
             OnOk result (Stands self.new (record { who = who; act = act_of step.now } ∷ history)) }
         ensures plan { self.new.plan ≡ self.old.plan }
@@ -123,7 +123,7 @@ impl Desk {
     /// Opens a window of the caller, raised, where there is room for it.
     fn map(&mut self, who: u32, props: &Props, buffer: Buffer) -> Result<Answer, NoMemory>
         requires few { self.old.steps < 2 ^ 48 }
-        ensures answer { IfOk result (λ a. a ≡ answer_to self.old.tree who (Map props.now buffer)) }
+        ensures answer { IfOk result (λ a. a ≡ answer_to self.old.plan.env.homes self.old.tree who (Map props.now buffer)) }
         ensures stands { (history : History) → Stands self.old history →
             OnOk result (Stands self.new (record { who = who; act = Map props.now buffer } ∷ history)) }
         ensures plan { self.new.plan ≡ self.old.plan }
@@ -160,7 +160,7 @@ impl Desk {
     /// Closes the caller's window.
     fn close(&mut self, who: u32, con: ConId) -> Result<Answer, NoMemory>
         requires few { self.old.steps < 2 ^ 48 }
-        ensures answer { IfOk result (λ a. a ≡ answer_to self.old.tree who (Close con)) }
+        ensures answer { IfOk result (λ a. a ≡ answer_to self.old.plan.env.homes self.old.tree who (Close con)) }
         ensures stands { (history : History) → Stands self.old history →
             OnOk result (Stands self.new (record { who = who; act = Close con } ∷ history)) }
         ensures plan { self.new.plan ≡ self.old.plan }
@@ -186,7 +186,7 @@ impl Desk {
     fn run(&mut self, who: u32, text: &Prepared) -> Result<Answer, NoMemory>
         requires built { IsTrue (is_built text.now) }
         requires few { self.old.steps < 2 ^ 48 }
-        ensures answer { IfOk result (λ a. a ≡ Replies (verdict_replies text.now.verdict self.old.tree)) }
+        ensures answer { IfOk result (λ a. a ≡ Replies (verdict_replies self.old.plan.env.homes text.now.verdict self.old.tree)) }
         ensures stands { (history : History) → Stands self.old history →
             OnOk result (Stands self.new (record { who = who; act = Run text.now.text text.now.verdict } ∷ history)) }
         ensures plan { self.new.plan ≡ self.old.plan }
@@ -204,9 +204,9 @@ impl Desk {
     fn apply(&mut self, text: &Prepared) -> Result<Answer, NoMemory>
         requires built { IsTrue (is_built text.now) }
         requires few { self.old.steps < 2 ^ 48 }
-        ensures answer { IfOk result (λ a. a ≡ Replies (map reply_to (outcome text.now.verdict None self.old.tree).replies)) }
+        ensures answer { IfOk result (λ a. a ≡ Replies (map reply_to (outcome self.old.plan.env.homes text.now.verdict None self.old.tree).replies)) }
         ensures stands { (history : History) → (entry : Entry) →
-            verdict_tree text.now.verdict self.old.tree ≡ tree_after self.old.tree entry.who entry.act →
+            verdict_tree self.old.plan.env.homes text.now.verdict self.old.tree ≡ tree_after self.old.plan.env.homes self.old.tree entry.who entry.act →
             ((v : ConId) → (b : Option Buffer) → buffer_after self.old.tree entry.act v b ≡ b) →
             Stands self.old history → OnOk result (Stands self.new (entry ∷ history)) }
         ensures plan { self.new.plan ≡ self.old.plan }
@@ -225,7 +225,7 @@ impl Desk {
         requires few { self.old.steps < 2 ^ 48 }
         ensures answer { IfOk result (λ a. a ≡ Replies (reply ∷ [])) }
         ensures stands { (history : History) → (entry : Entry) →
-            self.old.tree ≡ tree_after self.old.tree entry.who entry.act →
+            self.old.tree ≡ tree_after self.old.plan.env.homes self.old.tree entry.who entry.act →
             ((v : ConId) → (b : Option Buffer) → buffer_after self.old.tree entry.act v b ≡ b) →
             Stands self.old history → OnOk result (Stands self.new (entry ∷ history)) }
         ensures plan { self.new.plan ≡ self.old.plan }

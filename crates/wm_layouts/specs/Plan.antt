@@ -51,9 +51,10 @@ default_outputs =
     }
     ∷ []
 
--- the standard plan, so far as a tree opens by it: its outputs, no borders and no gaps
+-- the standard plan, so far as a desk opens by it: its outputs, no borders, no gaps and no homes
 pub record IsStandard (p : Plan) : Type 0 where
   pub outputs : p.outputs ≡ default_outputs
   pub border : p.border ≡ Bare
   pub inner : p.inner ≡ 0
   pub outer : p.outer ≡ 0
+  pub homes : p.env.homes ≡ []

@@ -8,7 +8,7 @@ use Rattle.wm_layouts.specs.Plan.{IsStandard, default_outputs}
 use Rattle.wm_tree.specs.TreeValue.{TreeValue, opening}
 use Rattle.wm_core.specs.DeskValue.{DeskValue, Stands}
 use Rattle.wm_criteria.specs.Building.{Tells}
-use Rattle.wm_core.specs.History.{History, opening_of}
+use Rattle.wm_core.specs.History.{History, Start, opening_of}
 use Rattle.wm_ports.specs.Told.{TakesAll, TakesPart}
 use Rattle.wm_tool.specs.declared.script.Line.{Line}
 use Rattle.wm_tool.specs.declared.script.Line.TheVariants as line
@@ -214,8 +214,11 @@ module _ (old now : Option (List ℕ)) (desk : DeskValue) (before later_refused 
           left = ap (λ n. drop n texts) moved ∙ (drop_more desk.steps (length steps) texts ∙ (ap (drop (length steps)) p.left ∙ drop_front steps ahead));
         }
 
+abbrev opening_with : TreeValue → List (List ℕ × List ℕ) → Start
+opening_with t homes = record { opened = t; homes = homes }
+
 opens : (desk : DeskValue) → IsStandard desk.plan → start ≡ opening_of desk.plan
-opens desk plan = sym (ap (λ outputs. opening outputs desk.plan.border desk.plan.inner desk.plan.outer) plan.outputs ∙ (ap (λ border. opening default_outputs border desk.plan.inner desk.plan.outer) plan.border ∙ ap₂ (λ inner outer. opening default_outputs Bare inner outer) plan.inner plan.outer))
+opens desk plan = sym (ap₂ (λ t h. opening_with t h) (ap (λ outputs. opening outputs desk.plan.border desk.plan.inner desk.plan.outer) plan.outputs ∙ (ap (λ border. opening default_outputs border desk.plan.inner desk.plan.outer) plan.border ∙ ap₂ (λ inner outer. opening default_outputs Bare inner outer) plan.inner plan.outer)) plan.homes)
 
 run_same : (rs more : List Refused) (h : History) (text : List ℕ) → IsRising (suc (length h)) more → run_entry (rs ++ more) h text ≡ run_entry rs h text
 run_same rs more h text rising = rw (verdict_same (length h) rs more text rising) refl
@@ -263,7 +266,7 @@ line_same line.Paint rs more h rising = refl
 line_same line.Marks rs more h rising = refl
 
 -- what is said of what is written from an opening tree, of the same tree
-pub from_start : (P : List ℕ → Type 0) (a b : TreeValue) (lines : List Line) (refused : List Refused) → a ≡ b → P (out_from a lines refused []) → P (out_from b lines refused [])
+pub from_start : (P : List ℕ → Type 0) (a b : Start) (lines : List Line) (refused : List Refused) → a ≡ b → P (out_from a lines refused []) → P (out_from b lines refused [])
 from_start P a b lines refused same p = subst (λ start. P (out_from start lines refused [])) same p
 
 pub none_left : (rest : List Line) → length rest < 1 → rest ≡ []
@@ -284,7 +287,7 @@ pub rest_is : (g d : Line) (rest : List Line) → 1 ≤ length rest → g ≡ ge
 rest_is g d [] some is = absurd (omega arith)
 rest_is g d (l ∷ rest) some is = ap (λ x. x ∷ rest) (sym is) ∙ ap (λ xs. g ∷ xs) (sym (take_all (suc (length rest) - 1) rest (omega arith)))
 
-module _ (start : TreeValue) (old now : Option (List ℕ)) (desk : DeskValue) (before after_refused : List Refused) (piece : List ℕ) (whole : List Refused → List ℕ) (texts : List (Option (List ℕ)))
+module _ (start : Start) (old now : Option (List ℕ)) (desk : DeskValue) (before after_refused : List Refused) (piece : List ℕ) (whole : List Refused → List ℕ) (texts : List (Option (List ℕ)))
     (count c1 c2 : ℕ) (told_first t1 t2 : Option (List (List ℕ))) (g d : Line) (rest : List Line) (some : 1 ≤ length rest) (is : g ≡ get_or rest 0 d)
     (p : Plays old now desk before piece (out_from start rest) whole texts (line_texts rest) count c1 told_first t1)
     (grown : Grows desk.steps (line_step g) before after_refused) (backs : Backs desk.steps (line_step g) before after_refused c1 c2 t1 t2)

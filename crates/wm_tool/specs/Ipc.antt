@@ -4,7 +4,7 @@ use Rattle.std.specs.Str.{is_utf8}
 use Rattle.std.specs.Str.Lossy.{utf8_valid_len}
 use Rattle.wm_core.specs.declared.step.Answer.{Answer}
 use Rattle.wm_core.specs.declared.step.Answer.TheVariants.{Done, Mapped, Replies, NoView, Empty, Full}
-use Rattle.wm_core.specs.History.{Entry, History, answer}
+use Rattle.wm_core.specs.History.{Entry, History, Start, answer}
 use Rattle.wm_frames.specs.declared.message.Message.{Message}
 use Rattle.wm_frames.specs.Frame.{frame}
 use Rattle.wm_frames.specs.Reading.{messages}
@@ -75,7 +75,7 @@ plain_payload refusal = Some (success_text false)
 plain_payload unknown = None
 
 -- the payload of the reply to a request that takes this step after a history
-abbrev pub payload : TreeValue → History → Request → Option Entry → Option (List ℕ)
+abbrev pub payload : Start → History → Request → Option Entry → Option (List ℕ)
 payload tree history request None = plain_payload request
 payload tree history request (Some entry) = Some (replies_text (replies_of (answer tree history entry)))
 
@@ -89,7 +89,7 @@ abbrev pub after_message : Message → List Refused → History → History
 after_message m refused history = after_entry (message_entry refused history m) history
 
 -- what a message tells after a history
-abbrev pub replied : TreeValue → Message → List Refused → History → List ℕ
+abbrev pub replied : Start → Message → List Refused → History → List ℕ
 replied tree m refused history = framed m.kind (payload tree history (request_of m) (message_entry refused history m))
 
 -- what is written for the messages after a history, given which patterns were refused

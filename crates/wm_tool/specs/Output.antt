@@ -16,7 +16,7 @@ use Rattle.wm_core.specs.declared.look.Query.TheVariants as query
 use Rattle.wm_core.specs.declared.look.View.{View}
 use Rattle.wm_core.specs.declared.look.View.TheVariants as view
 use Rattle.wm_core.specs.Act.{Act, Run, Map, Close}
-use Rattle.wm_core.specs.History.{Entry, History, answer, tree}
+use Rattle.wm_core.specs.History.{Entry, History, Start, answer, tree}
 use Rattle.wm_layouts.specs.Plan.{default_outputs}
 use Rattle.wm_paint.specs.FrameText.{frame_text, new_line}
 use Rattle.wm_tool.specs.declared.script.Line.{Line}
@@ -34,9 +34,9 @@ answer_text answers.NoView = codes "no-view" ++ new_line
 answer_text answers.Empty = codes "empty" ++ new_line
 answer_text (answers.Full limit) = codes "full " ++ (word_of limit ++ new_line)
 
--- the opening tree of the standard plan
-abbrev pub start : TreeValue
-start = opening default_outputs Bare 0 0
+-- the opening of the standard plan, without homes
+abbrev pub start : Start
+start = record { opened = opening default_outputs Bare 0 0; homes = [] }
 
 -- ---- the plan of a script
 
@@ -65,11 +65,11 @@ abbrev pub set_by_all : List Line → Setting → Setting
 set_by_all [] s = s
 set_by_all (l ∷ lines) s = set_by_all lines (set_by l s)
 
-abbrev pub opening_set : Setting → TreeValue
-opening_set s = opening default_outputs s.border s.inner s.outer
+abbrev pub opening_set : Setting → Start
+opening_set s = record { opened = opening default_outputs s.border s.inner s.outer; homes = [] }
 
--- the opening tree of a script
-abbrev pub start_of : List Line → TreeValue
+-- the opening of a script
+abbrev pub start_of : List Line → Start
 start_of lines = opening_set (set_by_all lines plain)
 
 -- ---- what lines do
@@ -115,7 +115,7 @@ abbrev pub view_text : View → List ℕ
 view_text (view.Marks marks) = texts_text marks ++ new_line
 
 -- the answer of a step, the frame, or what caller 0 sees
-abbrev pub deed_text : TreeValue → History → Deed → List ℕ
+abbrev pub deed_text : Start → History → Deed → List ℕ
 deed_text start history Rests = []
 deed_text start history (Takes entry) = answer_text (answer start history entry)
 deed_text start history Paints = frame_text (frame start history)
@@ -126,11 +126,11 @@ abbrev pub after : Line → List Refused → History → History
 after l refused history = after_deed (deed_of refused history l) history
 
 -- what a line tells after a history
-abbrev pub told : TreeValue → Line → List Refused → History → List ℕ
+abbrev pub told : Start → Line → List Refused → History → List ℕ
 told start l refused history = deed_text start history (deed_of refused history l)
 
 -- what is written for the lines after a history from an opening tree, given which patterns were refused
-abbrev pub out_from : TreeValue → List Line → List Refused → History → List ℕ
+abbrev pub out_from : Start → List Line → List Refused → History → List ℕ
 out_from start [] refused history = []
 out_from start (l ∷ lines) refused history = told start l refused history ++ out_from start lines refused (after l refused history)
 

@@ -33,6 +33,7 @@ fn set(plan: &mut Plan, line: &Line)
     ensures sound { IsSound plan.new }
     ensures setting { setting_of plan.new ≡ set_by line.now (setting_of plan.old) }
     ensures outputs { plan.new.outputs ≡ plan.old.outputs }
+    ensures homes { plan.new.env.homes ≡ plan.old.env.homes }
 {
     match line {
         Line::Border(border) => plan.border = *border,

@@ -1,4 +1,4 @@
-use Rattle.std.proofs.Common.{◌≡◌, All, length}
+use Rattle.std.proofs.Common.{◌≡◌, [], All, length}
 use Rattle.wm_layouts.specs.Plan.{IsSound, default_outputs}
 use Rattle.wm_tool.specs.Output.{plain, set_by_all}
 use Rattle.wm_tool.specs.Planning.{setting_of}
@@ -10,6 +10,7 @@ abbrev pub invariant-loop-rest : goal.invariant-loop-rest
 invariant-loop-rest l = record {
   sound : IsSound l.plan;
   outputs : l.plan.outputs ≡ default_outputs;
+  homes : l.plan.env.homes ≡ [];
   fit : All IsFitLine l.rest;
   set : set_by_all l.rest (setting_of l.plan) ≡ set_by_all l.lines plain;
 }
