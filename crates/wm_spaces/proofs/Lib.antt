@@ -1,6 +1,7 @@
 pub mod ComingLemmas
 pub mod OrderLemmas
 pub mod OutLemmas
-pub mod RiseLemmas
+pub mod SendLemmas
 pub mod ShowLemmas
+pub mod SpaceOfLemmas
 pub mod StandLemmas

@@ -8,6 +8,7 @@ use Rattle.wm_grammar.specs.declared.arguments.Target.{Target}
 use Rattle.wm_grammar.specs.declared.arguments.Target.TheVariants as targets
 use Rattle.wm_showing.specs.declared.keys.Key.{Key}
 use Rattle.wm_showing.specs.Keys.{comes_before, with_key}
+use Rattle.wm_showing.specs.Showing.{shown_on}
 use Rattle.wm_showing.specs.Subject.{is_space}
 use Rattle.wm_spaces.specs.declared.order.Pick.{Pick}
 use Rattle.wm_spaces.specs.declared.order.Pick.TheVariants as picking
@@ -172,6 +173,28 @@ shown_row c (con part kids floats rest) s h = by_test (same part.id c) h (shown_
 shown_stands : (t : TreeValue) → IsSound t → stands_on (shown t) (first_kids t.nodes) ≡ true
 shown_stands t s =
     of_output (shown t) (current t) (first_kids t.nodes) (shown_row (current t) (first_kids t.nodes) (outputs_of t.nodes s.shaped) (current_there t.nodes s.shaped s.rooted))
+
+-- the workspace that an output shows stands on it
+pub shown_stands_on : (o w : ConId) (t : TreeValue) → IsSound t → in_row o (first_kids t.nodes) ≡ true → shown_on o t ≡ Some w → stands_on w (first_kids t.nodes) ≡ true
+shown_stands_on o w t s h e = by_nodes t.nodes s.shaped (s.once o) h e
+  where
+    by_kind : (part : Part) (kids : Forest) (kind : NodeKind) → IsNode outputs true 32 part.id kind part.marks kids → shown_of kind ≡ Some w → in_row w kids ≡ true
+    by_kind part kids (Root d) n e = absurd n
+    by_kind part kids (Output o) n e = let same_id : o.shown ≡ w = cc in rw (← same_id) n.1
+    by_kind part kids (Space v) n e = absurd n
+    by_kind part kids (Con d) n e = absurd n
+
+    on_row : (row : Forest) → in_row o row ≡ true → tally o row ≤ 1 → IsSoundRow outputs true 32 row → kind_by shown_of (first_part (only o row)) ≡ Some w → stands_on w row ≡ true
+    on_row row h once =
+        by_row o (λ row part kids floats rest. rest) end (λ old new found. IsSoundRow outputs true 32 old → kind_by shown_of (first_part found) ≡ Some w → stands_on w old ≡ true)
+        (λ part kids floats rest e p q. rw (by_kind part kids part.kind p.0 q) refl)
+        (λ part kids floats rest new found e ih p q. either (in_row w kids) (stands_on w rest) (ih p.4 q)) row h once
+
+    by_nodes : (f : Forest) → IsSoundRow roots false 0 f → tally o f ≤ 1 → in_row o (first_kids f) ≡ true → kind_by shown_of (first_part (only o f)) ≡ Some w → stands_on w (first_kids f) ≡ true
+    by_nodes end p once h e = cc
+    by_nodes (con part kids floats rest) p once h e =
+        let found = only_kids o part kids floats rest once (has_row o kids h) in
+        on_row kids h (omega (arith, once)) (outputs_of (con part kids floats rest) p) (sym (ap (λ z. kind_by shown_of (first_part z)) found) ∙ e)
 
 -- ---- goals
 

@@ -3,5 +3,6 @@ pub mod Names
 pub mod Order
 pub mod Outs
 pub mod Renaming
+pub mod Sending
 pub mod Shows
 pub mod Targets

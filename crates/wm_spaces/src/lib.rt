@@ -6,10 +6,12 @@ mod names;
 mod order;
 mod outs;
 mod renaming;
+mod sending;
 mod showing;
 mod targets;
 
 pub use coming::{focus_output, output_added, output_removed};
 pub use outs::output_at;
 pub use renaming::rename;
+pub use sending::send_to_output;
 pub use showing::show;

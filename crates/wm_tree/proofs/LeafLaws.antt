@@ -34,7 +34,7 @@ there_step : (f : Forest) (id : ConId) (ids : List ConId) (c : ConId) (b : Bool)
 there_step f id ids c true g more e = let at : id ≡ c = cc in subst (λ z. has z f ≡ true) at g
 there_step f id ids c false g more e = more e
 
-first_there : (f : Forest) (ids : List ConId) (c : ConId) → first_held f ids ≡ Some c → has c f ≡ true
+pub first_there : (f : Forest) (ids : List ConId) (c : ConId) → first_held f ids ≡ Some c → has c f ≡ true
 first_there f [] c e = cc
 first_there f (id ∷ ids) c e = there_step f id ids c (has id f) refl (first_there f ids c) e
 

@@ -6,6 +6,8 @@ use Rattle.wm_tree.specs.Forest.{Forest, end, con}
 use Rattle.wm_tree.specs.Change.{at}
 use Rattle.wm_tree.specs.Look.{has, only, same}
 use Rattle.wm_tree.specs.Sound.{one_of, tally}
+use Rattle.wm_tree.specs.declared.spot.Spot.{Spot}
+use Rattle.wm_tree.specs.Spot.{spot_below, spot_in}
 use Rattle.wm_tree.proofs.ChangeLemmas.{by_change}
 use Rattle.wm_tree.proofs.CountLemmas.{counted}
 
@@ -64,6 +66,26 @@ module _ (i : ConId) (part : Part) (kids floats rest : Forest) where
 
   pub only_rest : tally i (con part kids floats rest) ≤ 1 → has i rest ≡ true → only i (con part kids floats rest) ≡ only i rest
   only_rest once h =
+      let other : same part.id i ≡ false = not_here i part (omega (arith, once, counted i rest h)) in
+      let above : has i kids ≡ false = not_there i kids (omega (arith, once, counted i rest h)) in
+      let beside : has i floats ≡ false = not_there i floats (omega (arith, once, counted i rest h)) in
+      rw (other, above, beside) refl
+
+-- where a node stands that is among the children, among the floating windows, or in the rest of the row
+module _ (i : ConId) (s : Spot) (part : Part) (kids floats rest : Forest) where
+  pub spot_kids : tally i (con part kids floats rest) ≤ 1 → has i kids ≡ true → spot_in s i (con part kids floats rest) ≡ spot_in (spot_below true s part) i kids
+  spot_kids once h =
+      let other : same part.id i ≡ false = not_here i part (omega (arith, once, counted i kids h)) in
+      rw (other, h) refl
+
+  pub spot_floats : tally i (con part kids floats rest) ≤ 1 → has i floats ≡ true → spot_in s i (con part kids floats rest) ≡ spot_in (spot_below false s part) i floats
+  spot_floats once h =
+      let other : same part.id i ≡ false = not_here i part (omega (arith, once, counted i floats h)) in
+      let above : has i kids ≡ false = not_there i kids (omega (arith, once, counted i floats h)) in
+      rw (other, above, h) refl
+
+  pub spot_rest : tally i (con part kids floats rest) ≤ 1 → has i rest ≡ true → spot_in s i (con part kids floats rest) ≡ spot_in s i rest
+  spot_rest once h =
       let other : same part.id i ≡ false = not_here i part (omega (arith, once, counted i rest h)) in
       let above : has i kids ≡ false = not_there i kids (omega (arith, once, counted i rest h)) in
       let beside : has i floats ≡ false = not_there i floats (omega (arith, once, counted i rest h)) in

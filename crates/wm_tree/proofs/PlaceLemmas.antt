@@ -158,7 +158,7 @@ both true true h = (refl, refl)
 both true false h = cc
 both false b h = cc
 
-after_fits : (t : TreeValue) (c : ConId) → is_tiled_con t c ≡ true → Fits t (After c)
+pub after_fits : (t : TreeValue) (c : ConId) → is_tiled_con t c ≡ true → Fits t (After c)
 after_fits t c h =
     let k = both (is_con (first_part (only c t.nodes))) (is_tiled (spot_in top c t.nodes)) h in
     let ok = con_is (first_part (only c t.nodes)) k.0 in

@@ -1,0 +1,83 @@
+-- Sending containers to other workspaces.
+use Rattle.std.specs.Prelude.{ℕ, ℤ, pos, negsuc, ◌+ℤ◌, ◌-ℤ◌, int_lt, Bool, not, if◌then◌else◌, List, Option, None, Some, option_and_then}
+use Rattle.wm_base.specs.declared.errors.ErrorText.TheVariants as texts
+use Rattle.wm_base.specs.declared.errors.Refusal.{Refusal}
+use Rattle.wm_base.specs.declared.errors.Refusal.TheVariants.{NoTarget}
+use Rattle.wm_base.specs.declared.geometry.Rect.{Rect}
+use Rattle.wm_base.specs.declared.ids.ConId.{ConId}
+use Rattle.wm_showing.specs.Outputs.{output_of}
+use Rattle.wm_showing.specs.Refusing.{error_if, full_error}
+use Rattle.wm_showing.specs.Showing.{shown_on}
+use Rattle.wm_showing.specs.Subject.{is_hidden, is_space}
+use Rattle.wm_tree.specs.declared.part.ConPart.{ConPart}
+use Rattle.wm_tree.specs.declared.part.OutputPart.{OutputPart}
+use Rattle.wm_tree.specs.declared.place.Place.{Place}
+use Rattle.wm_tree.specs.declared.place.Place.TheVariants.{After, Last, Float}
+use Rattle.wm_tree.specs.Along.{nowhere}
+use Rattle.wm_tree.specs.Look.{con_kind, kind_of, output_kind}
+use Rattle.wm_tree.specs.Move.{apart, moved, passed_by_move}
+use Rattle.wm_tree.specs.TreeValue.{TreeValue, is_tiled_con, leaf, or_id}
+
+-- ---- rectangles
+
+-- the nearest number that a place may have
+abbrev pub held : ℤ → ℤ
+held z = if int_lt z (negsuc 131071) then negsuc 131071 else if int_lt (pos 131071) z then pos 131071 else z
+
+-- the rectangle on another output: shifted by the difference of their places
+abbrev pub shifted : Option OutputPart → Option OutputPart → Rect → Rect
+shifted None to r = r
+shifted (Some a) None r = r
+shifted (Some a) (Some b) r = record { x = held (r.x +ℤ (b.rect.x -ℤ a.rect.x)); y = held (r.y +ℤ (b.rect.y -ℤ a.rect.y)); w = r.w; h = r.h }
+
+-- the output of a container or workspace, as it is
+abbrev pub output_part_of : ConId → TreeValue → Option OutputPart
+output_part_of c t = option_and_then (λ (o : ConId). kind_of output_kind o t.nodes) (output_of c t)
+
+abbrev pub or_nowhere : Option Rect → Rect
+or_nowhere None = nowhere
+or_nowhere (Some r) = r
+
+abbrev pub state_rect : Option ConPart → Rect
+state_rect None = nowhere
+state_rect (Some part) = or_nowhere part.state.rect
+
+-- the outer rectangle of a floating window
+abbrev pub rect_of : ConId → TreeValue → Rect
+rect_of c t = state_rect (kind_of con_kind c t.nodes)
+
+-- ---- sending
+
+-- a tiled container comes after the leaf of the workspace, or last where nothing is tiled there; a floating one, or one
+-- of the scratchpad, comes last among its floating windows, shifted by the difference of the outputs' places
+abbrev pub sent_place : ConId → ConId → TreeValue → Place
+sent_place c w t =
+    if not (is_tiled_con t c) then Float w (shifted (output_part_of c t) (output_part_of w t) (rect_of c t))
+    else if is_tiled_con t (or_id (leaf t w) w) then After (or_id (leaf t w) w)
+    else Last w
+
+-- the container comes to the workspace, if it is not there
+abbrev pub sent : ConId → ConId → TreeValue → TreeValue
+sent c w t = if apart t c w then moved c (sent_place c w t) t else t
+
+abbrev pub sent_refusal : ConId → ConId → TreeValue → Option Refusal
+sent_refusal c w t = if apart t c w then full_error (passed_by_move c (sent_place c w t) t.nodes) else None
+
+abbrev pub sent_some : Option ConId → ConId → TreeValue → TreeValue
+sent_some None c t = t
+sent_some (Some w) c t = sent c w t
+
+abbrev pub sent_some_refusal : Option ConId → ConId → TreeValue → Option Refusal
+sent_some_refusal None c t = None
+sent_some_refusal (Some w) c t = sent_refusal c w t
+
+-- ---- sending to an output
+
+-- one in the scratchpad has no workspace, and a workspace is not sent
+abbrev pub send_to_output_refusal : ConId → ConId → TreeValue → Option Refusal
+send_to_output_refusal c o t =
+    error_if (is_hidden t c) texts.NoWorkspace (error_if (is_space t c) texts.AtWorkspace (sent_some_refusal (shown_on o t) c t))
+
+-- the container comes to the workspace that the output shows
+abbrev pub send_to_output_tree : ConId → ConId → TreeValue → TreeValue
+send_to_output_tree c o t = sent_some (shown_on o t) c t

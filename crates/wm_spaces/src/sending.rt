@@ -1,0 +1,161 @@
+//! Sending containers to other workspaces.
+ghost use Rattle.std.specs.Prelude.{◌≡◌, ◌≢◌, ◌+ℤ◌, ◌-ℤ◌, None, Some, true, OnOk, OnErr, IfErr};
+ghost use Rattle.std.specs.Option.{option_copied};
+ghost use Rattle.wm_showing.specs.Refusing.{IsCause};
+ghost use Rattle.wm_showing.specs.Showing.{shown_on};
+ghost use Rattle.wm_showing.specs.Subject.{IsSubject, is_space};
+ghost use Rattle.wm_spaces.specs.Sending.{held, output_part_of, rect_of, send_to_output_refusal, send_to_output_tree, sent, sent_place, sent_refusal, shifted};
+ghost use Rattle.wm_tree.specs.Look.{con_kind, kind_of};
+ghost use Rattle.wm_tree.specs.Move.{apart};
+ghost use Rattle.wm_tree.specs.Outputs.{IsOutput};
+ghost use Rattle.wm_tree.specs.Sound.{IsSound};
+
+use wm_base::{ConId, ErrorText, Rect, Refusal};
+use wm_showing::{is_hidden, is_space, output_of, refused, shown_on};
+use wm_tree::{OutputPart, Place, Tree};
+
+/// The least and the greatest number of a place.
+const LEAST: i64 = -131_072;
+const GREATEST: i64 = 131_071;
+
+/// Where no window is.
+const NOWHERE: Rect = Rect {
+    x: 0,
+    y: 0,
+    w: 0,
+    h: 0,
+};
+
+/// The nearest number that a place may have.
+fn held(n: i64) -> i32
+    ensures { result ≡ held n }
+{
+    if n < LEAST {
+        LEAST as i32
+    } else if n > GREATEST {
+        GREATEST as i32
+    } else {
+        n as i32
+    }
+}
+
+/// How far it is from one number to another.
+fn difference(from: i32, to: i32) -> i64
+    ensures { result ≡ to -ℤ from }
+{
+    i64::from(to) - i64::from(from)
+}
+
+/// A number moved by the difference of two others.
+fn moved(n: i32, from: i32, to: i32) -> i64
+    ensures { result ≡ n +ℤ (to -ℤ from) }
+{
+    i64::from(n) + difference(from, to)
+}
+
+/// The rectangle on another output: shifted by the difference of their places.
+fn shifted(from: Option<&OutputPart>, to: Option<&OutputPart>, r: Rect) -> Rect
+    ensures { result ≡ shifted (option_copied from.entry) (option_copied to.entry) r }
+{
+    match (from, to) {
+        (Some(a), Some(b)) => Rect {
+            x: held(moved(r.x, a.rect.x, b.rect.x)),
+            y: held(moved(r.y, a.rect.y, b.rect.y)),
+            w: r.w,
+            h: r.h,
+        },
+        _ => r,
+    }
+}
+
+/// The output of a container or workspace, as it is.
+fn output_part_of(t: &Tree, con: ConId) -> Option<&OutputPart>
+    ensures { option_copied result ≡ output_part_of con t.now }
+{
+    t.output(output_of(t, con)?)
+}
+
+/// The outer rectangle of a floating window.
+fn rect_of(t: &Tree, con: ConId) -> Rect
+    ensures { result ≡ rect_of con t.now }
+{
+    match t.container(con) {
+        Some(part) => part.state.rect.unwrap_or(NOWHERE),
+        None => NOWHERE,
+    }
+}
+
+/// Whether two nodes are not in one workspace.
+fn apart(t: &Tree, a: ConId, b: ConId) -> bool
+    ensures { result ≡ apart t.now a b }
+{
+    match (t.workspace_of(a), t.workspace_of(b)) {
+        (Some(a), Some(b)) => a != b,
+        (None, None) => false,
+        (None, Some(_)) | (Some(_), None) => true,
+    }
+}
+
+/// Where a container comes that is sent to the workspace.
+fn sent_place(t: &Tree, con: ConId, w: ConId) -> Place
+    ensures { result ≡ sent_place con w t.now }
+{
+    if !t.is_tiled(con) {
+        let rect = shifted(
+            output_part_of(t, con),
+            output_part_of(t, w),
+            rect_of(t, con),
+        );
+        return Place::Float(w, rect);
+    }
+    let leaf = t.leaf(w).unwrap_or(w);
+    if t.is_tiled(leaf) {
+        Place::After(leaf)
+    } else {
+        Place::Last(w)
+    }
+}
+
+/// Sends a container to a workspace, if it is not there: a tiled one after the leaf, or last where nothing is tiled; a
+/// floating one last among the floating windows.
+pub(crate) fn send(t: &mut Tree, con: ConId, w: ConId) -> Result<(), Refusal>
+    requires sound { IsSound t.old }
+    requires con { kind_of con_kind con t.old.nodes ≢ None }
+    requires space { is_space t.old w ≡ true }
+    ensures tree { OnOk result (t.new ≡ sent con w t.old) }
+    ensures fine { OnOk result (sent_refusal con w t.old ≡ None) }
+    ensures err { OnErr result (t.new ≡ t.old) }
+    ensures cause { IfErr result (λ e. sent_refusal con w t.old ≡ Some e) }
+    ensures sound { IsSound t.new }
+{
+    if !apart(t, con, w) {
+        return Ok(());
+    }
+    let at = sent_place(t, con, w);
+    match t.move_to(con, at) {
+        Ok(()) => Ok(()),
+        Err(error) => Err(refused(error)),
+    }
+}
+
+/// Sends the container to the workspace that the output shows.
+pub fn send_to_output(t: &mut Tree, con: ConId, output: ConId) -> Result<(), Refusal>
+    requires subject { IsSubject t.old con }
+    requires output { IsOutput output t.old.nodes }
+    ensures tree { OnOk result (t.new ≡ send_to_output_tree con output t.old) }
+    ensures fine { OnOk result (send_to_output_refusal con output t.old ≡ None) }
+    ensures err { OnErr result (t.new ≡ t.old) }
+    ensures cause { IfErr result (λ e. send_to_output_refusal con output t.old ≡ Some e) }
+    ensures sound { IsSound t.new }
+{
+    if is_hidden(t, con) {
+        return Err(Refusal::NoTarget(ErrorText::NoWorkspace));
+    }
+    if is_space(t, con) {
+        return Err(Refusal::NoTarget(ErrorText::AtWorkspace));
+    }
+    match shown_on(t, output) {
+        Some(w) => send(t, con, w),
+        None => Ok(()),
+    }
+}
