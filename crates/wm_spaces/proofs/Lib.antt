@@ -1,4 +1,5 @@
 pub mod ComingLemmas
+pub mod KeptLemmas
 pub mod OrderLemmas
 pub mod OutLemmas
 pub mod SendLemmas

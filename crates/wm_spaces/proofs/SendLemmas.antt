@@ -109,7 +109,7 @@ con_low (Some part) ok = by_kind part.kind ok
     by_kind (Space w) ok = absurd (ok refl)
     by_kind (Con c) ok = tt
 
-con_there : (c : ConId) (f : Forest) → kind_by con_kind (first_part (only c f)) ≢ None → has c f ≡ true
+pub con_there : (c : ConId) (f : Forest) → kind_by con_kind (first_part (only c f)) ≢ None → has c f ≡ true
 con_there c f ok = by_test (has c f) refl
   where
     by_test : (b : Bool) → has c f ≡ b → has c f ≡ true

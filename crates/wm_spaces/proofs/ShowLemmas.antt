@@ -1,5 +1,7 @@
 -- Showing workspaces, new ones too, keeps what holds of every tree.
 use Rattle.std.proofs.Common.{◌≡◌, Bool, true, false, cond, List, ℕ, Option, None, Some, refl, ap, sym, subst}
+use Rattle.std.specs.Option.{option_or}
+use Rattle.wm_base.specs.declared.errors.Refusal.{Refusal}
 use Rattle.wm_base.specs.declared.ids.ConId.{ConId}
 use Rattle.wm_showing.proofs.ShowLemmas.{sound_showing}
 use Rattle.wm_showing.specs.Refusing.{IsCause, full_error, refusal_by}
@@ -48,3 +50,9 @@ pub space_cause : (t : TreeValue) (o : ConId) (e : TreeRefusal) → has o t.node
 space_cause t o (refusals.Missing c) there h = let no : has o t.nodes ≡ false = h.1 in cc
 space_cause t o (refusals.Full limit) there h = ap full_error h.1
 space_cause t o refusals.NoMemory there h = tt
+
+-- the same, where another cause is looked for behind it
+pub space_cause_or : (t : TreeValue) (o : ConId) (e : TreeRefusal) (rest : Option Refusal) → has o t.nodes ≡ true → IsSpaceCause t o e → IsCause (option_or (full_error (passed_by_space t.nodes t.next_id)) rest) (refusal_by e)
+space_cause_or t o (refusals.Missing c) rest there h = let no : has o t.nodes ≡ false = h.1 in cc
+space_cause_or t o (refusals.Full limit) rest there h = ap (λ z. option_or (full_error z) rest) h.1
+space_cause_or t o refusals.NoMemory rest there h = tt

@@ -1,14 +1,19 @@
 -- Sending containers to other workspaces.
 use Rattle.std.specs.Prelude.{ℕ, ℤ, pos, negsuc, ◌+ℤ◌, ◌-ℤ◌, int_lt, Bool, not, if◌then◌else◌, List, Option, None, Some, option_and_then}
+use Rattle.std.specs.Option.{option_or}
 use Rattle.wm_base.specs.declared.errors.ErrorText.TheVariants as texts
 use Rattle.wm_base.specs.declared.errors.Refusal.{Refusal}
 use Rattle.wm_base.specs.declared.errors.Refusal.TheVariants.{NoTarget}
 use Rattle.wm_base.specs.declared.geometry.Rect.{Rect}
 use Rattle.wm_base.specs.declared.ids.ConId.{ConId}
+use Rattle.wm_grammar.specs.declared.arguments.Target.{Target}
 use Rattle.wm_showing.specs.Outputs.{output_of}
 use Rattle.wm_showing.specs.Refusing.{error_if, full_error}
 use Rattle.wm_showing.specs.Showing.{shown_on}
 use Rattle.wm_showing.specs.Subject.{is_hidden, is_space}
+use Rattle.wm_spaces.specs.declared.targets.Goal.{Goal}
+use Rattle.wm_spaces.specs.declared.targets.Goal.TheVariants.{There, Absent, Refused}
+use Rattle.wm_spaces.specs.Targets.{goal_of, home}
 use Rattle.wm_tree.specs.declared.part.ConPart.{ConPart}
 use Rattle.wm_tree.specs.declared.part.OutputPart.{OutputPart}
 use Rattle.wm_tree.specs.declared.place.Place.{Place}
@@ -16,7 +21,8 @@ use Rattle.wm_tree.specs.declared.place.Place.TheVariants.{After, Last, Float}
 use Rattle.wm_tree.specs.Along.{nowhere}
 use Rattle.wm_tree.specs.Look.{con_kind, kind_of, output_kind}
 use Rattle.wm_tree.specs.Move.{apart, moved, passed_by_move}
-use Rattle.wm_tree.specs.TreeValue.{TreeValue, is_tiled_con, leaf, or_id}
+use Rattle.wm_tree.specs.Outputs.{passed_by_space, with_space}
+use Rattle.wm_tree.specs.TreeValue.{TreeValue, id, is_tiled_con, leaf, or_id}
 
 -- ---- rectangles
 
@@ -81,3 +87,30 @@ send_to_output_refusal c o t =
 -- the container comes to the workspace that the output shows
 abbrev pub send_to_output_tree : ConId → ConId → TreeValue → TreeValue
 send_to_output_tree c o t = sent_some (shown_on o t) c t
+
+-- ---- sending to a workspace
+
+-- the container comes to a new workspace of this name on the output o
+abbrev pub sent_new : ConId → ConId → List ℕ → TreeValue → TreeValue
+sent_new c o n t = sent c (id t.next_id) (with_space o n t)
+
+abbrev pub sent_new_refusal : ConId → ConId → List ℕ → TreeValue → Option Refusal
+sent_new_refusal c o n t = option_or (full_error (passed_by_space t.nodes t.next_id)) (sent_refusal c (id t.next_id) (with_space o n t))
+
+abbrev pub goal_sent : Goal → ConId → List (List ℕ × List ℕ) → TreeValue → TreeValue
+goal_sent (There w) c homes t = sent c w t
+goal_sent (Absent n) c homes t = sent_new c (home n homes t) n t
+goal_sent (Refused text) c homes t = t
+
+abbrev pub goal_sent_refusal : Goal → ConId → List (List ℕ × List ℕ) → TreeValue → Option Refusal
+goal_sent_refusal (There w) c homes t = sent_refusal c w t
+goal_sent_refusal (Absent n) c homes t = sent_new_refusal c (home n homes t) n t
+goal_sent_refusal (Refused text) c homes t = Some (NoTarget text)
+
+-- a workspace is not sent; a new workspace, and then the container in it, pass no limit
+abbrev pub send_to_refusal : ConId → Target → List (List ℕ × List ℕ) → TreeValue → Option Refusal
+send_to_refusal c target homes t = error_if (is_space t c) texts.AtWorkspace (goal_sent_refusal (goal_of target t) c homes t)
+
+-- the container comes to the workspace, which is made where it is not there
+abbrev pub send_to_tree : ConId → Target → List (List ℕ × List ℕ) → TreeValue → TreeValue
+send_to_tree c target homes t = goal_sent (goal_of target t) c homes t

@@ -13,5 +13,5 @@ mod targets;
 pub use coming::{focus_output, output_added, output_removed};
 pub use outs::output_at;
 pub use renaming::rename;
-pub use sending::send_to_output;
+pub use sending::{send_to, send_to_output};
 pub use showing::show;

@@ -4,13 +4,15 @@ ghost use Rattle.std.specs.Option.{option_copied};
 ghost use Rattle.wm_showing.specs.Refusing.{IsCause};
 ghost use Rattle.wm_showing.specs.Showing.{shown_on};
 ghost use Rattle.wm_showing.specs.Subject.{IsSubject, is_space};
-ghost use Rattle.wm_spaces.specs.Sending.{held, output_part_of, rect_of, send_to_output_refusal, send_to_output_tree, sent, sent_place, sent_refusal, shifted};
+ghost use Rattle.wm_spaces.specs.Sending.{held, output_part_of, rect_of, send_to_output_refusal, send_to_output_tree, send_to_refusal, send_to_tree, sent, sent_new, sent_new_refusal, sent_place, sent_refusal, shifted};
 ghost use Rattle.wm_tree.specs.Look.{con_kind, kind_of};
 ghost use Rattle.wm_tree.specs.Move.{apart};
 ghost use Rattle.wm_tree.specs.Outputs.{IsOutput};
 ghost use Rattle.wm_tree.specs.Sound.{IsSound};
 
-use wm_base::{ConId, ErrorText, Rect, Refusal};
+use crate::targets::{Goal, find_goal, home};
+use wm_base::{ConId, ErrorText, Rect, Refusal, Text};
+use wm_grammar::Target;
 use wm_showing::{is_hidden, is_space, output_of, refused, shown_on};
 use wm_tree::{OutputPart, Place, Tree};
 
@@ -157,5 +159,63 @@ pub fn send_to_output(t: &mut Tree, con: ConId, output: ConId) -> Result<(), Ref
     match shown_on(t, output) {
         Some(w) => send(t, con, w),
         None => Ok(()),
+    }
+}
+
+/// Sends the container to the workspace that the command names, and makes that where it is not there: last on the output
+/// that the homes give its name, if that is there, else on the current one.
+pub fn send_to(
+    t: &mut Tree,
+    con: ConId,
+    target: &Target,
+    homes: &[(Text, Text)],
+) -> Result<(), Refusal>
+    requires { IsSubject t.old con }
+    ensures tree { OnOk result (t.new ≡ send_to_tree con target.now homes.now t.old) }
+    ensures fine { OnOk result (send_to_refusal con target.now homes.now t.old ≡ None) }
+    ensures err { OnErr result (t.new ≡ t.old) }
+    ensures cause { IfErr result (IsCause (send_to_refusal con target.now homes.now t.old)) }
+    ensures sound { IsSound t.new }
+{
+    if is_space(t, con) {
+        return Err(Refusal::NoTarget(ErrorText::AtWorkspace));
+    }
+    let Ok(goal) = find_goal(t, target) else {
+        return Err(Refusal::NoMemory);
+    };
+    match goal {
+        Goal::There(w) => send(t, con, w),
+        Goal::Absent(name) => {
+            let output = home(t, name.as_str(), homes);
+            send_new(t, con, output, &name)
+        }
+        Goal::Refused(text) => Err(Refusal::NoTarget(text)),
+    }
+}
+
+/// Makes a workspace of this name on the output and sends the container there.
+fn send_new(t: &mut Tree, con: ConId, output: ConId, name: &Text) -> Result<(), Refusal>
+    requires sound { IsSound t.old }
+    requires con { kind_of con_kind con t.old.nodes ≢ None }
+    requires output { IsOutput output t.old.nodes }
+    ensures tree { OnOk result (t.new ≡ sent_new con output name.now t.old) }
+    ensures fine { OnOk result (sent_new_refusal con output name.now t.old ≡ None) }
+    ensures err { OnErr result (t.new ≡ t.old) }
+    ensures cause { IfErr result (IsCause (sent_new_refusal con output name.now t.old)) }
+    ensures sound { IsSound t.new }
+{
+    let Ok(before) = t.copy() else {
+        return Err(Refusal::NoMemory);
+    };
+    let w = match t.add_workspace(output, name) {
+        Ok(w) => w,
+        Err(error) => return Err(refused(error)),
+    };
+    match send(t, con, w) {
+        Ok(()) => Ok(()),
+        Err(error) => {
+            *t = before;
+            Err(error)
+        }
     }
 }
