@@ -9,6 +9,8 @@ mod renaming;
 mod sending;
 mod showing;
 mod targets;
+#[cfg(test)]
+mod tests;
 
 pub use coming::{focus_output, output_added, output_removed};
 pub use outs::output_at;

@@ -110,7 +110,11 @@ pub(crate) fn best_in(row: Cursor<'_>, pick: Pick, back: bool, other: Option<Key
 {
     match row.part() {
         None => other,
-        Some(part) => better(back, key_if(pick, part), best_in(row.rest(), pick, back, other)),
+        Some(part) => better(
+            back,
+            key_if(pick, part),
+            best_in(row.rest(), pick, back, other),
+        ),
     }
 }
 

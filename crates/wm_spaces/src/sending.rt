@@ -18,6 +18,7 @@ use wm_tree::{OutputPart, Place, Tree};
 
 /// The least and the greatest number of a place.
 const LEAST: i64 = -131_072;
+
 const GREATEST: i64 = 131_071;
 
 /// Where no window is.

@@ -105,7 +105,11 @@ fn best_at(t: &Tree, here: bool, back: bool, pick: Pick) -> Option<Key>
 fn past(back: bool, key: Key) -> Pick
     ensures { result ≡ past back key }
 {
-    if back { Pick::Ahead(key) } else { Pick::Behind(key) }
+    if back {
+        Pick::Ahead(key)
+    } else {
+        Pick::Behind(key)
+    }
 }
 
 /// The neighbour of the focused workspace in the order, from the end to the other end.
