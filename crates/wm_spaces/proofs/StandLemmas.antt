@@ -38,7 +38,7 @@ use Rattle.wm_tree.specs.Sound.{IsNode, IsSound, IsSoundRow, outputs, roots, spa
 use Rattle.wm_tree.specs.Spot.{room_below}
 use Rattle.wm_tree.specs.TreeValue.{TreeValue, current, id, or_id, shown}
 
-either : (a b : Bool) → b ≡ true → (a || b) ≡ true
+pub either : (a b : Bool) → b ≡ true → (a || b) ≡ true
 either true b h = refl
 either false b h = h
 
@@ -47,7 +47,7 @@ abbrev pub stands_on : ConId → Forest → Bool
 stands_on w end = false
 stands_on w (con part kids floats rest) = in_row w kids || stands_on w rest
 
-stands_has : (w : ConId) (row : Forest) → stands_on w row ≡ true → has w row ≡ true
+pub stands_has : (w : ConId) (row : Forest) → stands_on w row ≡ true → has w row ≡ true
 stands_has w end h = cc
 stands_has w (con part kids floats rest) h = step (in_row w kids) refl h (stands_has w rest)
   where
@@ -146,7 +146,7 @@ best_stands back p (con part kids floats rest) k h =
     ⊎_elim (λ i. rw i refl) (λ e. either (in_row k.id kids) (stands_on k.id rest) (best_stands back p rest k e)) (best_row back p kids (best_on back p rest) k h)
 
 -- a workspace of one of the outputs stands on it
-of_output : (w o : ConId) (row : Forest) → in_row w (first_kids (node_in o row)) ≡ true → stands_on w row ≡ true
+pub of_output : (w o : ConId) (row : Forest) → in_row w (first_kids (node_in o row)) ≡ true → stands_on w row ≡ true
 of_output w o end h = cc
 of_output w o (con part kids floats rest) h = step (same part.id o) h (of_output w o rest)
   where

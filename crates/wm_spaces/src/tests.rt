@@ -1,38 +1,75 @@
 //! Commands on a tree of two outputs side by side, each with an empty workspace.
+ghost use Rattle.std.specs.Prelude.{IfOk};
+ghost use Rattle.wm_tree.specs.Sound.{IsOutputRect, IsSound};
+
 use crate::{output_added, output_at, output_removed, rename, send_to, show};
 use std::alloc::Global;
 use std::process::Abort;
 use std::test::Fail;
 use wm_base::{Border, ConId, Dir, Edges, Layout, OutputPlan, Rect, Refusal, Text};
 use wm_grammar::{OutArg, Target};
-use wm_tree::{NewCon, Place, Tree};
+use wm_showing::is_subject;
+use wm_tree::{NewCon, Tree};
 
 fn text(alloc: Global, s: &str) -> Result<Text, Fail> {
     Ok(Text::new(alloc, s)?)
 }
 
-fn plan(alloc: Global, name: &str, x: i32) -> Result<OutputPlan, Fail> {
+const LEFT: Rect = Rect {
+    x: 0,
+    y: 0,
+    w: 1000,
+    h: 800,
+};
+
+const RIGHT: Rect = Rect {
+    x: 1000,
+    y: 0,
+    w: 1000,
+    h: 800,
+};
+
+const FAR: Rect = Rect {
+    x: 2000,
+    y: 0,
+    w: 1000,
+    h: 800,
+};
+
+/// An output of this name.
+fn plan(alloc: Global, name: &str, rect: Rect) -> Result<OutputPlan, Fail>
+    requires { IsOutputRect rect }
+    ensures { IfOk result (λ plan. IsOutputRect plan.rect) }
+{
+    let reserved = Edges {
+        top: 0,
+        right: 0,
+        bottom: 0,
+        left: 0,
+    };
     Ok(OutputPlan {
         name: text(alloc, name)?,
-        rect: Rect {
-            x,
-            y: 0,
-            w: 1000,
-            h: 800,
-        },
-        reserved: Edges {
-            top: 0,
-            right: 0,
-            bottom: 0,
-            left: 0,
-        },
+        rect,
+        reserved,
     })
 }
 
 /// The outputs 2 and 3 with the workspaces 4 and 5.
-fn opened(alloc: Global) -> Result<Tree, Fail> {
-    let plans = [plan(alloc, "A", 0)?, plan(alloc, "B", 1000)?];
+fn opened(alloc: Global) -> Result<Tree, Fail>
+    ensures { IfOk result (λ tree. IsSound tree) }
+{
+    let plans = [plan(alloc, "A", LEFT)?, plan(alloc, "B", RIGHT)?];
     Ok(Tree::start(alloc, &plans, Border::Pixel(2), 5, 7)?)
+}
+
+/// A split where a new window goes.
+fn add(alloc: Global, tree: &mut Tree) -> Result<ConId, Fail>
+    requires { IsSound tree.old }
+    ensures { IsSound tree.new }
+{
+    let at = tree.newcomer_place();
+    let layout = Layout::Tabbed;
+    Ok(tree.attach(at, NewCon::Split { layout })?)
 }
 
 fn expect_shown(rt: &impl Abort, tree: &Tree, output: u32, space: u32, previous: Option<&str>) {
@@ -72,7 +109,7 @@ fn outputs_come_and_go(rt: HostRuntime) -> Result<(), Fail> {
     let alloc = rt.alloc();
     let mut tree = opened(alloc)?;
     assert_eq!(rt;
-        output_added(alloc, &mut tree, &plan(alloc, "C", 2000)?),
+        output_added(alloc, &mut tree, &plan(alloc, "C", FAR)?),
         Ok(())
     );
     assert_eq!(rt; tree.space(ConId(7)).map(|s| s.name.as_str()), Some("3"));
@@ -94,13 +131,14 @@ fn outputs_come_and_go(rt: HostRuntime) -> Result<(), Fail> {
 fn containers_are_sent(rt: HostRuntime) -> Result<(), Fail> {
     let alloc = rt.alloc();
     let mut tree = opened(alloc)?;
-    let layout = Layout::Tabbed;
-    let con = tree.attach(Place::Last(ConId(4)), NewCon::Split { layout })?;
+    let con = add(alloc, &mut tree)?;
+    assert!(rt; is_subject(&tree, con));
     assert_eq!(rt;
         send_to(&mut tree, con, &Target::Number(text(alloc, "2b")?), &[]),
         Ok(())
     );
     assert_eq!(rt; tree.workspace_of(con), Some(ConId(5)));
+    assert!(rt; is_subject(&tree, con));
     assert_eq!(rt;
         send_to(&mut tree, con, &Target::Name(text(alloc, "y")?), &[]),
         Ok(())
