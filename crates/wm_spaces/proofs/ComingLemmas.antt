@@ -1,19 +1,17 @@
 -- Outputs that come and go: the names that are free, and who is there.
-use Rattle.std.proofs.Common.{◌≡◌, ◌≢◌, ℕ, zero, suc, ◌+◌, ◌-◌, ◌<◌, ◌≤◌, Bool, true, false, cond, ◌||◌, List, Option, None, Some, refl, ap, sym, ◌∙◌, subst, arith}
+use Rattle.std.proofs.Common.{◌≡◌, ℕ, zero, suc, ◌+◌, ◌-◌, ◌<◌, Bool, true, false, cond, ◌||◌, List, Some, refl, arith}
 use Rattle.std.specs.Prelude.{is_some}
 use Rattle.std.specs.Fmt.{decimal}
 use Rattle.wm_base.specs.declared.ids.ConId.{ConId}
-use Rattle.wm_showing.proofs.ShowLemmas.{sound_output}
-use Rattle.wm_showing.specs.Showing.{output_focused, remembering, space_name, with_current}
-use Rattle.wm_spaces.specs.Coming.{free_from, left_output, output_gone}
+use Rattle.wm_showing.specs.Showing.{output_focused, space_name, with_current}
+use Rattle.wm_spaces.specs.Coming.{free_from, left_output}
 use Rattle.wm_spaces.specs.Names.{output_called, output_in_row, output_named, space_named}
 use Rattle.wm_tree.proofs.OutputLemmas.{yields}
 use Rattle.wm_tree.proofs.OutputRows.{but_only, first_there}
 use Rattle.wm_tree.proofs.RecencyLemmas.{same_self}
-use Rattle.wm_tree.proofs.SpaceLemmas.{has_output}
 use Rattle.wm_tree.specs.Counts.{but}
 use Rattle.wm_tree.specs.Forest.{Forest, end, con}
-use Rattle.wm_tree.specs.Look.{first_kids, has, in_row, output_kind, same}
+use Rattle.wm_tree.specs.Look.{first_kids, in_row, output_kind, same}
 use Rattle.wm_tree.specs.Outputs.{IsOutput, heir}
 use Rattle.wm_tree.specs.Sound.{IsSound}
 use Rattle.wm_tree.specs.TreeValue.{TreeValue, current, shown}

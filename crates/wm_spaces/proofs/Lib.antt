@@ -2,6 +2,7 @@ pub mod ComingLemmas
 pub mod KeptLemmas
 pub mod OrderLemmas
 pub mod OutLemmas
+pub mod RiseLemmas
 pub mod SendLemmas
 pub mod ShowLemmas
 pub mod SpaceOfLemmas

@@ -1,13 +1,9 @@
 -- The numbers of names, and the first or last of workspaces.
-use Rattle.std.proofs.Common.{◌≡◌, ℕ, ◌+◌, ◌-◌, ◌*◌, ◌<◌, ◌≤◌, Bool, true, false, cond, leb, List, [], ◌∷◌, Option, None, Some, refl, sym, ◌∙◌, arith}
+use Rattle.std.proofs.Common.{◌≡◌, ℕ, ◌+◌, ◌-◌, ◌*◌, ◌<◌, ◌≤◌, Bool, true, false, cond, leb, List, [], ◌∷◌, Option, None, Some, refl, arith}
 use Rattle.std.proofs.lemmas.Bool.Decides.{nat_tests}
 use Rattle.wm_showing.specs.declared.keys.Key.{Key}
 use Rattle.wm_showing.specs.Keys.{with_key}
-use Rattle.wm_spaces.specs.declared.order.Pick.{Pick}
-use Rattle.wm_spaces.specs.Order.{best_with, better, is_digit, key_if, keys_in, number_on, small}
-use Rattle.wm_tree.specs.declared.part.Part.{Part}
-use Rattle.wm_tree.specs.Forest.{Forest, end, con}
-use Rattle.wm_tree.specs.Look.{first_part, rest_of, space_kind}
+use Rattle.wm_spaces.specs.Order.{best_with, better, is_digit, number_on, small}
 
 -- more digits make no smaller number
 grows : (n : ℕ) (bs : List ℕ) → n ≤ number_on n bs

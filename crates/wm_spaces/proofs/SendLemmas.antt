@@ -1,7 +1,5 @@
 -- The place to which a container is sent is one where it may go.
-use Rattle.std.proofs.Common.{◌≡◌, ◌≢◌, ℕ, Bool, true, false, cond, ◌||◌, not, inl, inr, List, Option, None, Some, refl, ap, sym, ◌∙◌, subst}
-use Rattle.std.specs.Prelude.{is_some}
-use Rattle.wm_base.specs.declared.geometry.Rect.{Rect}
+use Rattle.std.proofs.Common.{◌≡◌, ◌≢◌, Bool, true, false, cond, ◌||◌, not, inl, inr, List, Option, None, Some, refl, ap, sym, ◌∙◌, subst}
 use Rattle.wm_base.specs.declared.ids.ConId.{ConId}
 use Rattle.wm_showing.proofs.ShowLemmas.{space_is}
 use Rattle.wm_showing.proofs.SpaceLemmas.{IsSpaceIn, not_within}
@@ -14,21 +12,19 @@ use Rattle.wm_spaces.specs.Sending.{output_part_of, rect_of, sent_place, sent_re
 use Rattle.wm_tree.proofs.AlongLemmas.{space_there}
 use Rattle.wm_tree.proofs.ForestLemmas.{first_held_end, only_absent}
 use Rattle.wm_tree.proofs.LeafLaws.{first_there}
-use Rattle.wm_tree.proofs.MoveLemmas.{sound-moved}
 use Rattle.wm_tree.proofs.OnceLemmas.{in_kids, in_rest}
 use Rattle.wm_tree.proofs.PlaceLemmas.{after_fits}
 use Rattle.wm_tree.proofs.RecencyLemmas.{same_self}
 use Rattle.wm_tree.specs.declared.part.NodeKind.{NodeKind}
 use Rattle.wm_tree.specs.declared.part.NodeKind.TheVariants.{Root, Output, Space, Con}
 use Rattle.wm_tree.specs.declared.part.Part.{Part}
-use Rattle.wm_tree.specs.declared.part.SpacePart.{SpacePart}
 use Rattle.wm_tree.specs.declared.place.Place.{Place}
 use Rattle.wm_tree.specs.declared.place.Place.TheVariants.{After, Last, Float}
 use Rattle.wm_tree.specs.declared.place.TreeRefusal.{TreeRefusal}
 use Rattle.wm_tree.specs.declared.place.TreeRefusal.TheVariants as refusals
 use Rattle.wm_tree.specs.Forest.{Forest, end, con}
 use Rattle.wm_tree.specs.Look.{con_kind, first_kids, first_part, has, in_row, kind_by, kind_of, only, same, space_kind}
-use Rattle.wm_tree.specs.Move.{IsMove, IsMoveCause, apart, moved, passed_by_move, same_space}
+use Rattle.wm_tree.specs.Move.{IsMove, IsMoveCause, apart, passed_by_move, same_space}
 use Rattle.wm_tree.specs.Place.{IsPlace, TakesFirst, TakesKids, named}
 use Rattle.wm_tree.specs.Recency.{first_held}
 use Rattle.wm_tree.specs.Sound.{IsSound}

@@ -1,5 +1,5 @@
 -- Showing workspaces, new ones too, keeps what holds of every tree.
-use Rattle.std.proofs.Common.{◌≡◌, Bool, true, false, cond, List, ℕ, Option, None, Some, refl, ap, sym, subst}
+use Rattle.std.proofs.Common.{◌≡◌, Bool, true, false, cond, List, ℕ, Option, ap, subst}
 use Rattle.std.specs.Option.{option_or}
 use Rattle.wm_base.specs.declared.errors.Refusal.{Refusal}
 use Rattle.wm_base.specs.declared.ids.ConId.{ConId}

@@ -1,5 +1,5 @@
 -- What stands on an output is a workspace, and so is what a command names.
-use Rattle.std.proofs.Common.{◌≡◌, ◌≢◌, ℕ, ◌+◌, ◌≤◌, Bool, true, false, cond, ◌||◌, ◌⊎◌, inl, inr, ⊎_elim, List, [], ◌∷◌, Option, None, Some, refl, ap, sym, ◌∙◌, subst, arith}
+use Rattle.std.proofs.Common.{◌≡◌, ◌≢◌, ℕ, ◌≤◌, Bool, true, false, cond, ◌||◌, ◌⊎◌, inl, inr, ⊎_elim, List, Option, None, Some, refl, ap, sym, ◌∙◌, subst, arith}
 use Rattle.std.specs.Prelude.{Err, IfOk, Ok, Result, is_some, option_and_then}
 use Rattle.std.specs.Option.{option_or}
 use Rattle.wm_base.specs.declared.errors.ErrorText.TheVariants as texts
@@ -7,15 +7,15 @@ use Rattle.wm_base.specs.declared.ids.ConId.{ConId}
 use Rattle.wm_grammar.specs.declared.arguments.Target.{Target}
 use Rattle.wm_grammar.specs.declared.arguments.Target.TheVariants as targets
 use Rattle.wm_showing.specs.declared.keys.Key.{Key}
-use Rattle.wm_showing.specs.Keys.{comes_before, with_key}
+use Rattle.wm_showing.specs.Keys.{comes_before}
 use Rattle.wm_showing.specs.Showing.{shown_on}
 use Rattle.wm_showing.specs.Subject.{is_space}
 use Rattle.wm_spaces.specs.declared.order.Pick.{Pick}
 use Rattle.wm_spaces.specs.declared.order.Pick.TheVariants as picking
 use Rattle.wm_spaces.specs.declared.targets.Goal.{Goal}
-use Rattle.wm_spaces.specs.declared.targets.Goal.TheVariants.{There, Absent, Refused}
+use Rattle.wm_spaces.specs.declared.targets.Goal.TheVariants.{Refused}
 use Rattle.wm_spaces.specs.Names.{is_reserved, output_named, space_called, space_in_row, space_named, space_on}
-use Rattle.wm_spaces.specs.Order.{best_on, best_with, better, greater, key_if, keys_in, num, picks, space_key}
+use Rattle.wm_spaces.specs.Order.{best_on, best_with, better, key_if, keys_in, num, picks, space_key}
 use Rattle.wm_spaces.specs.Targets.{IsGoal, before, best_at, by_name, by_number, called, focused_key, goal_named, goal_of, home, home_name, key_id, neighbour, numbered, past, spaces_of}
 use Rattle.wm_spaces.proofs.ComingLemmas.{named_output}
 use Rattle.wm_spaces.proofs.OrderLemmas.{best_step}
@@ -29,7 +29,7 @@ use Rattle.wm_tree.specs.declared.part.NodeKind.TheVariants.{Root, Output, Space
 use Rattle.wm_tree.specs.declared.part.Part.{Part}
 use Rattle.wm_tree.specs.declared.part.SpacePart.{SpacePart}
 use Rattle.wm_tree.specs.declared.place.Place.TheVariants.{Last}
-use Rattle.wm_tree.specs.Change.{append, at, shown_of}
+use Rattle.wm_tree.specs.Change.{at, shown_of}
 use Rattle.wm_tree.specs.Forest.{Forest, end, con}
 use Rattle.wm_tree.specs.Look.{first_kids, first_part, has, in_row, kind_by, node_in, only, same, space_kind}
 use Rattle.wm_tree.specs.Outputs.{IsOutput, new_space, with_space}

@@ -1,7 +1,5 @@
 use Rattle.std.proofs.Common.{◌≡◌, Some, sym, ◌∙◌, arith, rules}
 use Rattle.std.proofs.lemmas.Grind.{common_steps}
-use Rattle.wm_tree.specs.Outputs.{heir}
-use Rattle.wm_spaces.specs.Coming.{left_output}
 use Rattle.wm_spaces.specs.Names.{output_named}
 use Rattle.wm_spaces.proofs.ComingLemmas.{heir_output, named_output, still_by}
 use Rattle.wm_spaces.proofs.coming.output_removed.Goals as goal

@@ -1,4 +1,4 @@
-use Rattle.std.proofs.Common.{◌≡◌, Some, sym, ◌∙◌}
+use Rattle.std.proofs.Common.{sym, ◌∙◌}
 use Rattle.wm_spaces.proofs.SendLemmas.{shown_space}
 use Rattle.wm_spaces.proofs.sending.send_to_output.Goals as goal
 
