@@ -1,18 +1,23 @@
--- Showing and renaming workspaces lets ids rise.
-use Rattle.std.proofs.Common.{ℕ, List, Option, None, Some}
+-- The commands on workspaces and outputs let ids rise.
+use Rattle.std.proofs.Common.{ℕ, Bool, true, false, cond, List, Option, None, Some}
 use Rattle.wm_base.specs.declared.ids.ConId.{ConId}
 use Rattle.wm_showing.proofs.RiseLemmas.{ids_same, remembered_same, showing_same, there_same}
-use Rattle.wm_showing.specs.Showing.{remembering, showing, shown_there, space_name}
+use Rattle.wm_base.specs.declared.plan.OutputPlan.{OutputPlan}
+use Rattle.wm_showing.specs.Showing.{output_focused, remembering, showing, shown_there, space_name, with_current}
+use Rattle.wm_spaces.specs.Coming.{left_output, output_added_tree, output_gone, output_gone_some, free_name}
 use Rattle.wm_spaces.specs.declared.targets.Goal.{Goal}
 use Rattle.wm_spaces.specs.declared.targets.Goal.TheVariants.{There, Absent, Refused}
 use Rattle.wm_spaces.specs.Renaming.{renamed}
+use Rattle.wm_spaces.specs.Sending.{goal_sent, sent, sent_new, sent_place, sent_some}
 use Rattle.wm_spaces.specs.Shows.{goal_shown, showing_new, then_shown}
 use Rattle.wm_spaces.specs.Targets.{home}
-use Rattle.wm_tree.proofs.IdLemmas.{ids_edited, ids_refl, ids_trans, ids_with_space}
+use Rattle.wm_tree.proofs.IdLemmas.{ids_edited, ids_moved, ids_refl, ids_trans, ids_with_output, ids_with_space, ids_without_output}
 use Rattle.wm_tree.specs.declared.kind.KindEdit.TheVariants as edits
 use Rattle.wm_tree.specs.Ids.{IdsRise}
-use Rattle.wm_tree.specs.Outputs.{with_space}
-use Rattle.wm_tree.specs.TreeValue.{TreeValue, id, parent, shown}
+use Rattle.wm_tree.specs.Look.{same}
+use Rattle.wm_tree.specs.Move.{apart, moved}
+use Rattle.wm_tree.specs.Outputs.{heir, with_space, without_output}
+use Rattle.wm_tree.specs.TreeValue.{TreeValue, current, id, parent, root, shown}
 
 ids_new : (o : ConId) (n : List ℕ) (t : TreeValue) → IdsRise t (showing_new o n t)
 ids_new o n t =
@@ -30,3 +35,47 @@ ids_shown (Refused text) homes t = ids_refl t
 pub ids_renamed : (w : Option ConId) (name : List ℕ) (t : TreeValue) → IdsRise t (renamed w name t)
 ids_renamed None name t = ids_refl t
 ids_renamed (Some w) name t = ids_edited w (edits.Name name) t
+
+-- ---- sending
+
+pub ids_sent : (c w : ConId) (t : TreeValue) → IdsRise t (sent c w t)
+ids_sent c w t = by_test (apart t c w)
+  where
+    by_test : (b : Bool) → IdsRise t (cond b (moved c (sent_place c w t) t) t)
+    by_test true = ids_moved c (sent_place c w t) t
+    by_test false = ids_refl t
+
+pub ids_sent_some : (w : Option ConId) (c : ConId) (t : TreeValue) → IdsRise t (sent_some w c t)
+ids_sent_some None c t = ids_refl t
+ids_sent_some (Some w) c t = ids_sent c w t
+
+pub ids_goal_sent : (g : Goal) (c : ConId) (homes : List (List ℕ × List ℕ)) (t : TreeValue) → IdsRise t (goal_sent g c homes t)
+ids_goal_sent (There w) c homes t = ids_sent c w t
+ids_goal_sent (Absent n) c homes t =
+    let made : TreeValue = with_space (home n homes t) n t in
+    ids_trans t made (sent_new c (home n homes t) n t) (ids_with_space (home n homes t) n t) (ids_sent c (id t.next_id) made)
+ids_goal_sent (Refused text) c homes t = ids_refl t
+
+-- ---- outputs
+
+pub ids_output_focused : (o : ConId) (t : TreeValue) → IdsRise t (output_focused o t)
+ids_output_focused o t =
+    ids_trans t (with_current o t) (output_focused o t) (ids_edited root (edits.Current o) t) (ids_same (with_current o t) (output_focused o t) (remembered_same (shown t) (space_name (shown t) t) (with_current o t)))
+
+pub ids_output_added : (plan : OutputPlan) (t : TreeValue) → IdsRise t (output_added_tree plan t)
+ids_output_added plan t = ids_with_output plan (free_name t) t
+
+ids_left : (o h : ConId) (t : TreeValue) → IdsRise t (left_output o h t)
+ids_left o h t = by_test (same (current t) o)
+  where
+    by_test : (b : Bool) → IdsRise t (cond b (output_focused h t) t)
+    by_test true = ids_output_focused h t
+    by_test false = ids_refl t
+
+ids_gone : (h : Option ConId) (o : ConId) (t : TreeValue) → IdsRise t (output_gone h o t)
+ids_gone None o t = ids_refl t
+ids_gone (Some h) o t = ids_trans t (left_output o h t) (without_output o (left_output o h t)) (ids_left o h t) (ids_without_output o (left_output o h t))
+
+pub ids_output_removed : (o : Option ConId) (t : TreeValue) → IdsRise t (output_gone_some o t)
+ids_output_removed None t = ids_refl t
+ids_output_removed (Some o) t = ids_gone (heir o t.nodes) o t
