@@ -19,4 +19,5 @@ pub mod SettleLemmas
 pub mod ShownLemmas
 pub mod StandingLemmas
 pub mod StepLemmas
+pub mod ToldLemmas
 pub mod WindowLemmas

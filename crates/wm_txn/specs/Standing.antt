@@ -1,6 +1,8 @@
 -- Laws that hold of each machine that stands for a history.
-use Rattle.std.specs.Prelude.{◌≡◌, ◌≤◌, List, ◌∷◌, length, is_some}
+use Rattle.std.specs.Prelude.{◌≡◌, ◌≤◌, List, ◌∷◌, length, is_some, not, ◌==◌}
 use Rattle.wm_base.specs.declared.ids.ConId.{ConId}
+use Rattle.wm_txn.specs.Commits.{done, started, waiting}
+use Rattle.wm_txn.specs.Heard.{heard}
 use Rattle.wm_txn.specs.History.{Opening, Entry, Still, is_open, was_open}
 use Rattle.wm_txn.specs.Machine.{TxnValue, last_prefix}
 use Rattle.wm_txn.specs.Windows.{find, is_live}
@@ -21,3 +23,7 @@ KnowsWindows = (o : Opening) (history : List Entry) (d : TxnValue) → Stands o 
 -- and which of them are open
 abbrev pub KnowsOpen : Type 0
 KnowsOpen = (o : Opening) (history : List Entry) (d : TxnValue) → Stands o history d → (v : ConId) → is_live (find v d.windows) ≡ is_open o v history
+
+-- a waiting transaction is told exactly where more have begun than have ended
+abbrev pub TellsWaiting : Type 0
+TellsWaiting = (o : Opening) (history : List Entry) (d : TxnValue) → Stands o history d → is_some (waiting o (heard o history)) ≡ not (started o (heard o history) == done o (heard o history))

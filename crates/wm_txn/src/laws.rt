@@ -1,7 +1,7 @@
 //! Laws of the transactions.
 ghost use Rattle.wm_txn.specs.Lasting.{BeginsOnce, BeginsThere, BegunStays, EndedStays, EndsThere, EndsTwiceAtMost, NeverFalls, SecondAwaitsNobody};
 ghost use Rattle.wm_txn.specs.Shown.{HasAskedSize, ShowsAnswer, ShowsOpening};
-ghost use Rattle.wm_txn.specs.Standing.{BeginsWithin, KnowsOpen, KnowsWindows, StillStands};
+ghost use Rattle.wm_txn.specs.Standing.{BeginsWithin, KnowsOpen, KnowsWindows, StillStands, TellsWaiting};
 
 /// An entry that is none of the machine's business leaves it standing for the history.
 #[tactic(auto, using(crate::proofs::StandingLemmas::still_stands))]
@@ -88,4 +88,9 @@ pub fn a_window_shows_its_answer()
 /// A window that no ended transaction configured shows its buffer of the opening, before any has ended.
 pub fn a_window_shows_its_opening()
     ensures { ShowsOpening }
+{}
+
+/// A waiting transaction is told exactly where more have begun than have ended.
+pub fn a_waiting_transaction_is_told()
+    ensures { TellsWaiting }
 {}
