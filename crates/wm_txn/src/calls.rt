@@ -2,8 +2,8 @@
 ghost use Rattle.std.specs.Prelude.{◌≡◌, ◌+◌, ◌<◌, ◌≤◌, ◌^◌, List, ◌∷◌, [], length, IfOk, OnOk, OnErr, is_some};
 ghost use Rattle.wm_txn.specs.Heard.{ack_answer, buffer_answer, heard};
 ghost use Rattle.wm_txn.specs.History.{Opening, Entry, Acked, Arranged, Deadline, Gave};
-ghost use Rattle.wm_txn.specs.Machine.{last_prefix};
-ghost use Rattle.wm_txn.specs.Windows.{HasNoContent};
+ghost use Rattle.wm_txn.specs.Machine.{judge_ack, judge_buffer, last_prefix};
+ghost use Rattle.wm_txn.specs.Windows.{HasNoContent, find};
 ghost use Rattle.wm_txn.specs.Stands.{IsFit, Stands};
 
 use crate::answers::{AckRefusal, BufferRefusal};
@@ -59,6 +59,7 @@ impl Txn {
     pub fn ack(&mut self, view: ConId, serial: u64) -> Result<(), AckRefusal>
         ensures answer { (o : Opening) → (history : List Entry) → Stands o history self.old →
             result ≡ ack_answer o view serial (heard o history) }
+        ensures there { result ≡ judge_ack self.old.number serial (find view self.old.windows) }
         ensures stands { (o : Opening) → (history : List Entry) → Stands o history self.old →
             Stands o (Acked view serial ∷ history) self.new }
         ensures prefix { last_prefix self.new ≡ last_prefix self.old }
@@ -73,6 +74,7 @@ impl Txn {
         requires rises { last_prefix self.old ≤ place }
         ensures answer { (o : Opening) → (history : List Entry) → Stands o history self.old →
             result ≡ buffer_answer o view b (heard o history) }
+        ensures there { result ≡ judge_buffer b (find view self.old.windows) }
         ensures stands { (o : Opening) → (history : List Entry) → length history ≡ place → Stands o history self.old →
             Stands o (Gave view b ∷ history) self.new }
         ensures prefix { last_prefix self.new ≤ place + 1 }

@@ -16,28 +16,32 @@ use wm_base::{Buffer, ConId, Size};
 impl Txn {
     /// The buffer that a window shows. `None` exactly where it was never there.
     pub fn shown(&self, view: ConId) -> Option<Buffer>
-        ensures { (o : Opening) → (history : List Entry) → Stands o history self.now → result ≡ shown o view (heard o history) }
+        ensures value { result ≡ shown_of view self.now }
+        ensures history { (o : Opening) → (history : List Entry) → Stands o history self.now → result ≡ shown o view (heard o history) }
     {
         self.shown_of(view)
     }
 
     /// The number of the last transaction that has ended.
     pub fn done(&self) -> u64
-        ensures { (o : Opening) → (history : List Entry) → Stands o history self.now → result ≡ done o (heard o history) }
+        ensures value { result ≡ self.now.number }
+        ensures history { (o : Opening) → (history : List Entry) → Stands o history self.now → result ≡ done o (heard o history) }
     {
         self.number
     }
 
     /// How many entries had come when the last ended transaction began.
     pub fn prefix(&self) -> u64
-        ensures { (o : Opening) → (history : List Entry) → Stands o history self.now → result ≡ prefix o (heard o history) }
+        ensures value { result ≡ self.now.prefix }
+        ensures history { (o : Opening) → (history : List Entry) → Stands o history self.now → result ≡ prefix o (heard o history) }
     {
         self.prefix
     }
 
     /// The arrangement of the last ended transaction.
     pub fn current(&self) -> &Arrangement
-        ensures { (o : Opening) → (history : List Entry) → Stands o history self.now → result.now.parts ≡ current o (heard o history) }
+        ensures value { result.now ≡ self.now.current }
+        ensures history { (o : Opening) → (history : List Entry) → Stands o history self.now → result.now.parts ≡ current o (heard o history) }
     {
         &self.current
     }
@@ -45,14 +49,16 @@ impl Txn {
     /// The serial and the size of the latest configure of a window. `None` exactly where it is not open, or no
     /// transaction has configured it.
     pub fn asked(&self, view: ConId) -> Option<(u64, Size)>
-        ensures { (o : Opening) → (history : List Entry) → Stands o history self.now → result ≡ asked o view (heard o history) }
+        ensures value { result ≡ asked_of (find view self.now.windows) }
+        ensures history { (o : Opening) → (history : List Entry) → Stands o history self.now → result ≡ asked o view (heard o history) }
     {
         self.asked_of(view)
     }
 
     /// The transaction that waits.
     pub fn waiting(&self) -> Option<Waiting>
-        ensures { (o : Opening) → (history : List Entry) → Stands o history self.now → result ≡ waiting o (heard o history) }
+        ensures value { result ≡ waiting_in (self.now.number + 1) self.now.windows self.now.waiting }
+        ensures history { (o : Opening) → (history : List Entry) → Stands o history self.now → result ≡ waiting o (heard o history) }
     {
         self.waiting_of()
     }

@@ -4,5 +4,5 @@ use Rattle.wm_txn.specs.Machine.{TxnValue}
 use Rattle.wm_txn.proofs.ReadingLemmas.{prefix_is}
 use Rattle.wm_txn.proofs.txn.Txn.prefix.Goals as goal
 
-pub returns : goal.returns
-returns c = λ o history s. ap (λ (d : TxnValue). d.prefix) c.self.view_is ∙ prefix_is o (heard o history) c.args.self.now s
+pub returns-clause-history : goal.returns-clause-history
+returns-clause-history c = λ o history s. ap (λ (d : TxnValue). d.prefix) c.self.view_is ∙ prefix_is o (heard o history) c.args.self.now s

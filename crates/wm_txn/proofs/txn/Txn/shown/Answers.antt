@@ -3,5 +3,5 @@ use Rattle.wm_txn.specs.Heard.{heard}
 use Rattle.wm_txn.proofs.ReadingLemmas.{shown_is}
 use Rattle.wm_txn.proofs.txn.Txn.shown.Goals as goal
 
-pub returns : goal.returns
-returns c = λ o history s. c.shown_of.ensures ∙ shown_is o (heard o history) c.args.self.now s c.args.view
+pub returns-clause-history : goal.returns-clause-history
+returns-clause-history c = λ o history s. c.shown_of.ensures ∙ shown_is o (heard o history) c.args.self.now s c.args.view

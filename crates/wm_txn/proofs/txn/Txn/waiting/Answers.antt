@@ -3,5 +3,5 @@ use Rattle.wm_txn.specs.Heard.{heard}
 use Rattle.wm_txn.proofs.ReadingLemmas.{waiting_is}
 use Rattle.wm_txn.proofs.txn.Txn.waiting.Goals as goal
 
-pub returns : goal.returns
-returns c = λ o history s. c.waiting_of.ensures ∙ waiting_is o (heard o history) c.args.self.now s
+pub returns-clause-history : goal.returns-clause-history
+returns-clause-history c = λ o history s. c.waiting_of.ensures ∙ waiting_is o (heard o history) c.args.self.now s
