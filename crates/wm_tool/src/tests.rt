@@ -1,6 +1,7 @@
 //! Runs of the tool over objects in memory, at calls that fail and calls that do not.
 use crate::{Refused, Status, tool};
 use std::alloc::Global;
+use std::process::Abort;
 use std::test::Fail;
 use wm_base::List;
 use wm_criteria::ListBuild;
@@ -42,6 +43,18 @@ pub fn is_done(status: &Status, refused: &[Refused]) -> bool {
     }
 }
 
+/// That these scripts end with these numbers, and write these texts.
+fn expect(rt: &impl Abort, alloc: Global, cases: &[(&str, u8, &str)]) -> Result<(), Fail> {
+    for (script, number, text) in cases {
+        let mut bytes = Vec::new(alloc);
+        bytes.extend_from_slice(script.as_bytes())?;
+        let (ended, written) = replayed(alloc, bytes, 0, 0)?;
+        assert_eq!(rt; ended.number(), *number, "{script}");
+        assert_eq!(rt; written.as_slice(), text.as_bytes(), "{script}");
+    }
+    Ok(())
+}
+
 #[test]
 fn scripts_and_what_they_tell(rt: HostRuntime) -> Result<(), Fail> {
     let cases = [
@@ -69,6 +82,13 @@ fn scripts_and_what_they_tell(rt: HostRuntime) -> Result<(), Fail> {
         ("paint\n\npaint\n", 3, ""),
         ("map 00000g 1x1\n", 3, ""),
         ("map 000000 16385x1\n", 3, ""),
+    ];
+    expect(&rt, rt.alloc(), &cases)
+}
+
+#[test]
+fn lines_of_the_plan(rt: HostRuntime) -> Result<(), Fail> {
+    let cases = [
         (
             "gaps outer 5\ngaps inner 10\nmap 000001 9x9\nmap 000002 9x9\npaint\n",
             0,
@@ -84,14 +104,7 @@ fn scripts_and_what_they_tell(rt: HostRuntime) -> Result<(), Fail> {
         ("gaps inner 1001\n", 3, ""),
         ("paint\ngaps inner 1\n", 3, ""),
     ];
-    for (script, number, text) in cases {
-        let mut bytes = Vec::new(rt.alloc());
-        bytes.extend_from_slice(script.as_bytes())?;
-        let (ended, written) = replayed(rt.alloc(), bytes, 0, 0)?;
-        assert_eq!(rt; ended.number(), number, "{script}");
-        assert_eq!(rt; written.as_slice(), text.as_bytes(), "{script}");
-    }
-    Ok(())
+    expect(&rt, rt.alloc(), &cases)
 }
 
 #[test]
