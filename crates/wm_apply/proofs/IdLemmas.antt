@@ -18,7 +18,10 @@ use Rattle.wm_grammar.specs.declared.command.Command.{Command}
 use Rattle.wm_grammar.specs.declared.command.Command.TheVariants as commands
 use Rattle.wm_showing.proofs.RiseLemmas.{ids_focusing, ids_same as as_same, output_same, over_same}
 use Rattle.wm_showing.specs.Showing.{output_focused}
-use Rattle.wm_spaces.proofs.RiseLemmas.{ids_renamed, ids_shown}
+use Rattle.wm_apply.specs.OutputRows.{output_some, to_output_tree}
+use Rattle.wm_showing.specs.Showing.{shown_on}
+use Rattle.wm_spaces.proofs.RiseLemmas.{ids_goal_sent, ids_output_focused, ids_renamed, ids_sent_some, ids_shown}
+use Rattle.wm_spaces.specs.Outs.{output_at}
 use Rattle.wm_spaces.specs.Renaming.{renamed_space}
 use Rattle.wm_spaces.specs.Targets.{goal_of}
 use Rattle.wm_tree.specs.Ids.{IdsRise}
@@ -110,6 +113,14 @@ ids_gone None t = ids_refl t
 ids_gone (Some (goals.Node n)) t = ids_focusing_some (leaf t n) t
 ids_gone (Some (goals.Output o)) t = as_same t (output_focused o t) (output_same o t)
 
+ids_output_some : (o : Option ConId) (t : TreeValue) → IdsRise t (output_some o t)
+ids_output_some None t = ids_refl t
+ids_output_some (Some o) t = ids_output_focused o t
+
+ids_to_output : (o : Option ConId) (c : ConId) (t : TreeValue) → IdsRise t (to_output_tree o c t)
+ids_to_output None c t = ids_refl t
+ids_to_output (Some o) c t = ids_sent_some (shown_on o t) c t
+
 pub ids_row : (homes : List (List ℕ × List ℕ)) (how : How) (command : Command) (c : ConId) (t : TreeValue) → IdsRise t (row_tree homes how command c t)
 ids_row homes how (commands.Split arg) c t = ids_split c _ t
 ids_row homes how (commands.SetLayout arg) c t = ids_laid c _ t
@@ -123,6 +134,9 @@ ids_row homes how (commands.MoveToMark name) c t = ids_moved_after c _ t
 ids_row homes how (commands.Swap arg) c t = ids_exchanged c _ t
 ids_row homes how (commands.Mark add toggle name) c t = ids_mark c name add toggle t
 ids_row homes how (commands.Unmark name) c t = ids_unmark (unmark_subject how c) name t
+ids_row homes how (commands.FocusOutput arg) c t = ids_output_some (output_at c arg t) t
+ids_row homes how (commands.MoveToOutput arg) c t = ids_to_output (output_at c arg t) c t
+ids_row homes how (commands.MoveToWorkspace target) c t = ids_goal_sent (goal_of target t) c homes t
 ids_row homes how other c t = ids_refl t
 
 -- ---- subjects, commands and groups

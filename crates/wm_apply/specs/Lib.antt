@@ -1,4 +1,5 @@
 pub mod Batches
 pub mod Commands
+pub mod OutputRows
 pub mod Rows
 pub mod Subjects

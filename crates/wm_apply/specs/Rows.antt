@@ -13,6 +13,8 @@ use Rattle.wm_focus.specs.Moves.{move_dir_refusal, move_dir_tree}
 use Rattle.wm_focus.specs.Parents.{focus_child_refusal, focus_child_tree, focus_parent_refusal, focus_parent_tree}
 use Rattle.wm_focus.specs.Splits.{cycle_layout_refusal, cycle_layout_tree, set_layout_refusal, set_layout_tree, split_refusal, split_tree}
 use Rattle.wm_focus.specs.Swaps.{move_to_mark_refusal, move_to_mark_tree, swap_refusal, swap_tree}
+use Rattle.wm_apply.specs.OutputRows.{focus_output_refusal, focus_output_tree, move_to_output_refusal, move_to_output_tree}
+use Rattle.wm_spaces.specs.Sending.{send_to_refusal, send_to_tree}
 use Rattle.wm_spaces.specs.Renaming.{rename_refusal, rename_tree}
 use Rattle.wm_spaces.specs.Shows.{show_refusal, show_tree}
 use Rattle.wm_tree.specs.TreeValue.{TreeValue}
@@ -58,6 +60,9 @@ row_refusal homes how (commands.MoveToMark name) c t = move_to_mark_refusal c na
 row_refusal homes how (commands.Swap arg) c t = swap_refusal c arg t
 row_refusal homes how (commands.Mark add toggle name) c t = mark_refusal c name add toggle t
 row_refusal homes how (commands.Unmark name) c t = unmark_refusal (unmark_subject how c) name t
+row_refusal homes how (commands.FocusOutput arg) c t = focus_output_refusal c arg t
+row_refusal homes how (commands.MoveToOutput arg) c t = move_to_output_refusal c arg t
+row_refusal homes how (commands.MoveToWorkspace target) c t = send_to_refusal c target homes t
 row_refusal homes how other c t = Some (NoTarget errors.NotBuilt)
 
 -- the tree that the command leaves, where it is not refused on the subject c
@@ -74,4 +79,7 @@ row_tree homes how (commands.MoveToMark name) c t = move_to_mark_tree c name t
 row_tree homes how (commands.Swap arg) c t = swap_tree c arg t
 row_tree homes how (commands.Mark add toggle name) c t = mark_tree c name add toggle t
 row_tree homes how (commands.Unmark name) c t = unmark_tree (unmark_subject how c) name t
+row_tree homes how (commands.FocusOutput arg) c t = focus_output_tree c arg t
+row_tree homes how (commands.MoveToOutput arg) c t = move_to_output_tree c arg t
+row_tree homes how (commands.MoveToWorkspace target) c t = send_to_tree c target homes t
 row_tree homes how other c t = t

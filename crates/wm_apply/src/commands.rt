@@ -22,6 +22,7 @@ fn is_built(command: &Command) -> bool
         Command::Focus | Command::FocusDir(_) | Command::FocusParent | Command::FocusChild => true,
         Command::MoveDir(..) | Command::MoveToMark(_) | Command::Swap(_) => true,
         Command::Mark { .. } | Command::Unmark(_) => true,
+        Command::FocusOutput(_) | Command::MoveToOutput(_) | Command::MoveToWorkspace(_) => true,
         Command::Workspace(_) | Command::Rename(..) => true,
         Command::Nop | Command::Idle | Command::Exit => true,
         _ => false,

@@ -4,6 +4,7 @@
 mod applied;
 mod batches;
 mod commands;
+mod outputs;
 mod rows;
 mod subjects;
 mod targets;

@@ -6,13 +6,14 @@ ghost use Rattle.wm_showing.specs.Showing.{focusing};
 ghost use Rattle.wm_showing.specs.Subject.{IsSubject};
 ghost use Rattle.wm_tree.specs.Sound.{IsSound};
 
+use crate::outputs::{focus_named, send_to_named};
 use wm_base::{ConId, ErrorText, NoMemory, Refusal, Text};
 use wm_focus::{
     cycle_layout, focus_child, focus_dir, focus_parent, mark, move_dir, move_to_mark, set_layout,
     split, swap, unmark,
 };
 use wm_grammar::Command;
-use wm_spaces::{rename, show};
+use wm_spaces::{rename, send_to, show};
 use wm_tree::Tree;
 
 /// How a command came to its subject: criteria matched it, it was handed in, or it is the focused one.
@@ -51,6 +52,9 @@ pub fn run_row(
         Command::Swap(arg) => swap(t, con, arg),
         Command::Mark { add, toggle, name } => mark(t, con, name, *add, *toggle),
         Command::Unmark(name) => unmark(t, how.unmark_subject(con), name.as_ref()),
+        Command::FocusOutput(arg) => focus_named(t, con, arg),
+        Command::MoveToOutput(arg) => send_to_named(t, con, arg),
+        Command::MoveToWorkspace(target) => send_to(t, con, target, homes),
         _ => Err(Refusal::NoTarget(ErrorText::NotBuilt)),
     }
 }

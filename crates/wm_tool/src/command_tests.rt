@@ -117,3 +117,71 @@ fn scripts_on_nested_containers(rt: HostRuntime) -> Result<(), Fail> {
     }
     Ok(())
 }
+
+#[test]
+fn texts_on_workspaces(rt: HostRuntime) -> Result<(), Fail> {
+    let none = "no such output";
+    let reserved = "that name is reserved";
+    let cases = [
+        (
+            "workspace 2; workspace back_and_forth; workspace __x",
+            "",
+            "",
+            reserved,
+        ),
+        (
+            "rename workspace 9 to a; rename workspace to __a; rename workspace to a",
+            "no such workspace",
+            reserved,
+            "",
+        ),
+        (
+            "workspace b; rename workspace 1 to c; rename workspace to c",
+            "",
+            "",
+            "that name is taken",
+        ),
+        (
+            "focus output X; move to output left; move to workspace 2",
+            none,
+            none,
+            "",
+        ),
+        (
+            "workspace back_and_forth; move to workspace next; workspace 7: x",
+            "no workspace before this one",
+            "",
+            "",
+        ),
+    ];
+    for (text, first, second, third) in cases {
+        let answered = is_answered(
+            rt.alloc(),
+            "map 000001 9x9\n",
+            text,
+            &[first, second, third],
+        )?;
+        assert!(rt; answered, "{text}");
+    }
+    Ok(())
+}
+
+#[test]
+fn scripts_on_workspaces(rt: HostRuntime) -> Result<(), Fail> {
+    let cases = [
+        (
+            "run workspace 2\npaint\n",
+            "[{\"success\":true}]\nframe 1 1\nback 4 0,0 1000x800\nend\n",
+        ),
+        (
+            "map 000001 9x9\nmap 000002 9x9\nrun move to workspace mail, workspace mail\npaint\nrun [con_id=4] focus\npaint\n",
+            "back 6 0,0 1000x800\nwindow 5 0,0 1000x800 000002 9x9\nend\n[{\"success\":true}]\nframe 4 4\nback 3 0,0 1000x800\nwindow 4 0,0 1000x800 000001 9x9\nend\n",
+        ),
+    ];
+    for (script, text) in cases {
+        let (ended, written) = replayed(rt.alloc(), script)?;
+        assert_eq!(rt; ended, 0, "{script}");
+        assert!(rt; written.ends_with(text.as_bytes()), "{script}");
+    }
+    Ok(())
+}

@@ -1,0 +1,51 @@
+//! Commands on one subject that name an output.
+ghost use Rattle.std.specs.Prelude.{◌≡◌, None, OnOk, OnErr, IfErr};
+ghost use Rattle.wm_apply.specs.OutputRows.{focus_output_refusal, focus_output_tree, move_to_output_refusal, move_to_output_tree};
+ghost use Rattle.wm_showing.specs.Refusing.{IsCause};
+ghost use Rattle.wm_showing.specs.Subject.{IsSubject};
+ghost use Rattle.wm_tree.specs.Sound.{IsSound};
+
+use wm_base::{ConId, ErrorText, Refusal};
+use wm_grammar::OutArg;
+use wm_showing::{is_hidden, is_space};
+use wm_spaces::{focus_output, output_at, send_to_output};
+use wm_tree::Tree;
+
+/// Makes the output that the command names the current one.
+pub fn focus_named(t: &mut Tree, con: ConId, arg: &OutArg) -> Result<(), Refusal>
+    requires { IsSubject t.old con }
+    ensures tree { OnOk result (t.new ≡ focus_output_tree con arg.now t.old) }
+    ensures fine { OnOk result (focus_output_refusal con arg.now t.old ≡ None) }
+    ensures err { OnErr result (t.new ≡ t.old) }
+    ensures cause { IfErr result (IsCause (focus_output_refusal con arg.now t.old)) }
+    ensures sound { IsSound t.new }
+{
+    if is_hidden(t, con) {
+        return Err(Refusal::NoTarget(ErrorText::NoWorkspace));
+    }
+    let Some(output) = output_at(t, con, arg) else {
+        return Err(Refusal::NoTarget(ErrorText::NoOutput));
+    };
+    focus_output(t, output)
+}
+
+/// Sends the container to what the output shows that the command names.
+pub fn send_to_named(t: &mut Tree, con: ConId, arg: &OutArg) -> Result<(), Refusal>
+    requires { IsSubject t.old con }
+    ensures tree { OnOk result (t.new ≡ move_to_output_tree con arg.now t.old) }
+    ensures fine { OnOk result (move_to_output_refusal con arg.now t.old ≡ None) }
+    ensures err { OnErr result (t.new ≡ t.old) }
+    ensures cause { IfErr result (IsCause (move_to_output_refusal con arg.now t.old)) }
+    ensures sound { IsSound t.new }
+{
+    if is_hidden(t, con) {
+        return Err(Refusal::NoTarget(ErrorText::NoWorkspace));
+    }
+    if is_space(t, con) {
+        return Err(Refusal::NoTarget(ErrorText::AtWorkspace));
+    }
+    let Some(output) = output_at(t, con, arg) else {
+        return Err(Refusal::NoTarget(ErrorText::NoOutput));
+    };
+    send_to_output(t, con, output)
+}
