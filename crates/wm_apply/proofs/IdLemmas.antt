@@ -18,16 +18,16 @@ use Rattle.wm_grammar.specs.declared.command.Command.{Command}
 use Rattle.wm_grammar.specs.declared.command.Command.TheVariants as commands
 use Rattle.wm_showing.proofs.RiseLemmas.{ids_focusing, ids_same as as_same, output_same, over_same}
 use Rattle.wm_showing.specs.Showing.{output_focused}
-use Rattle.wm_apply.specs.OutputRows.{output_some, to_output_tree}
+use Rattle.wm_apply.specs.OutputRows.{output_some, to_named_tree, to_output_tree}
 use Rattle.wm_showing.specs.Showing.{shown_on}
-use Rattle.wm_spaces.proofs.RiseLemmas.{ids_goal_sent, ids_output_focused, ids_renamed, ids_sent_some, ids_shown}
+use Rattle.wm_spaces.proofs.RiseLemmas.{ids_goal_sent, ids_output_focused, ids_renamed, ids_sent_some, ids_shown, ids_space_goes}
 use Rattle.wm_spaces.specs.Outs.{output_at}
 use Rattle.wm_spaces.specs.Renaming.{renamed_space}
 use Rattle.wm_spaces.specs.Targets.{goal_of}
 use Rattle.wm_tree.specs.Ids.{IdsRise}
 use Rattle.wm_tree.specs.declared.place.Place.TheVariants.{After}
 use Rattle.wm_tree.specs.Move.{exchanged, moved, unmarked, with_marks, wrapped}
-use Rattle.wm_tree.specs.TreeValue.{TreeValue, id, leaf}
+use Rattle.wm_tree.specs.TreeValue.{TreeValue, id, leaf, parent, workspace_of}
 use Rattle.wm_tree.specs.Words.{settled, with_raised}
 use Rattle.wm_tree.proofs.IdLemmas.{ids_raised, ids_refl, ids_settled, ids_trans, ids_wrapped}
 use Rattle.wm_apply.specs.declared.rows.How.{How}
@@ -121,6 +121,11 @@ ids_to_output : (o : Option ConId) (c : ConId) (t : TreeValue) → IdsRise t (to
 ids_to_output None c t = ids_refl t
 ids_to_output (Some o) c t = ids_sent_some (shown_on o t) c t
 
+ids_to_named : (o w : Option ConId) (t : TreeValue) → IdsRise t (to_named_tree o w t)
+ids_to_named None w t = ids_refl t
+ids_to_named (Some o) None t = ids_refl t
+ids_to_named (Some o) (Some w) t = ids_space_goes (parent t w) w o t
+
 pub ids_row : (homes : List (List ℕ × List ℕ)) (how : How) (command : Command) (c : ConId) (t : TreeValue) → IdsRise t (row_tree homes how command c t)
 ids_row homes how (commands.Split arg) c t = ids_split c _ t
 ids_row homes how (commands.SetLayout arg) c t = ids_laid c _ t
@@ -137,6 +142,7 @@ ids_row homes how (commands.Unmark name) c t = ids_unmark (unmark_subject how c)
 ids_row homes how (commands.FocusOutput arg) c t = ids_output_some (output_at c arg t) t
 ids_row homes how (commands.MoveToOutput arg) c t = ids_to_output (output_at c arg t) c t
 ids_row homes how (commands.MoveToWorkspace target) c t = ids_goal_sent (goal_of target t) c homes t
+ids_row homes how (commands.MoveWorkspace arg) c t = ids_to_named (output_at c arg t) (workspace_of t c) t
 ids_row homes how other c t = ids_refl t
 
 -- ---- subjects, commands and groups

@@ -35,6 +35,7 @@ is_built (commands.Unmark name) = true
 is_built (commands.FocusOutput arg) = true
 is_built (commands.MoveToOutput arg) = true
 is_built (commands.MoveToWorkspace target) = true
+is_built (commands.MoveWorkspace arg) = true
 is_built (commands.Workspace target) = true
 is_built (commands.Rename was name) = true
 is_built commands.Nop = true

@@ -8,9 +8,10 @@ use Rattle.wm_grammar.specs.declared.arguments.OutArg.{OutArg}
 use Rattle.wm_showing.specs.Refusing.{error_if}
 use Rattle.wm_showing.specs.Showing.{output_focused}
 use Rattle.wm_showing.specs.Subject.{is_hidden, is_space}
+use Rattle.wm_spaces.specs.Moving.{move_workspace_refusal, move_workspace_tree}
 use Rattle.wm_spaces.specs.Outs.{output_at}
 use Rattle.wm_spaces.specs.Sending.{send_to_output_refusal, send_to_output_tree}
-use Rattle.wm_tree.specs.TreeValue.{TreeValue}
+use Rattle.wm_tree.specs.TreeValue.{TreeValue, workspace_of}
 
 -- ---- focusing an output
 
@@ -42,3 +43,23 @@ to_output_tree (Some o) c t = send_to_output_tree c o t
 
 abbrev pub move_to_output_tree : ConId → OutArg → TreeValue → TreeValue
 move_to_output_tree c arg t = to_output_tree (output_at c arg t) c t
+
+-- ---- moving a workspace to an output
+
+abbrev pub to_named_refusal : Option ConId → Option ConId → TreeValue → Option Refusal
+to_named_refusal None w t = Some (NoTarget errors.NoOutput)
+to_named_refusal (Some o) None t = None
+to_named_refusal (Some o) (Some w) t = move_workspace_refusal w o t
+
+-- one in the scratchpad has no workspace, and the output is to be there
+abbrev pub move_space_refusal : ConId → OutArg → TreeValue → Option Refusal
+move_space_refusal c arg t = error_if (is_hidden t c) errors.NoWorkspace (to_named_refusal (output_at c arg t) (workspace_of t c) t)
+
+abbrev pub to_named_tree : Option ConId → Option ConId → TreeValue → TreeValue
+to_named_tree None w t = t
+to_named_tree (Some o) None t = t
+to_named_tree (Some o) (Some w) t = move_workspace_tree w o t
+
+-- the workspace of c goes to the output
+abbrev pub move_space_tree : ConId → OutArg → TreeValue → TreeValue
+move_space_tree c arg t = to_named_tree (output_at c arg t) (workspace_of t c) t

@@ -13,7 +13,7 @@ use Rattle.wm_focus.specs.Moves.{move_dir_refusal, move_dir_tree}
 use Rattle.wm_focus.specs.Parents.{focus_child_refusal, focus_child_tree, focus_parent_refusal, focus_parent_tree}
 use Rattle.wm_focus.specs.Splits.{cycle_layout_refusal, cycle_layout_tree, set_layout_refusal, set_layout_tree, split_refusal, split_tree}
 use Rattle.wm_focus.specs.Swaps.{move_to_mark_refusal, move_to_mark_tree, swap_refusal, swap_tree}
-use Rattle.wm_apply.specs.OutputRows.{focus_output_refusal, focus_output_tree, move_to_output_refusal, move_to_output_tree}
+use Rattle.wm_apply.specs.OutputRows.{focus_output_refusal, focus_output_tree, move_space_refusal, move_space_tree, move_to_output_refusal, move_to_output_tree}
 use Rattle.wm_spaces.specs.Sending.{send_to_refusal, send_to_tree}
 use Rattle.wm_spaces.specs.Renaming.{rename_refusal, rename_tree}
 use Rattle.wm_spaces.specs.Shows.{show_refusal, show_tree}
@@ -63,6 +63,7 @@ row_refusal homes how (commands.Unmark name) c t = unmark_refusal (unmark_subjec
 row_refusal homes how (commands.FocusOutput arg) c t = focus_output_refusal c arg t
 row_refusal homes how (commands.MoveToOutput arg) c t = move_to_output_refusal c arg t
 row_refusal homes how (commands.MoveToWorkspace target) c t = send_to_refusal c target homes t
+row_refusal homes how (commands.MoveWorkspace arg) c t = move_space_refusal c arg t
 row_refusal homes how other c t = Some (NoTarget errors.NotBuilt)
 
 -- the tree that the command leaves, where it is not refused on the subject c
@@ -82,4 +83,5 @@ row_tree homes how (commands.Unmark name) c t = unmark_tree (unmark_subject how 
 row_tree homes how (commands.FocusOutput arg) c t = focus_output_tree c arg t
 row_tree homes how (commands.MoveToOutput arg) c t = move_to_output_tree c arg t
 row_tree homes how (commands.MoveToWorkspace target) c t = send_to_tree c target homes t
+row_tree homes how (commands.MoveWorkspace arg) c t = move_space_tree c arg t
 row_tree homes how other c t = t

@@ -41,6 +41,7 @@ impl Running {
     /// Runs one command on what its group acts on.
     fn command(
         &mut self,
+        alloc: Global,
         homes: &[(Text, Text)],
         targets: &Targets,
         command: &Command,
@@ -49,7 +50,7 @@ impl Running {
         ensures done { OnOk result (self.new ≡ command_done homes.now targets.now command.now self.old) }
         ensures sound { OnOk result (IsSound self.new.tree) }
     {
-        let reply = run_command(&mut self.tree, homes, targets, command)?;
+        let reply = run_command(alloc, &mut self.tree, homes, targets, command)?;
         self.replies.push(reply)?;
         self.exit = self.exit || is_exit(command);
         Ok(())
@@ -58,6 +59,7 @@ impl Running {
     /// Runs the commands of a group, one after another.
     fn commands(
         &mut self,
+        alloc: Global,
         homes: &[(Text, Text)],
         targets: &Targets,
         commands: &[Command],
@@ -68,7 +70,7 @@ impl Running {
     {
         let mut rest = commands;
         while let [command, after @ ..] = rest {
-            self.command(homes, targets, command)?;
+            self.command(alloc, homes, targets, command)?;
             rest = after;
         }
         Ok(())
@@ -116,7 +118,7 @@ impl Running {
         let mut rest = groups;
         while let [group, after @ ..] = rest {
             let targets = self.targets(alloc, p, number, group, subject)?;
-            self.commands(homes, &targets, group.commands.items())?;
+            self.commands(alloc, homes, &targets, group.commands.items())?;
             number += 1;
             rest = after;
         }

@@ -8,6 +8,7 @@ use crate::applied::CommandReply;
 use crate::rows::{How, run_whole};
 use crate::subjects::{run_each, text_of};
 use crate::targets::Targets;
+use std::alloc::Global;
 use wm_base::{ConId, ErrorText, NoMemory, Text};
 use wm_grammar::Command;
 use wm_showing::is_subject;
@@ -23,6 +24,7 @@ fn is_built(command: &Command) -> bool
         Command::MoveDir(..) | Command::MoveToMark(_) | Command::Swap(_) => true,
         Command::Mark { .. } | Command::Unmark(_) => true,
         Command::FocusOutput(_) | Command::MoveToOutput(_) | Command::MoveToWorkspace(_) => true,
+        Command::MoveWorkspace(_) => true,
         Command::Workspace(_) | Command::Rename(..) => true,
         Command::Nop | Command::Idle | Command::Exit => true,
         _ => false,
@@ -80,6 +82,7 @@ fn subject(t: &Tree, con: ConId) -> ConId
 
 /// Runs one command on what its group acts on.
 pub fn run_command(
+    alloc: Global,
     t: &mut Tree,
     homes: &[(Text, Text)],
     targets: &Targets,
@@ -100,9 +103,9 @@ pub fn run_command(
         return run_all(t, homes, command);
     }
     match targets {
-        Targets::Matched(cons) => run_matched(t, homes, command, cons.items()),
-        Targets::Handed(con) => run_handed(t, homes, command, *con),
-        Targets::Focused => run_focused(t, homes, command),
+        Targets::Matched(cons) => run_matched(alloc, t, homes, command, cons.items()),
+        Targets::Handed(con) => run_handed(alloc, t, homes, command, *con),
+        Targets::Focused => run_focused(alloc, t, homes, command),
     }
 }
 
@@ -128,6 +131,7 @@ fn run_all(
 
 /// Runs a command on the containers that criteria matched.
 fn run_matched(
+    alloc: Global,
     t: &mut Tree,
     homes: &[(Text, Text)],
     command: &Command,
@@ -144,11 +148,12 @@ fn run_matched(
     if is_mark(command) && count_there(t, cons) >= 2 {
         return Ok(CommandReply::Error(ErrorText::ManyMatch));
     }
-    run_each(t, homes, How::Matched, command, cons)
+    run_each(alloc, t, homes, How::Matched, command, cons)
 }
 
 /// Runs a command on the subject that was handed in.
 fn run_handed(
+    alloc: Global,
     t: &mut Tree,
     homes: &[(Text, Text)],
     command: &Command,
@@ -160,11 +165,12 @@ fn run_handed(
     ensures sound { IsSound t.new }
 {
     let con = subject(t, con);
-    run_each(t, homes, How::Handed, command, &[con])
+    run_each(alloc, t, homes, How::Handed, command, &[con])
 }
 
 /// Runs a command on the focused container.
 fn run_focused(
+    alloc: Global,
     t: &mut Tree,
     homes: &[(Text, Text)],
     command: &Command,
@@ -175,5 +181,5 @@ fn run_focused(
     ensures sound { IsSound t.new }
 {
     let con = t.focused();
-    run_each(t, homes, How::Focused, command, &[con])
+    run_each(alloc, t, homes, How::Focused, command, &[con])
 }

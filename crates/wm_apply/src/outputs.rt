@@ -1,14 +1,15 @@
 //! Commands on one subject that name an output.
 ghost use Rattle.std.specs.Prelude.{◌≡◌, None, OnOk, OnErr, IfErr};
-ghost use Rattle.wm_apply.specs.OutputRows.{focus_output_refusal, focus_output_tree, move_to_output_refusal, move_to_output_tree};
+ghost use Rattle.wm_apply.specs.OutputRows.{focus_output_refusal, focus_output_tree, move_space_refusal, move_space_tree, move_to_output_refusal, move_to_output_tree};
 ghost use Rattle.wm_showing.specs.Refusing.{IsCause};
 ghost use Rattle.wm_showing.specs.Subject.{IsSubject};
 ghost use Rattle.wm_tree.specs.Sound.{IsSound};
 
+use std::alloc::Global;
 use wm_base::{ConId, ErrorText, Refusal};
 use wm_grammar::OutArg;
 use wm_showing::{is_hidden, is_space};
-use wm_spaces::{focus_output, output_at, send_to_output};
+use wm_spaces::{focus_output, move_workspace, output_at, send_to_output};
 use wm_tree::Tree;
 
 /// Makes the output that the command names the current one.
@@ -48,4 +49,30 @@ pub fn send_to_named(t: &mut Tree, con: ConId, arg: &OutArg) -> Result<(), Refus
         return Err(Refusal::NoTarget(ErrorText::NoOutput));
     };
     send_to_output(t, con, output)
+}
+
+/// Moves the workspace of the container to the output that the command names.
+pub fn move_space_to_named(
+    alloc: Global,
+    t: &mut Tree,
+    con: ConId,
+    arg: &OutArg,
+) -> Result<(), Refusal>
+    requires { IsSubject t.old con }
+    ensures tree { OnOk result (t.new ≡ move_space_tree con arg.now t.old) }
+    ensures fine { OnOk result (move_space_refusal con arg.now t.old ≡ None) }
+    ensures err { OnErr result (t.new ≡ t.old) }
+    ensures cause { IfErr result (IsCause (move_space_refusal con arg.now t.old)) }
+    ensures sound { IsSound t.new }
+{
+    if is_hidden(t, con) {
+        return Err(Refusal::NoTarget(ErrorText::NoWorkspace));
+    }
+    let Some(output) = output_at(t, con, arg) else {
+        return Err(Refusal::NoTarget(ErrorText::NoOutput));
+    };
+    let Some(w) = t.workspace_of(con) else {
+        return Ok(());
+    };
+    move_workspace(alloc, t, w, output)
 }

@@ -6,7 +6,8 @@ ghost use Rattle.wm_showing.specs.Showing.{focusing};
 ghost use Rattle.wm_showing.specs.Subject.{IsSubject};
 ghost use Rattle.wm_tree.specs.Sound.{IsSound};
 
-use crate::outputs::{focus_named, send_to_named};
+use crate::outputs::{focus_named, move_space_to_named, send_to_named};
+use std::alloc::Global;
 use wm_base::{ConId, ErrorText, NoMemory, Refusal, Text};
 use wm_focus::{
     cycle_layout, focus_child, focus_dir, focus_parent, mark, move_dir, move_to_mark, set_layout,
@@ -26,6 +27,7 @@ pub enum How {
 
 /// Does a command to one subject. The tree is not settled.
 pub fn run_row(
+    alloc: Global,
     t: &mut Tree,
     homes: &[(Text, Text)],
     how: How,
@@ -55,6 +57,7 @@ pub fn run_row(
         Command::FocusOutput(arg) => focus_named(t, con, arg),
         Command::MoveToOutput(arg) => send_to_named(t, con, arg),
         Command::MoveToWorkspace(target) => send_to(t, con, target, homes),
+        Command::MoveWorkspace(arg) => move_space_to_named(alloc, t, con, arg),
         _ => Err(Refusal::NoTarget(ErrorText::NotBuilt)),
     }
 }

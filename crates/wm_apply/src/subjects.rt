@@ -7,6 +7,7 @@ ghost use Rattle.wm_tree.specs.Sound.{IsSound};
 
 use crate::applied::CommandReply;
 use crate::rows::{How, run_row};
+use std::alloc::Global;
 use wm_base::{ConId, ErrorText, Limit, NoMemory, Refusal, Text};
 use wm_grammar::Command;
 use wm_showing::is_subject;
@@ -42,6 +43,7 @@ pub fn text_of(refusal: Refusal) -> Result<ErrorText, NoMemory>
 /// Does a command to one subject, and settles the tree. Gives the error of a subject that refuses; one that is gone is
 /// passed over.
 fn run_one(
+    alloc: Global,
     t: &mut Tree,
     homes: &[(Text, Text)],
     how: How,
@@ -56,7 +58,7 @@ fn run_one(
     if !is_subject(t, con) {
         return Ok(None);
     }
-    match run_row(t, homes, how, command, con) {
+    match run_row(alloc, t, homes, how, command, con) {
         Ok(()) => {
             t.settle();
             Ok(None)
@@ -67,6 +69,7 @@ fn run_one(
 
 /// Does a command to each of the subjects that is still there. Gives the first error.
 pub fn run_each(
+    alloc: Global,
     t: &mut Tree,
     homes: &[(Text, Text)],
     how: How,
@@ -81,7 +84,7 @@ pub fn run_each(
     let mut first = None;
     let mut rest = cons;
     while let [con, after @ ..] = rest {
-        first = first.or(run_one(t, homes, how, command, *con)?);
+        first = first.or(run_one(alloc, t, homes, how, command, *con)?);
         rest = after;
     }
     Ok(match first {

@@ -6,12 +6,19 @@ use Rattle.wm_base.specs.declared.ids.ConId.{ConId}
 use Rattle.wm_grammar.specs.declared.arguments.SwapArg.{SwapArg}
 use Rattle.wm_tree.specs.declared.place.Place.TheVariants.{After}
 use Rattle.wm_tree.specs.Look.{same}
-use Rattle.wm_tree.specs.Move.{exchanged, moved}
+use Rattle.wm_tree.specs.declared.kind.KindEdit.TheVariants as edits
+use Rattle.wm_tree.specs.Move.{apart, exchanged, moved}
+use Rattle.wm_tree.specs.Outputs.{heir, left_to}
 use Rattle.wm_tree.specs.Sound.{IsSound, ranked, times}
-use Rattle.wm_tree.specs.TreeValue.{TreeValue, shown}
+use Rattle.wm_tree.specs.TreeValue.{TreeValue, current, root, shown}
+use Rattle.wm_tree.specs.Words.{edited}
 use Rattle.wm_focus.specs.Moves.{beside, entry, held_out, is_split_con, move_dir_tree, near_end, out_tree, over_tree, side_of, space_over, step_tree, turned}
 use Rattle.wm_showing.specs.Outputs.{output_of}
-use Rattle.wm_showing.specs.Showing.{current_some, entered, space_name}
+use Rattle.wm_showing.proofs.RiseLemmas.{output_same}
+use Rattle.wm_showing.specs.Showing.{current_some, entered, output_focused, shown_on, space_name}
+use Rattle.wm_spaces.specs.Coming.{left_output, output_gone, output_gone_some, output_removed_tree}
+use Rattle.wm_spaces.specs.Names.{output_named}
+use Rattle.wm_spaces.specs.Sending.{send_to_output_tree, sent_place, sent_some}
 use Rattle.wm_focus.specs.Marks.{holder_of}
 use Rattle.wm_focus.specs.Swaps.{exchanged_with, move_to_mark_tree, moved_after, partner, swap_tree}
 
@@ -69,3 +76,42 @@ marked_keeps result c name old new s r done refused = kept old new s r (recency_
 pub swapped_keeps : (result : Result (Unit {0}) Refusal) (c : ConId) (arg : SwapArg) (old new : TreeValue) → IsSound old → IsSound new
     → OnOk result (new ≡ swap_tree c arg old) → OnErr result (new ≡ old) → (i : ConId) → ranked i new.nodes ≡ ranked i old.nodes
 swapped_keeps result c arg old new s r done refused = kept old new s r (recency_by result old new (swap_tree c arg old) (with_recency c (partner arg old) old) done refused)
+
+sent_recency : (c : ConId) (w : Option ConId) (t : TreeValue) → (sent_some w c t).recency ≡ t.recency
+sent_recency c None t = refl
+sent_recency c (Some w) t = by_test (apart t c w)
+  where
+    by_test : (b : Bool) → (cond b (moved c (sent_place c w t) t) t).recency ≡ t.recency
+    by_test true = refl
+    by_test false = refl
+
+pub sent_keeps : (result : Result (Unit {0}) Refusal) (c o : ConId) (old new : TreeValue) → IsSound old → IsSound new
+    → OnOk result (new ≡ send_to_output_tree c o old) → OnErr result (new ≡ old) → (i : ConId) → ranked i new.nodes ≡ ranked i old.nodes
+sent_keeps result c o old new s r done refused = kept old new s r (recency_by result old new (send_to_output_tree c o old) (sent_recency c (shown_on o old) old) done refused)
+
+handed_recency : (h : Option ConId) (o : ConId) (t : TreeValue) → (left_to h o t).recency ≡ t.recency
+handed_recency None o t = refl
+handed_recency (Some h) o t = by_test (same (current t) o)
+  where
+    by_test : (b : Bool) → (cond b (edited root (edits.Current h) t) t).recency ≡ t.recency
+    by_test true = refl
+    by_test false = refl
+
+left_recency : (o h : ConId) (t : TreeValue) → (left_output o h t).recency ≡ t.recency
+left_recency o h t = by_test (same (current t) o)
+  where
+    by_test : (b : Bool) → (cond b (output_focused h t) t).recency ≡ t.recency
+    by_test true = (output_same h t).recency
+    by_test false = refl
+
+gone_recency : (o : Option ConId) (t : TreeValue) → (output_gone_some o t).recency ≡ t.recency
+gone_recency None t = refl
+gone_recency (Some o) t = by_heir (heir o t.nodes)
+  where
+    by_heir : (h : Option ConId) → (output_gone h o t).recency ≡ t.recency
+    by_heir None = refl
+    by_heir (Some h) = handed_recency (heir o (left_output o h t).nodes) o (left_output o h t) ∙ left_recency o h t
+
+pub removed_keeps : (result : Result (Unit {0}) Refusal) (name : List ℕ) (old new : TreeValue) → IsSound old → IsSound new
+    → OnOk result (new ≡ output_removed_tree name old) → OnErr result (new ≡ old) → (i : ConId) → ranked i new.nodes ≡ ranked i old.nodes
+removed_keeps result name old new s r done refused = kept old new s r (recency_by result old new (output_removed_tree name old) (gone_recency (output_named name old) old) done refused)

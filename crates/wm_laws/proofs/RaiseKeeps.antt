@@ -28,7 +28,7 @@ unfull_twice_kind (Output o) = refl
 unfull_twice_kind (Space s) = refl
 unfull_twice_kind (Con c) = refl
 
-unfull_again : (x : ConId) (f : Forest) → tally nobody f ≡ 0 → unfull nobody (unfull x f) ≡ unfull nobody f
+pub unfull_again : (x : ConId) (f : Forest) → tally nobody f ≡ 0 → unfull nobody (unfull x f) ≡ unfull nobody f
 unfull_again x end low = refl
 unfull_again x (con part kids floats rest) low =
     step (same part.id nobody) (same part.id x) refl (unfull_again x kids (omega (arith, low))) (unfull_again x floats (omega (arith, low))) (unfull_again x rest (omega (arith, low)))

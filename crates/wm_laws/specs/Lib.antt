@@ -1,2 +1,4 @@
 pub mod Focusing
+pub mod Sending
+pub mod Showing
 pub mod Turning

@@ -125,8 +125,8 @@ sound_followed v w t ok_v ok_w s = step (same v w) refl where
 showable : (w : ConId) (t : TreeValue) → IsSound t → IsSpaceIn w t.nodes → IsShowable (parent t w) w t.nodes
 showable w t s ok = let p = placed w t s ok in rw p.held_by p.inside
 
-pub sound_showing : (w : ConId) (t : TreeValue) → is_space t w ≡ true → IsSound t → IsSound (showing w t)
-sound_showing w t h s =
+pub sound_there : (w : ConId) (t : TreeValue) → is_space t w ≡ true → IsSound t → IsSound (shown_there w (parent t w) t)
+sound_there w t h s =
     let ok = space_is w t h in
     let p = placed w t s ok in
     let t1 : TreeValue = with_current p.output t in
@@ -135,10 +135,15 @@ sound_showing w t h s =
     let s2 = sound-shown w t1 (showable w t1 s1 ok1) s1 in
     let v2 = shown_space_kept p.now w t1 (current_space_kept p.now p.output t p.now_space) in
     let s3 = sound_followed p.now w (with_shown w t1) v2 (shown_space_kept w w t1 ok1) s2 in
-    let there : IsSound (shown_there w (parent t w) t) = rw (p.held_by, p.shows) s3 in
-    sound_remembering t (shown_there w (parent t w) t) there
+    rw (p.held_by, p.shows) s3
 
 -- the new tree of a call
+pub there_by : (w : ConId) (t new : TreeValue) → new ≡ shown_there w (parent t w) t → is_space t w ≡ true → IsSound t → IsSound new
+there_by w t new e h s = rw e (sound_there w t h s)
+
+pub sound_showing : (w : ConId) (t : TreeValue) → is_space t w ≡ true → IsSound t → IsSound (showing w t)
+sound_showing w t h s = sound_remembering t (shown_there w (parent t w) t) (sound_there w t h s)
+
 pub showing_by : (w : ConId) (t new : TreeValue) → new ≡ showing w t → is_space t w ≡ true → IsSound t → IsSound new
 showing_by w t new e h s = rw e (sound_showing w t h s)
 

@@ -50,8 +50,11 @@ pub fn remember(t: &mut Tree, was: ConId, name: Option<Text>)
 
 /// Makes the workspace what its output shows, with the sticky windows of what it showed, and that output the current
 /// one.
-fn show_there(t: &mut Tree, w: ConId)
-    ensures { t.new ≡ shown_there w (parent t.old w) t.old }
+pub fn show_there(t: &mut Tree, w: ConId)
+    requires sound { IsSound t.old }
+    requires space { is_space t.old w ≡ true }
+    ensures tree { t.new ≡ shown_there w (parent t.old w) t.old }
+    ensures sound { IsSound t.new }
 {
     if let Some(output) = t.parent(w) {
         let was = shown_on(t, output);

@@ -1,5 +1,7 @@
+pub mod AsideLemmas
 pub mod ComingLemmas
 pub mod KeptLemmas
+pub mod MoveLemmas
 pub mod OrderLemmas
 pub mod OutLemmas
 pub mod RiseLemmas

@@ -3,20 +3,24 @@ use Rattle.std.proofs.Common.{ℕ, Bool, true, false, cond, List, Option, None, 
 use Rattle.wm_base.specs.declared.ids.ConId.{ConId}
 use Rattle.wm_showing.proofs.RiseLemmas.{ids_same, remembered_same, showing_same, there_same}
 use Rattle.wm_base.specs.declared.plan.OutputPlan.{OutputPlan}
-use Rattle.wm_showing.specs.Showing.{output_focused, remembering, showing, shown_there, space_name, with_current}
+use Rattle.wm_showing.specs.declared.keys.Key.{Key}
+use Rattle.wm_showing.specs.Showing.{output_focused, remembering, showing, shown_on, shown_there, space_name, with_current}
 use Rattle.wm_spaces.specs.Coming.{left_output, output_added_tree, output_gone, output_gone_some, free_name}
 use Rattle.wm_spaces.specs.declared.targets.Goal.{Goal}
 use Rattle.wm_spaces.specs.declared.targets.Goal.TheVariants.{There, Absent, Refused}
+use Rattle.wm_spaces.specs.Moving.{other_space, set_aside, showing_other, space_goes}
 use Rattle.wm_spaces.specs.Renaming.{renamed}
 use Rattle.wm_spaces.specs.Sending.{goal_sent, sent, sent_new, sent_place, sent_some}
 use Rattle.wm_spaces.specs.Shows.{goal_shown, showing_new, then_shown}
 use Rattle.wm_spaces.specs.Targets.{home}
-use Rattle.wm_tree.proofs.IdLemmas.{ids_edited, ids_moved, ids_refl, ids_trans, ids_with_output, ids_with_space, ids_without_output}
+use Rattle.wm_tree.proofs.IdLemmas.{ids_edited, ids_moved, ids_refl, ids_space_moved, ids_trans, ids_with_output, ids_with_space, ids_without_output}
 use Rattle.wm_tree.specs.declared.kind.KindEdit.TheVariants as edits
 use Rattle.wm_tree.specs.Ids.{IdsRise}
 use Rattle.wm_tree.specs.Look.{same}
 use Rattle.wm_tree.specs.Move.{apart, moved}
-use Rattle.wm_tree.specs.Outputs.{heir, with_space, without_output}
+use Rattle.wm_tree.specs.Change.{is_id}
+use Rattle.wm_tree.specs.Outputs.{heir, space_moved, with_space, without_output}
+use Rattle.wm_tree.specs.Sets.{shown_by, with_shown}
 use Rattle.wm_tree.specs.TreeValue.{TreeValue, current, id, parent, root, shown}
 
 ids_new : (o : ConId) (n : List ℕ) (t : TreeValue) → IdsRise t (showing_new o n t)
@@ -79,3 +83,38 @@ ids_gone (Some h) o t = ids_trans t (left_output o h t) (without_output o (left_
 pub ids_output_removed : (o : Option ConId) (t : TreeValue) → IdsRise t (output_gone_some o t)
 ids_output_removed None t = ids_refl t
 ids_output_removed (Some o) t = ids_gone (heir o t.nodes) o t
+
+-- ---- moving a workspace
+
+ids_now : (o : Option ConId) (v : ConId) (t : TreeValue) → IdsRise t (shown_by o v t)
+ids_now None v t = ids_refl t
+ids_now (Some o) v t = ids_edited o (edits.Shown v) t
+
+ids_showing_other : (k : Option Key) (p : ConId) (t : TreeValue) → IdsRise t (showing_other k p t)
+ids_showing_other (Some k) p t = ids_now (parent t k.id) k.id t
+ids_showing_other None p t =
+    let made : TreeValue = with_space p (free_name t) t in
+    ids_trans t made (with_shown (id t.next_id) made) (ids_with_space p (free_name t) t) (ids_now (parent made (id t.next_id)) (id t.next_id) made)
+
+ids_set_aside : (w p : ConId) (t : TreeValue) → IdsRise t (set_aside w p t)
+ids_set_aside w p t = by_test (is_id w (shown_on p t))
+  where
+    by_test : (b : Bool) → IdsRise t (cond b (showing_other (other_space w p t) p t) t)
+    by_test true = ids_showing_other (other_space w p t) p t
+    by_test false = ids_refl t
+
+pub ids_space_goes : (p : Option ConId) (w o : ConId) (t : TreeValue) → IdsRise t (space_goes p w o t)
+ids_space_goes None w o t = ids_refl t
+ids_space_goes (Some p) w o t = by_test (same p o)
+  where
+    put : TreeValue
+    put = space_moved w o (set_aside w p t)
+
+    there : TreeValue
+    there = shown_there w (parent put w) put
+
+    by_test : (b : Bool) → IdsRise t (cond b t (then_shown w t put))
+    by_test true = ids_refl t
+    by_test false =
+        ids_trans t put (then_shown w t put) (ids_trans t (set_aside w p t) put (ids_set_aside w p t) (ids_space_moved w o (set_aside w p t)))
+        (ids_trans put there (then_shown w t put) (ids_same put there (there_same w (parent put w) put)) (ids_same there (remembering t there) (remembered_same (shown t) (space_name (shown t) t) there)))

@@ -15,30 +15,6 @@ use Rattle.wm_tree.specs.Outputs.{IsOutput, IsSpaceCause, passed_by_space, with_
 use Rattle.wm_tree.specs.Sound.{IsSound}
 use Rattle.wm_tree.specs.TreeValue.{TreeValue, id, parent, shown}
 
--- the name of the previous workspace does not matter
-unremember : (old new : TreeValue) → IsSound (remembering old new) → IsSound new
-unremember old new s = step (same (shown old) (shown new)) s
-  where
-    step : (b : Bool) → IsSound (cond b new (record new { previous = space_name (shown old) old })) → IsSound new
-    step true s = s
-    step false s = record {
-      shaped = s.shaped;
-      rooted = s.rooted;
-      once = s.once;
-      fresh = s.fresh;
-      low = s.low;
-      above = s.above;
-      known = s.known;
-      few = s.few;
-      few_spaces = s.few_spaces;
-      few_marks = s.few_marks;
-      ids = s.ids;
-    }
-
--- the new tree of a call
-pub there_by : (w : ConId) (t new : TreeValue) → new ≡ shown_there w (parent t w) t → is_space t w ≡ true → IsSound t → IsSound new
-there_by w t new e h s = rw e (unremember t (shown_there w (parent t w) t) (sound_showing w t h s))
-
 -- a new workspace is one
 pub new_is : (o w : ConId) (n : List ℕ) (t new : TreeValue) → new ≡ with_space o n t → w ≡ id t.next_id → IsSound new → IsSound t → IsOutput o t.nodes → is_space new w ≡ true
 new_is o w n t new e i s_new s ok =

@@ -1,6 +1,6 @@
 -- What stands on an output is a workspace, and so is what a command names.
 use Rattle.std.proofs.Common.{◌≡◌, ◌≢◌, ℕ, ◌≤◌, Bool, true, false, cond, ◌||◌, ◌⊎◌, inl, inr, ⊎_elim, List, Option, None, Some, refl, ap, sym, ◌∙◌, subst, arith}
-use Rattle.std.specs.Prelude.{Err, IfOk, Ok, Result, is_some, option_and_then}
+use Rattle.std.specs.Prelude.{Err, IfOk, Ok, Result, is_some, not, option_and_then}
 use Rattle.std.specs.Option.{option_or}
 use Rattle.wm_base.specs.declared.errors.ErrorText.TheVariants as texts
 use Rattle.wm_base.specs.declared.ids.ConId.{ConId}
@@ -139,6 +139,34 @@ best_row back p (con part kids floats rest) m k h =
     (λ e. inl (rw (same_self part.id k.id (key_of p part.id (space_kind part.kind) k e)) refl))
     (λ e. ⊎_elim (λ i. inl (either (same part.id k.id) (in_row k.id rest) i)) (λ i. inr i) (best_row back p rest m k e))
     (better_from back (key_if p part.id (space_kind part.kind)) (best_with back (keys_in p rest) m) k (best_step back (key_if p part.id (space_kind part.kind)) m (keys_in p rest) ∙ h))
+
+-- the best one of a row is in it
+pub row_holds : (back : Bool) (row : Forest) (w : ConId) (k : Key) → best_with back (keys_in (picking.But w) row) None ≡ Some k → in_row k.id row ≡ true
+row_holds back row w k h = ⊎_elim (λ i. i) (λ e. cc) (best_row back (picking.But w) row None k h)
+
+-- and is looked at
+key_picked : (p : Pick) (c : ConId) (s : Option SpacePart) (k : Key) → key_if p c s ≡ Some k → picks p k ≡ true
+key_picked p c None k h = cc
+key_picked p c (Some s) k h = by_test (picks p (space_key c s.name)) refl h
+  where
+    by_test : (b : Bool) → picks p (space_key c s.name) ≡ b → cond b (Some (space_key c s.name)) None ≡ Some k → picks p k ≡ true
+    by_test true e h = let one : space_key c s.name ≡ k = cc in ap (picks p) (sym one) ∙ e
+    by_test false e h = cc
+
+best_picked : (back : Bool) (p : Pick) (row : Forest) (m : Option Key) (k : Key) → best_with back (keys_in p row) m ≡ Some k → (picks p k ≡ true) ⊎ (m ≡ Some k)
+best_picked back p end m k h = inr h
+best_picked back p (con part kids floats rest) m k h =
+    ⊎_elim
+    (λ e. inl (key_picked p part.id (space_kind part.kind) k e))
+    (λ e. best_picked back p rest m k e)
+    (better_from back (key_if p part.id (space_kind part.kind)) (best_with back (keys_in p rest) m) k (best_step back (key_if p part.id (space_kind part.kind)) m (keys_in p rest) ∙ h))
+
+-- one that is found beside w is another
+pub but_picked : (w : ConId) (row : Forest) (k : Key) → best_with false (keys_in (picking.But w) row) None ≡ Some k → same w k.id ≡ false
+but_picked w row k h = ⊎_elim (λ i. not_same i) (λ e. cc) (best_picked false (picking.But w) row None k h)
+  where
+    not_same : not (same k.id w) ≡ true → same w k.id ≡ false
+    not_same i = grind (arith, i)
 
 best_stands : (back : Bool) (p : Pick) (row : Forest) (k : Key) → best_on back p row ≡ Some k → stands_on k.id row ≡ true
 best_stands back p end k h = cc

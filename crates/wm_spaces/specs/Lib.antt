@@ -1,4 +1,5 @@
 pub mod Coming
+pub mod Moving
 pub mod Names
 pub mod Order
 pub mod Outs

@@ -1,5 +1,5 @@
 -- The order of workspaces: by the number with which the name begins, those without one last, and then by id.
-use Rattle.std.specs.Prelude.{ℕ, ◌+◌, ◌-◌, ◌*◌, Bool, true, false, ◌&&◌, ◌==◌, nat_le, if◌then◌else◌, List, [], ◌∷◌, Option, None, Some}
+use Rattle.std.specs.Prelude.{ℕ, ◌+◌, ◌-◌, ◌*◌, Bool, true, false, ◌&&◌, ◌==◌, nat_le, not, if◌then◌else◌, List, [], ◌∷◌, Option, None, Some}
 use Rattle.wm_base.specs.declared.ids.ConId.{ConId}
 use Rattle.wm_showing.specs.declared.keys.Key.{Key}
 use Rattle.wm_showing.specs.Keys.{comes_before, lesser, with_key}
@@ -7,7 +7,7 @@ use Rattle.wm_spaces.specs.declared.order.Pick.{Pick}
 use Rattle.wm_spaces.specs.declared.order.Pick.TheVariants as picking
 use Rattle.wm_tree.specs.declared.part.SpacePart.{SpacePart}
 use Rattle.wm_tree.specs.Forest.{Forest, end, con}
-use Rattle.wm_tree.specs.Look.{space_kind}
+use Rattle.wm_tree.specs.Look.{same, space_kind}
 
 -- ---- the number of a name
 
@@ -39,6 +39,7 @@ space_key c name = record { first = place_of (num name); id = c }
 
 abbrev pub picks : Pick → Key → Bool
 picks picking.All k = true
+picks (picking.But w) k = not (same k.id w)
 picks (picking.Behind j) k = comes_before j k
 picks (picking.Ahead j) k = comes_before k j
 picks (picking.Numbered n) k = k.first == n

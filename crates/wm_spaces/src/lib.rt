@@ -2,6 +2,7 @@
 #![tactic(auto)]
 
 mod coming;
+mod moving;
 mod names;
 mod order;
 mod outs;
@@ -13,6 +14,7 @@ mod targets;
 mod tests;
 
 pub use coming::{focus_output, output_added, output_removed};
+pub use moving::move_workspace;
 pub use outs::output_at;
 pub use renaming::rename;
 pub use sending::{send_to, send_to_output};

@@ -11,10 +11,11 @@ use wm_tree::{Cursor, NodeKind, Part};
 /// The greatest number with which a workspace's name begins.
 const MAX_NUM: u64 = 2_147_483_647;
 
-/// Which workspaces are looked at: all, those behind one in the order, those ahead of it, or those of a number.
+/// Which workspaces are looked at: all, all but one, those behind one in the order, those ahead of it, or those of a number.
 #[derive(Clone, Copy, Debug)]
 pub enum Pick {
     All,
+    But(ConId),
     Behind(Key),
     Ahead(Key),
     Numbered(u64),
@@ -69,6 +70,7 @@ impl Pick {
     {
         match self {
             Pick::All => true,
+            Pick::But(id) => key.id != id,
             Pick::Behind(other) => other.comes_before(key),
             Pick::Ahead(other) => key.comes_before(other),
             Pick::Numbered(n) => key.first == n,

@@ -11,7 +11,7 @@ ghost use Rattle.wm_tree.specs.TreeValue.{parent};
 use crate::targets::{Goal, find_goal, home};
 use wm_base::{ConId, NoMemory, Refusal, Text};
 use wm_grammar::Target;
-use wm_showing::{refused, remember, show_space, shown_on, space_name};
+use wm_showing::{refused, remember, show_space, show_there, space_name};
 use wm_tree::Tree;
 
 /// Shows the workspace that the command names, and makes it where it is not there: last on the output that the homes
@@ -61,32 +61,5 @@ fn show_new(t: &mut Tree, output: ConId, name: &Text) -> Result<(), Refusal>
             Ok(())
         }
         Err(error) => Err(refused(error)),
-    }
-}
-
-/// Makes the workspace what its output shows, with the sticky windows of what it showed, and that output the current
-/// one.
-fn show_there(t: &mut Tree, w: ConId)
-    requires sound { IsSound t.old }
-    requires space { is_space t.old w ≡ true }
-    ensures tree { t.new ≡ shown_there w (parent t.old w) t.old }
-    ensures sound { IsSound t.new }
-{
-    if let Some(output) = t.parent(w) {
-        let was = shown_on(t, output);
-        t.set_current(output);
-        t.set_shown(w);
-        follow(t, was, w);
-    }
-}
-
-/// Puts the sticky windows of what was shown into the workspace that comes in its place.
-fn follow(t: &mut Tree, was: Option<ConId>, w: ConId)
-    ensures { t.new ≡ followed was w t.old }
-{
-    if let Some(v) = was
-        && v != w
-    {
-        t.go_along(v, w);
     }
 }

@@ -80,7 +80,7 @@ fn focused_key(t: &Tree) -> Key
 }
 
 /// The row from this node on.
-fn node_at(row: Cursor<'_>, id: ConId) -> Cursor<'_>
+pub(crate) fn node_at(row: Cursor<'_>, id: ConId) -> Cursor<'_>
     ensures { result ≡ node_in id row.entry }
 {
     match row.part() {

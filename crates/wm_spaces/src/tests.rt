@@ -2,13 +2,15 @@
 ghost use Rattle.std.specs.Prelude.{IfOk};
 ghost use Rattle.wm_tree.specs.Sound.{IsOutputRect, IsSound};
 
-use crate::{output_added, output_at, output_removed, rename, send_to, show};
+use crate::{move_workspace, output_added, output_at, output_removed, rename, send_to, show};
 use std::alloc::Global;
 use std::process::Abort;
 use std::test::Fail;
-use wm_base::{Border, ConId, Dir, Edges, Layout, OutputPlan, Rect, Refusal, Text};
+use wm_base::{
+    Border, ConId, Dir, Edges, ErrorText, Layout, OutputPlan, Rect, Refusal, Text,
+};
 use wm_grammar::{OutArg, Target};
-use wm_showing::is_subject;
+use wm_showing::{is_space, is_subject};
 use wm_tree::{NewCon, Tree};
 
 fn text(alloc: Global, s: &str) -> Result<Text, Fail> {
@@ -144,5 +146,43 @@ fn containers_are_sent(rt: HostRuntime) -> Result<(), Fail> {
         Ok(())
     );
     assert_eq!(rt; tree.workspace_of(con), Some(ConId(7)));
+    Ok(())
+}
+
+/// Moves the workspace to the output that is named for it.
+fn move_named(alloc: Global, tree: &mut Tree, space: u32, arg: &OutArg) -> Result<(), Refusal>
+    requires { IsSound tree.old }
+    ensures { IsSound tree.new }
+{
+    let w = ConId(space);
+    let Some(output) = output_at(tree, w, arg) else {
+        return Err(Refusal::NoTarget(ErrorText::NoOutput));
+    };
+    if !is_space(tree, w) {
+        return Err(Refusal::NoTarget(ErrorText::NoWorkspace));
+    }
+    move_workspace(alloc, tree, w, output)
+}
+
+#[test]
+fn workspaces_are_moved(rt: HostRuntime) -> Result<(), Fail> {
+    let alloc = rt.alloc();
+    let mut tree = opened(alloc)?;
+    let cases = [
+        (4, OutArg::Current, 2, 4, None),
+        (4, OutArg::Next, 3, 4, None),
+        (4, OutArg::At(Dir::Left), 2, 4, None),
+        (5, OutArg::Primary, 2, 5, Some("1")),
+    ];
+    for (space, arg, output, shown, previous) in &cases {
+        assert_eq!(rt; move_named(alloc, &mut tree, *space, arg), Ok(()));
+        expect_shown(&rt, &tree, *output, *shown, *previous);
+    }
+    let rows = [(2, 0, 6), (2, 1, 4), (2, 2, 5), (3, 0, 7)];
+    for (output, number, space) in rows {
+        assert_eq!(rt; tree.child(ConId(output), number), Some(ConId(space)));
+    }
+    assert_eq!(rt; tree.space(ConId(6)).map(|s| s.name.as_str()), Some("3"));
+    assert_eq!(rt; tree.space(ConId(7)).map(|s| s.name.as_str()), Some("4"));
     Ok(())
 }
