@@ -1,5 +1,5 @@
 -- The groups of a text are run one after another, and numbered from 0.
-use Rattle.std.proofs.Common.{◌≡◌, ◌∙◌, sym, ap, ℕ, suc, ◌+◌, ◌-◌, ◌≤◌, get_or, List, [], ◌∷◌, length, take, drop, Option, arith, refl, ◌==◌, cond, false}
+use Rattle.std.proofs.Common.{◌≡◌, ◌∙◌, sym, ap, ℕ, suc, ◌+◌, ◌-◌, ◌≤◌, get_or, List, [], ◌∷◌, length, take, drop, Option, arith, refl}
 use Rattle.std.proofs.lemmas.List.{take_all}
 use Rattle.std.specs.List.{slice_get}
 use Rattle.std.specs.Option.{option_map_or}

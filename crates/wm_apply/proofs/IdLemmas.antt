@@ -1,5 +1,5 @@
 -- Commands let ids rise, and none that is gone comes back.
-use Rattle.std.proofs.Common.{◌≡◌, ℕ, ◌+◌, ◌≤◌, ◌<◌, Bool, true, false, cond, ◌&&◌, eqb, not, List, [], ◌∷◌, ◌++◌, filter, Option, None, Some, refl, subst, sym, arith}
+use Rattle.std.proofs.Common.{◌≡◌, ℕ, Bool, true, false, cond, ◌&&◌, List, [], ◌∷◌, Option, None, Some, refl, subst, sym, arith}
 use Rattle.wm_base.specs.declared.errors.Refusal.{Refusal}
 use Rattle.wm_base.specs.declared.geometry.Dir.{Dir}
 use Rattle.wm_base.specs.declared.ids.ConId.{ConId}
@@ -27,8 +27,8 @@ use Rattle.wm_spaces.specs.Targets.{goal_of}
 use Rattle.wm_tree.specs.Ids.{IdsRise}
 use Rattle.wm_tree.specs.declared.place.Place.TheVariants.{After}
 use Rattle.wm_tree.specs.Move.{exchanged, moved, unmarked, with_marks, wrapped}
-use Rattle.wm_tree.specs.TreeValue.{TreeValue, id, leaf, parent, workspace_of}
-use Rattle.wm_tree.specs.Words.{settled, with_raised}
+use Rattle.wm_tree.specs.TreeValue.{TreeValue, leaf, parent, workspace_of}
+use Rattle.wm_tree.specs.Words.{settled}
 use Rattle.wm_tree.proofs.IdLemmas.{ids_raised, ids_refl, ids_settled, ids_trans, ids_wrapped}
 use Rattle.wm_apply.specs.declared.rows.How.{How}
 use Rattle.wm_apply.specs.declared.targets.Targets.{Targets}

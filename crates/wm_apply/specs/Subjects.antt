@@ -1,5 +1,5 @@
 -- On what a command runs, and what it leaves of all its subjects.
-use Rattle.std.specs.Prelude.{ℕ, Bool, true, false, not, ◌&&◌, ◌||◌, if◌then◌else◌, nat_le, List, [], ◌∷◌, length, filter, Option, None, Some, is_some}
+use Rattle.std.specs.Prelude.{ℕ, Bool, if◌then◌else◌, List, [], ◌∷◌, Option, None, Some}
 use Rattle.std.specs.Option.{option_map}
 use Rattle.wm_base.specs.declared.errors.ErrorText.{ErrorText}
 use Rattle.wm_base.specs.declared.errors.ErrorText.TheVariants as errors

@@ -4,15 +4,14 @@ use Rattle.wm_base.specs.declared.errors.Refusal.{Refusal}
 use Rattle.wm_base.specs.declared.geometry.Dir.{Dir}
 use Rattle.wm_base.specs.declared.ids.ConId.{ConId}
 use Rattle.wm_grammar.specs.declared.arguments.SwapArg.{SwapArg}
-use Rattle.wm_tree.specs.declared.place.Place.TheVariants.{After}
 use Rattle.wm_tree.specs.Look.{same}
 use Rattle.wm_tree.specs.declared.kind.KindEdit.TheVariants as edits
-use Rattle.wm_tree.specs.Move.{apart, exchanged, moved}
+use Rattle.wm_tree.specs.Move.{apart, moved}
 use Rattle.wm_tree.specs.Outputs.{heir, left_to}
 use Rattle.wm_tree.specs.Sound.{IsSound, ranked, times}
 use Rattle.wm_tree.specs.TreeValue.{TreeValue, current, root, shown}
 use Rattle.wm_tree.specs.Words.{edited}
-use Rattle.wm_focus.specs.Moves.{beside, entry, held_out, is_split_con, move_dir_tree, near_end, out_tree, over_tree, side_of, space_over, step_tree, turned}
+use Rattle.wm_focus.specs.Moves.{beside, entry, held_out, is_split_con, move_dir_tree, near_end, out_tree, over_tree, space_over, step_tree, turned}
 use Rattle.wm_showing.specs.Outputs.{output_of}
 use Rattle.wm_showing.proofs.RiseLemmas.{output_same}
 use Rattle.wm_showing.specs.Showing.{current_some, entered, output_focused, shown_on, space_name}

@@ -1,5 +1,5 @@
 -- Forests whose parts are changed node by node.
-use Rattle.std.proofs.Common.{◌≡◌, ℕ, ◌+◌, ◌≤◌, Bool, true, false, cond, ◌||◌, ◌⊎◌, inl, inr, Option, None, Some, refl, ap, sym, ◌∙◌, arith}
+use Rattle.std.proofs.Common.{◌≡◌, ℕ, ◌+◌, ◌≤◌, Bool, true, false, cond, ◌||◌, ◌⊎◌, inl, inr, Option, Some, refl, ap, sym, ◌∙◌, arith}
 use Rattle.wm_base.specs.declared.ids.ConId.{ConId}
 use Rattle.wm_showing.proofs.DownLemmas.{none}
 use Rattle.wm_tree.proofs.CountLemmas.{counted}
@@ -15,7 +15,7 @@ use Rattle.wm_tree.specs.Forest.{Forest, end, con}
 use Rattle.wm_tree.specs.Kinds.{changed, kind_changed}
 use Rattle.wm_tree.specs.Look.{first_part, has, only, same}
 use Rattle.wm_tree.specs.Sound.{tally}
-use Rattle.wm_tree.specs.Spot.{space_at, space_by, spot_below, spot_in, spot_of}
+use Rattle.wm_tree.specs.Spot.{space_by, spot_below, spot_in, spot_of}
 use Rattle.wm_tree.specs.TreeValue.{is_con_kind}
 
 -- the forest with each part changed

@@ -1,5 +1,5 @@
 -- A container that is sent keeps what it is, and what stands below it.
-use Rattle.std.proofs.Common.{◌≡◌, ◌≢◌, ℕ, Bool, true, false, cond, ◌||◌, Option, None, Some, refl, ap, sym, ◌∙◌, subst, absurd, arith}
+use Rattle.std.proofs.Common.{◌≡◌, ◌≢◌, ℕ, Bool, true, false, cond, ◌||◌, Option, None, Some, refl, ap, sym, ◌∙◌, subst, arith}
 use Rattle.std.specs.Prelude.{is_some}
 use Rattle.wm_base.specs.declared.errors.Limit.{Limit}
 use Rattle.wm_base.specs.declared.geometry.Rect.{Rect}
@@ -16,7 +16,7 @@ use Rattle.wm_tree.proofs.LookLemmas.{seen-without}
 use Rattle.wm_tree.proofs.MoveLemmas.{sound-moved}
 use Rattle.wm_tree.proofs.SoundLemmas.{gone-detached}
 use Rattle.wm_tree.specs.Along.{nowhere}
-use Rattle.wm_tree.specs.Change.{append, arriving, at, nobody, placed, unfull, unfull_kind, without}
+use Rattle.wm_tree.specs.Change.{append, arriving, nobody, placed, unfull, unfull_kind, without}
 use Rattle.wm_tree.specs.declared.part.NodeKind.{NodeKind}
 use Rattle.wm_tree.specs.declared.part.NodeKind.TheVariants.{Root, Output, Space, Con}
 use Rattle.wm_tree.specs.declared.part.Part.{Part}
@@ -88,12 +88,12 @@ module _ (c : ConId) (q : Part) (k l : Forest) (e : same q.id c ≡ true) where
           → (has (named p) floats ≡ true → has c floats ≡ false → Finds c (con q k l end) (put p (con q k l end) floats))
           → (has (named p) rest ≡ true → has c rest ≡ false → Finds c (con q k l end) (put p (con q k l end) rest))
           → Finds c (con q k l end)
-            (cond x (put_word p (con q k l end) part kids floats rest)
-            (cond y (con part (put p (con q k l end) kids) floats rest) (cond z (con part kids (put p (con q k l end) floats) rest) (con part kids floats (put p (con q k l end) rest)))))
+          (cond x (put_word p (con q k l end) part kids floats rest)
+          (cond y (con part (put p (con q k l end) kids) floats rest) (cond z (con part kids (put p (con q k l end) floats) rest) (con part kids floats (put p (con q k l end) rest)))))
       step true y z ex ey ez t u v w = by_word p part kids floats rest h
       step false true z ex ey ez t u v w = let g = u ey n.1 in record { there = rw (n.0, g.there) refl; found = rw (n.0, g.there) g.found }
       step false false true ex ey ez t u v w = let g = v ez n.2 in record { there = rw (n.0, n.1, g.there) refl; found = rw (n.0, n.1, g.there) g.found }
-      step false false false ex ey ez t u v w = let g = w t n.3 in record { there = rw (n.0, n.1, n.2, g.there) refl; found = rw (n.0, n.1, n.2, g.there) g.found }
+      step false false false ex ey ez t u v w = let g = w t n.3 in record { there = rw (n.0, n.1, n.2, g.there) refl; found = rw (n.0, n.1, n.2) g.found }
 
 -- what is found is one node, of that id
 only_one : (c : ConId) (f : Forest) (q : Part) (k l r : Forest) → only c f ≡ con q k l r → (r ≡ end) × (same q.id c ≡ true)

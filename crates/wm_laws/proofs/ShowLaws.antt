@@ -1,10 +1,10 @@
 -- Showing a workspace that is shown already changes nothing.
-use Rattle.std.proofs.Common.{◌≡◌, ◌≢◌, ℕ, ◌≤◌, Bool, true, false, cond, ◌||◌, List, Option, None, Some, refl, ap, sym, ◌∙◌, subst, absurd, arith}
+use Rattle.std.proofs.Common.{◌≡◌, ℕ, ◌≤◌, Bool, true, false, cond, ◌||◌, List, Option, None, Some, refl, ap, sym, ◌∙◌, subst, arith}
 use Rattle.wm_base.specs.declared.ids.ConId.{ConId}
 use Rattle.wm_laws.specs.Showing.{ShowsOnce}
 use Rattle.wm_showing.proofs.ShowLemmas.{sound_current, sound_there, space_is}
 use Rattle.wm_showing.proofs.SpaceLemmas.{placed}
-use Rattle.wm_showing.specs.Showing.{followed, remembered, remembering, showing, shown_on, shown_there, space_name, with_current}
+use Rattle.wm_showing.specs.Showing.{followed, remembering, showing, shown_on, shown_there, space_name, with_current}
 use Rattle.wm_showing.specs.Subject.{is_space}
 use Rattle.wm_spaces.proofs.AsideLemmas.{aside, found_only}
 use Rattle.wm_spaces.proofs.MoveLemmas.{held_on, on_held}
@@ -15,7 +15,7 @@ use Rattle.wm_tree.proofs.OutputLemmas.{yields}
 use Rattle.wm_tree.proofs.OutputRows.{by_row}
 use Rattle.wm_tree.proofs.RecencyLemmas.{same_self}
 use Rattle.wm_tree.specs.Along.{gone_along, loosened, nowhere, sticky}
-use Rattle.wm_tree.specs.Change.{append, at, nobody, shown_of, unfull}
+use Rattle.wm_tree.specs.Change.{at, nobody, shown_of, unfull}
 use Rattle.wm_tree.specs.declared.kind.KindEdit.{KindEdit}
 use Rattle.wm_tree.specs.declared.kind.KindEdit.TheVariants as edits
 use Rattle.wm_tree.specs.declared.part.NodeKind.{NodeKind}
@@ -26,7 +26,7 @@ use Rattle.wm_tree.specs.Forest.{Forest, end, con}
 use Rattle.wm_tree.specs.Kinds.{changed, kind_changed}
 use Rattle.wm_tree.specs.Look.{first_alone, first_floats, first_kids, first_part, has, in_row, kind_by, node_in, only, same}
 use Rattle.wm_tree.specs.Outputs.{IsOutput}
-use Rattle.wm_tree.specs.Place.{put, put_word}
+use Rattle.wm_tree.specs.Place.{put_word}
 use Rattle.wm_tree.specs.Sets.{shown_by, with_shown}
 use Rattle.wm_tree.specs.Sound.{IsNode, IsSound, IsSoundRow, outputs, roots, tally}
 use Rattle.wm_tree.specs.TreeValue.{TreeValue, current_in, current_of, parent, root, shown}
@@ -35,7 +35,7 @@ use Rattle.wm_tree.specs.Words.{edited}
 -- ---- without floating windows
 
 -- a forest without its floating rows
-bare : Forest → Forest
+abbrev bare : Forest → Forest
 bare end = end
 bare (con part kids floats rest) = con part (bare kids) end (bare rest)
 

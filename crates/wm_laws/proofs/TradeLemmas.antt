@@ -1,16 +1,16 @@
 -- Two containers without others below them that change places: their parts are traded.
-use Rattle.std.proofs.Common.{◌≡◌, ℕ, ◌+◌, ◌≤◌, Bool, true, false, cond, ◌||◌, ◌⊎◌, inl, inr, [], Option, None, Some, refl, ap, sym, ◌∙◌, arith}
+use Rattle.std.proofs.Common.{◌≡◌, ℕ, ◌≤◌, Bool, true, false, cond, ◌||◌, ◌⊎◌, inl, inr, [], None, refl, ap, sym, ◌∙◌, arith}
 use Rattle.wm_base.specs.declared.ids.ConId.{ConId}
-use Rattle.wm_showing.proofs.DownLemmas.{Once, down_floats, down_kids, down_rest, in_floats, in_kids, in_rest, none, once_floats, once_kids, once_rest}
+use Rattle.wm_showing.proofs.DownLemmas.{Once, down_floats, down_kids, down_rest, once_floats, once_kids, once_rest}
 use Rattle.wm_focus.proofs.OnlyLemmas.{found_there}
-use Rattle.wm_laws.proofs.PartMaps.{Light, count-mapped, has_mapped, mapped, mapped-mapped, mapped_alike, mapped_all, only_mapped, put, put_back, replaced_leaf}
+use Rattle.wm_laws.proofs.PartMaps.{Light, count-mapped, mapped, mapped-mapped, mapped_alike, mapped_all, only_mapped, put, put_back, replaced_leaf}
 use Rattle.wm_focus.proofs.TurnLemmas.{heads, heads_only}
 use Rattle.wm_tree.proofs.CountLemmas.{tally-absent}
 use Rattle.wm_tree.proofs.ExchangeSound.{Apart, Steps, count_filled, other_than_nobody, steps, zero_has}
 use Rattle.wm_tree.proofs.MoveLemmas.{count-arriving}
 use Rattle.wm_tree.proofs.RecencyLemmas.{same_is, same_self}
 use Rattle.wm_tree.specs.Change.{arriving, hole, nobody, placed, replaced, unfull_kind}
-use Rattle.wm_tree.specs.Counts.{count, row_length, share_of}
+use Rattle.wm_tree.specs.Counts.{row_length, share_of}
 use Rattle.wm_tree.specs.declared.kind.KindEdit.TheVariants as edits
 use Rattle.wm_tree.specs.declared.part.NodeKind.{NodeKind}
 use Rattle.wm_tree.specs.declared.part.NodeKind.TheVariants.{Root, Output, Space, Con}

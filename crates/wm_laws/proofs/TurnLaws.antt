@@ -1,25 +1,24 @@
 -- A container that moves towards one beside it and back, and two that change places twice.
-use Rattle.std.proofs.Common.{◌≡◌, ◌≢◌, ℕ, ◌+◌, ◌≤◌, Bool, true, false, cond, not, ◌||◌, Option, None, Some, refl, ap, sym, ◌∙◌, subst, arith}
+use Rattle.std.proofs.Common.{◌≡◌, ◌≢◌, ℕ, ◌≤◌, Bool, true, false, cond, not, ◌||◌, Option, None, Some, refl, ap, sym, ◌∙◌, subst, arith}
 use Rattle.std.specs.Prelude.{is_some, option_and_then}
 use Rattle.wm_base.specs.declared.geometry.Dir.{Dir}
 use Rattle.wm_base.specs.declared.geometry.Dir.TheVariants.{Left, Right, Up, Down}
 use Rattle.wm_base.specs.declared.ids.ConId.{ConId}
-use Rattle.wm_focus.proofs.BesideLemmas.{AreTwo, below_two, neighbour_two}
+use Rattle.wm_focus.proofs.BesideLemmas.{below_two, neighbour_two}
 use Rattle.wm_showing.proofs.DownLemmas.{Once, has_only, in_floats, in_kids, in_rest, not_below, once_floats, once_kids, once_only, once_rest}
 use Rattle.wm_focus.proofs.GiveLemmas.{container_there}
 use Rattle.wm_focus.proofs.KidLemmas.{child_there, in_tiled, kid_of, kid_there, takes_containers}
-use Rattle.wm_focus.proofs.SwapLemmas.{tiled_there}
-use Rattle.wm_focus.specs.Moves.{beside, is_split_con, is_split_part, move_dir_tree, neighbour_below, step_tree, turned}
-use Rattle.wm_focus.specs.Rungs.{after, aimed, before, dir_axis, first_id, is_forward, neighbour, rung, runs, runs_con, same_axis, axis_of}
+use Rattle.wm_focus.specs.Moves.{beside, is_split_con, is_split_part, move_dir_tree, neighbour_below, turned}
+use Rattle.wm_focus.specs.Rungs.{after, aimed, before, dir_axis, first_id, neighbour, rung, runs, runs_con, same_axis, axis_of}
 use Rattle.wm_showing.specs.Subject.{is_container}
-use Rattle.wm_focus.specs.Swaps.{con_named, exchanged_with, partner, swap_tree}
+use Rattle.wm_focus.specs.Swaps.{con_named, exchanged_with, swap_tree}
 use Rattle.wm_focus.specs.declared.rungs.Aim.TheVariants.{Beside}
 use Rattle.wm_grammar.specs.declared.arguments.SwapArg.TheVariants as swaps
 use Rattle.wm_laws.proofs.PartMaps.{count-mapped, edited_mapped, mapped, mapped-mapped, mapped_all, only_mapped, spot_mapped, tuned}
 use Rattle.wm_focus.proofs.MoveGoals.{chained}
 use Rattle.wm_focus.proofs.TurnLemmas.{heads, heads_only}
-use Rattle.wm_laws.proofs.TradeLemmas.{Leaves, apart, came, came_back, came_con, came_share, first_id as first_own, first_there, leaves_traded, light, not_other, once_traded, same_sym, second_id as second_own, second_there, share_kept, trade, trade_back, traded, was_a, was_b, was_same}
-use Rattle.wm_laws.specs.Turning.{IsAlone, MovesBack, SwapsBack, is_full, is_full_part, opposite}
+use Rattle.wm_laws.proofs.TradeLemmas.{Leaves, came, came_back, came_con, came_share, first_id as first_own, leaves_traded, light, not_other, same_sym, second_id as second_own, share_kept, trade, trade_back, traded, was_a, was_b, was_same}
+use Rattle.wm_laws.specs.Turning.{MovesBack, SwapsBack, opposite}
 use Rattle.wm_tree.proofs.AttachLemmas.{has_row}
 use Rattle.wm_tree.proofs.ForestLemmas.{only_absent}
 use Rattle.wm_tree.proofs.RecencyLemmas.{same_is, same_self}
@@ -37,9 +36,9 @@ use Rattle.wm_tree.specs.Forest.{Forest, end, con}
 use Rattle.wm_tree.specs.Kinds.{changed, kind_changed}
 use Rattle.wm_tree.specs.Look.{con_kind, first_floats, first_kids, first_part, has, in_row, kind_by, kind_of, only, rest_of, same}
 use Rattle.wm_tree.specs.Move.{apart as are_apart, exchanged, exchanged_nodes, same_space, share_by, share_in}
-use Rattle.wm_tree.specs.Sound.{IsNode, IsSound, IsSoundRow, Level, below, containers, one_of, roots, tally}
+use Rattle.wm_tree.specs.Sound.{IsNode, IsSoundRow, Level, below, containers, one_of, roots, tally}
 use Rattle.wm_tree.specs.Spot.{room_below, spot_below, spot_in, spot_of, top}
-use Rattle.wm_tree.specs.TreeValue.{TreeValue, is_con_kind, is_tiled_con, parent, tiled_by, tiled_kids, workspace_of}
+use Rattle.wm_tree.specs.TreeValue.{TreeValue, is_con_kind, parent, tiled_by, tiled_kids, workspace_of}
 
 -- ---- two children of a node stand alike
 

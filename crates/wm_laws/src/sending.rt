@@ -4,7 +4,6 @@ ghost use Rattle.wm_laws.specs.Showing.{ShowsOnce};
 
 /// A container that is sent to a workspace, and from there back or to another one, is as it was but for its place, and
 /// so is all that stands below it.
-#[tactic(auto, using(crate::proofs::SendLaws::sends_back))]
 pub fn sending_there_and_back_keeps_what_is_below()
     ensures { SendsBack }
 {}

@@ -1,5 +1,5 @@
 -- Showing and entering give no new ids.
-use Rattle.std.proofs.Common.{◌≡◌, ℕ, ◌≤◌, Bool, true, false, cond, List, Option, None, Some, refl, ap, ◌∙◌, arith}
+use Rattle.std.proofs.Common.{◌≡◌, ℕ, Bool, true, false, cond, List, Option, None, Some, refl, ◌∙◌, arith}
 use Rattle.wm_base.specs.declared.ids.ConId.{ConId}
 use Rattle.wm_showing.specs.Outputs.{output_of}
 use Rattle.wm_showing.specs.Showing.{current_some, entered, followed, focusing, output_focused, remembered, remembering, showing, showing_some, shown_on, shown_there, space_name, with_current}

@@ -1,10 +1,10 @@
 -- Showing a workspace keeps what holds of every tree.
-use Rattle.std.proofs.Common.{◌≡◌, ◌≢◌, ℕ, Bool, true, false, cond, ◌||◌, List, Option, None, Some, refl, ap, sym, ◌∙◌}
+use Rattle.std.proofs.Common.{◌≡◌, ◌≢◌, Bool, true, false, cond, Option, None, Some, refl, ap, sym, ◌∙◌}
 use Rattle.std.specs.Prelude.{is_some, option_and_then}
 use Rattle.wm_base.specs.declared.ids.ConId.{ConId}
-use Rattle.wm_showing.proofs.SpaceLemmas.{IsSpaceIn, Placed, placed, space_of_node}
+use Rattle.wm_showing.proofs.SpaceLemmas.{IsSpaceIn, placed, space_of_node}
 use Rattle.wm_showing.specs.Outputs.{output_of}
-use Rattle.wm_showing.specs.Showing.{current_some, entered, followed, focusing, output_focused, remembering, showing, showing_some, shown_on, shown_there, space_name, with_current}
+use Rattle.wm_showing.specs.Showing.{current_some, entered, followed, focusing, output_focused, remembering, showing, showing_some, shown_there, space_name, with_current}
 use Rattle.wm_showing.specs.Subject.{is_space}
 use Rattle.wm_tree.proofs.AlongLemmas.{sound-along}
 use Rattle.wm_tree.proofs.EditLemmas.{fits_current}
@@ -26,7 +26,6 @@ use Rattle.wm_tree.specs.Sets.{IsShowable, shown_by, with_shown}
 use Rattle.wm_tree.specs.Sound.{IsSound}
 use Rattle.wm_tree.specs.Spot.{spot_in, top}
 use Rattle.wm_tree.specs.TreeValue.{TreeValue, parent, root, shown, workspace_of}
-use Rattle.wm_tree.specs.Words.{edited}
 
 -- ---- edits that leave workspaces as they are
 

@@ -10,5 +10,7 @@ mod subject;
 pub use keys::{Key, lesser};
 pub use outputs::{output_from, output_in, output_of};
 pub use refusing::refused;
-pub use showing::{enter, enter_output, focus, remember, show_space, show_there, shown_on, space_name};
+pub use showing::{
+    enter, enter_output, focus, remember, show_space, show_there, shown_on, space_name,
+};
 pub use subject::{is_hidden, is_space, is_subject};

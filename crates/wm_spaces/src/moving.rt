@@ -19,12 +19,7 @@ use wm_tree::Tree;
 /// Puts the workspace last on the output and shows it there. The output that showed it shows the first of its other
 /// workspaces in their order, or a new one whose name is the least number that no workspace has. A workspace of the
 /// output itself stays.
-pub fn move_workspace(
-    alloc: Global,
-    t: &mut Tree,
-    w: ConId,
-    output: ConId,
-) -> Result<(), Refusal>
+pub fn move_workspace(alloc: Global, t: &mut Tree, w: ConId, output: ConId) -> Result<(), Refusal>
     requires sound { IsSound t.old }
     requires space { is_space t.old w ≡ true }
     requires output { IsOutput output t.old.nodes }

@@ -6,9 +6,7 @@ use crate::{move_workspace, output_added, output_at, output_removed, rename, sen
 use std::alloc::Global;
 use std::process::Abort;
 use std::test::Fail;
-use wm_base::{
-    Border, ConId, Dir, Edges, ErrorText, Layout, OutputPlan, Rect, Refusal, Text,
-};
+use wm_base::{Border, ConId, Dir, Edges, ErrorText, Layout, OutputPlan, Rect, Refusal, Text};
 use wm_grammar::{OutArg, Target};
 use wm_showing::{is_space, is_subject};
 use wm_tree::{NewCon, Tree};
