@@ -1,27 +1,22 @@
 -- Outputs show workspaces of their own, so one that its output does not show is not shown.
-use Rattle.std.proofs.Common.{◌≡◌, ◌≢◌, ℕ, ◌+◌, ◌≤◌, Bool, true, false, cond, ◌||◌, List, Option, None, Some, refl, ap, sym, ◌∙◌, subst, arith}
+use Rattle.std.proofs.Common.{◌≡◌, ℕ, ◌+◌, ◌≤◌, Bool, true, false, cond, ◌||◌, List, refl, ap, sym, ◌∙◌, subst, arith}
 use Rattle.wm_base.specs.declared.ids.ConId.{ConId}
-use Rattle.wm_showing.specs.Showing.{shown_on}
-use Rattle.wm_spaces.proofs.StandLemmas.{stands_has, stands_on, of_output, either}
+use Rattle.wm_spaces.proofs.StandLemmas.{stands_has, stands_on, of_output}
 use Rattle.wm_tree.proofs.AttachLemmas.{has_row}
-use Rattle.wm_tree.proofs.ChangeLemmas.{by_change}
 use Rattle.wm_tree.proofs.CountLemmas.{counted}
 use Rattle.wm_tree.proofs.FocusLemmas.{outputs_of}
 use Rattle.wm_tree.proofs.OnceLemmas.{at_kids, only_kids}
-use Rattle.wm_tree.proofs.OutputRows.{by_row, in_row-append, in_row-last}
-use Rattle.wm_tree.proofs.RecencyLemmas.{same_is, same_self}
+use Rattle.wm_tree.proofs.OutputRows.{by_row}
+use Rattle.wm_tree.proofs.RecencyLemmas.{same_is}
 use Rattle.wm_tree.specs.declared.kind.KindEdit.TheVariants as edits
 use Rattle.wm_tree.specs.declared.part.NodeKind.{NodeKind}
 use Rattle.wm_tree.specs.declared.part.NodeKind.TheVariants.{Root, Output, Space, Con}
-use Rattle.wm_tree.specs.declared.part.Part.{Part}
-use Rattle.wm_tree.specs.declared.place.Place.TheVariants.{Last}
-use Rattle.wm_tree.specs.Change.{append, at, is_id, shown_of}
+use Rattle.wm_tree.specs.Change.{at, is_id, shown_of}
 use Rattle.wm_tree.specs.Counts.{count}
 use Rattle.wm_tree.specs.Forest.{Forest, end, con}
 use Rattle.wm_tree.specs.Kinds.{changed, kind_changed}
-use Rattle.wm_tree.specs.Look.{first_kids, first_part, has, in_row, kind_by, node_in, only, same}
+use Rattle.wm_tree.specs.Look.{first_kids, first_part, in_row, kind_by, node_in, only, same}
 use Rattle.wm_tree.specs.Outputs.{IsNotShown, IsOutput, shows}
-use Rattle.wm_tree.specs.Place.{put, put_word}
 use Rattle.wm_tree.specs.Sound.{Level, roots, outputs, spaces, containers, below, IsNode, IsSound, IsSoundRow, tally}
 use Rattle.wm_tree.specs.Spot.{room_below}
 use Rattle.wm_tree.specs.TreeValue.{TreeValue}

@@ -1,12 +1,12 @@
 -- Moving a workspace to another output keeps what holds of every tree.
-use Rattle.std.proofs.Common.{◌≡◌, ◌≢◌, ℕ, ◌≤◌, Bool, true, false, cond, ◌||◌, List, Option, None, Some, refl, ap, sym, ◌∙◌, subst, arith}
+use Rattle.std.proofs.Common.{◌≡◌, ℕ, ◌≤◌, Bool, true, false, cond, ◌||◌, List, Option, None, Some, refl, ap, sym, ◌∙◌, subst, arith}
 use Rattle.wm_base.specs.declared.ids.ConId.{ConId}
 use Rattle.wm_showing.proofs.ShowLemmas.{space_is}
-use Rattle.wm_showing.proofs.SpaceLemmas.{IsSpaceIn, placed}
+use Rattle.wm_showing.proofs.SpaceLemmas.{placed}
 use Rattle.wm_showing.specs.declared.keys.Key.{Key}
 use Rattle.wm_showing.specs.Showing.{shown_on}
 use Rattle.wm_showing.specs.Subject.{is_space}
-use Rattle.wm_spaces.proofs.AsideLemmas.{Aside, aside, found_only, not_shown, one_output}
+use Rattle.wm_spaces.proofs.AsideLemmas.{aside, found_only, not_shown, one_output}
 use Rattle.wm_spaces.proofs.StandLemmas.{but_picked, of_output, row_holds, stands_has, stands_space}
 use Rattle.wm_spaces.specs.Moving.{IsFree, aside_refusal, other_refusal, other_space, set_aside, showing_other}
 use Rattle.wm_spaces.specs.Targets.{spaces_of}
@@ -20,9 +20,8 @@ use Rattle.wm_tree.proofs.SoundLemmas.{sound-shown}
 use Rattle.wm_tree.proofs.AlongLemmas.{space_there}
 use Rattle.wm_tree.proofs.SpaceLemmas.{sound-space_moved}
 use Rattle.wm_tree.proofs.SpaceRows.{sound-left}
-use Rattle.wm_tree.specs.Change.{append, at, is_id, without}
+use Rattle.wm_tree.specs.Change.{at, is_id, without}
 use Rattle.wm_tree.specs.declared.kind.KindEdit.TheVariants as edits
-use Rattle.wm_tree.specs.declared.part.Part.{Part}
 use Rattle.wm_tree.specs.declared.place.Place.TheVariants.{Last}
 use Rattle.wm_tree.specs.Forest.{Forest, end, con}
 use Rattle.wm_tree.specs.Look.{first_kids, has, in_row, node_in, only, same}

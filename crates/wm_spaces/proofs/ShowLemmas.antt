@@ -1,19 +1,17 @@
 -- Showing workspaces, new ones too, keeps what holds of every tree.
-use Rattle.std.proofs.Common.{◌≡◌, Bool, true, false, cond, List, ℕ, Option, ap, subst}
+use Rattle.std.proofs.Common.{◌≡◌, true, false, List, ℕ, Option, ap, subst}
 use Rattle.std.specs.Option.{option_or}
 use Rattle.wm_base.specs.declared.errors.Refusal.{Refusal}
 use Rattle.wm_base.specs.declared.ids.ConId.{ConId}
-use Rattle.wm_showing.proofs.ShowLemmas.{sound_showing}
 use Rattle.wm_showing.specs.Refusing.{IsCause, full_error, refusal_by}
-use Rattle.wm_showing.specs.Showing.{remembering, shown_there, space_name}
 use Rattle.wm_showing.specs.Subject.{is_space}
 use Rattle.wm_spaces.proofs.StandLemmas.{new_stands, stands_space}
 use Rattle.wm_tree.specs.declared.place.TreeRefusal.{TreeRefusal}
 use Rattle.wm_tree.specs.declared.place.TreeRefusal.TheVariants as refusals
-use Rattle.wm_tree.specs.Look.{has, same}
+use Rattle.wm_tree.specs.Look.{has}
 use Rattle.wm_tree.specs.Outputs.{IsOutput, IsSpaceCause, passed_by_space, with_space}
 use Rattle.wm_tree.specs.Sound.{IsSound}
-use Rattle.wm_tree.specs.TreeValue.{TreeValue, id, parent, shown}
+use Rattle.wm_tree.specs.TreeValue.{TreeValue, id}
 
 -- a new workspace is one
 pub new_is : (o w : ConId) (n : List ℕ) (t new : TreeValue) → new ≡ with_space o n t → w ≡ id t.next_id → IsSound new → IsSound t → IsOutput o t.nodes → is_space new w ≡ true

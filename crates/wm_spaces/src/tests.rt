@@ -166,16 +166,17 @@ fn move_named(alloc: Global, tree: &mut Tree, space: u32, arg: &OutArg) -> Resul
 fn workspaces_are_moved(rt: HostRuntime) -> Result<(), Fail> {
     let alloc = rt.alloc();
     let mut tree = opened(alloc)?;
-    let cases = [
-        (4, OutArg::Current, 2, 4, None),
-        (4, OutArg::Next, 3, 4, None),
-        (4, OutArg::At(Dir::Left), 2, 4, None),
-        (5, OutArg::Primary, 2, 5, Some("1")),
-    ];
-    for (space, arg, output, shown, previous) in &cases {
-        assert_eq!(rt; move_named(alloc, &mut tree, *space, arg), Ok(()));
-        expect_shown(&rt, &tree, *output, *shown, *previous);
-    }
+    assert_eq!(rt; move_named(alloc, &mut tree, 4, &OutArg::Current), Ok(()));
+    expect_shown(&rt, &tree, 2, 4, None);
+    assert_eq!(rt; move_named(alloc, &mut tree, 4, &OutArg::Next), Ok(()));
+    expect_shown(&rt, &tree, 3, 4, None);
+    assert_eq!(rt;
+        move_named(alloc, &mut tree, 4, &OutArg::At(Dir::Left)),
+        Ok(())
+    );
+    expect_shown(&rt, &tree, 2, 4, None);
+    assert_eq!(rt; move_named(alloc, &mut tree, 5, &OutArg::Primary), Ok(()));
+    expect_shown(&rt, &tree, 2, 5, Some("1"));
     let rows = [(2, 0, 6), (2, 1, 4), (2, 2, 5), (3, 0, 7)];
     for (output, number, space) in rows {
         assert_eq!(rt; tree.child(ConId(output), number), Some(ConId(space)));
