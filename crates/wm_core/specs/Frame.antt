@@ -12,7 +12,7 @@ use Rattle.wm_paint.specs.declared.frame.Frame.{Frame}
 use Rattle.wm_paint.specs.declared.frame.Quad.{Quad}
 use Rattle.wm_paint.specs.declared.frame.What.{What}
 use Rattle.wm_paint.specs.declared.frame.What.TheVariants as shows
-use Rattle.wm_core.specs.Act.{Act, Run, Map, Close, Still}
+use Rattle.wm_core.specs.Act.{Act, Map}
 use Rattle.wm_core.specs.History.{Entry, Start, has_no_pixels, limit_of, tree}
 use Rattle.wm_core.specs.Schedule.{Turn, turn, done}
 
@@ -25,9 +25,7 @@ given_by t buffer None v before = if same (id t.next_id) v then Some buffer else
 -- the buffer of v after a step on a tree: that of an accepted map of v, else the one before
 abbrev pub buffer_after : TreeValue → Act → ConId → Option Buffer → Option Buffer
 buffer_after t (Map props buffer) v before = if has_no_pixels buffer.size then before else given_by t buffer (limit_of t) v before
-buffer_after t (Run text verdict) v before = before
-buffer_after t (Close c) v before = before
-buffer_after t Still v before = before
+buffer_after t other v before = before
 
 -- the last buffer that v was mapped with in the history
 abbrev pub shown : Start → List Entry → ConId → Option Buffer

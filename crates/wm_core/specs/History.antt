@@ -1,14 +1,10 @@
 -- The history of a desk: the steps of its callers, the newest first, and the tree that they leave.
-use Rattle.std.specs.Prelude.{ℕ, ◌==◌, ◌||◌, Bool, false, if◌then◌else◌, List, [], ◌∷◌, map, Option, None, Some}
+use Rattle.std.specs.Prelude.{ℕ, ◌==◌, ◌||◌, Bool, if◌then◌else◌, List, [], ◌∷◌, map, Option, None, Some}
 use Rattle.wm_base.specs.declared.errors.Limit.{Limit}
 use Rattle.wm_base.specs.declared.geometry.Size.{Size}
 use Rattle.wm_base.specs.declared.ids.ConId.{ConId}
 use Rattle.wm_base.specs.declared.properties.Props.{Props}
-use Rattle.wm_tree.specs.declared.part.ConPart.{ConPart}
-use Rattle.wm_tree.specs.declared.part.ConKind.{ConKind}
-use Rattle.wm_tree.specs.declared.part.ConKind.TheVariants.{Split, Window, Placeholder}
 use Rattle.wm_tree.specs.declared.place.NewCon.TheVariants as new
-use Rattle.wm_tree.specs.Look.{kind_of, con_kind}
 use Rattle.wm_tree.specs.Place.{passed_limit}
 use Rattle.wm_tree.specs.TreeValue.{TreeValue, opening, id, newcomer_place}
 use Rattle.wm_tree.specs.Words.{attached, detached, settled, with_raised}
@@ -17,7 +13,9 @@ use Rattle.wm_core.specs.declared.step.Answer.{Answer}
 use Rattle.wm_core.specs.declared.step.Answer.TheVariants.{Done, Mapped, Replies, NoView, Empty, Full}
 use Rattle.wm_json.specs.declared.replies.Reply.{Reply}
 use Rattle.wm_json.specs.declared.replies.Reply.TheVariants as reply
-use Rattle.wm_core.specs.Act.{Act, Run, Map, Close, Still}
+use Rattle.wm_core.specs.Act.{Act, Run, Map, Close, Retitle, Urgent, Gone, OutputAdd, OutputRemove, Reserve, Still}
+use Rattle.wm_core.specs.Outputs.{add_answer, added, remove_answer, removed, reserve_answer, reserved}
+use Rattle.wm_core.specs.Windows.{is_window, without_owned, retitled, with_urgency}
 use Rattle.wm_apply.specs.declared.applied.CommandReply.{CommandReply}
 use Rattle.wm_apply.specs.declared.applied.CommandReply.TheVariants as applied
 use Rattle.wm_apply.specs.Batches.{outcome}
@@ -49,19 +47,6 @@ opening_of plan = record { opened = opening plan.outputs plan.border plan.inner 
 abbrev pub has_no_pixels : Size → Bool
 has_no_pixels size = size.w == 0 || size.h == 0
 
-abbrev pub is_owned : ℕ → ConKind → Bool
-is_owned who (Split layout last) = false
-is_owned who (Window props owner natural) = owner == who
-is_owned who (Placeholder props swallows) = false
-
-abbrev pub owned_by : ℕ → Option ConPart → Bool
-owned_by who None = false
-owned_by who (Some con) = is_owned who con.kind
-
--- v is an open window of the caller
-abbrev pub is_window : TreeValue → ℕ → ConId → Bool
-is_window t who v = owned_by who (kind_of con_kind v t.nodes)
-
 -- the tree with a new window of the caller, raised, under the next id
 abbrev pub mapped : TreeValue → ℕ → Props → Size → TreeValue
 mapped t who props natural = settled (with_raised (id t.next_id) (attached (newcomer_place t) (new.Window props who natural) t))
@@ -92,18 +77,39 @@ verdict_replies homes (PatternRefused pattern) t = reply.Pattern pattern ∷ []
 abbrev pub verdict_tree : List (List ℕ × List ℕ) → Verdict → TreeValue → TreeValue
 verdict_tree homes verdict t = (outcome homes verdict None t).tree
 
+-- what a step on a window of the caller is answered
+abbrev pub window_answer : TreeValue → ℕ → ConId → Answer
+window_answer t who v = if is_window t who v then Done else NoView
+
 -- what the step is answered
 abbrev pub answer_to : List (List ℕ × List ℕ) → TreeValue → ℕ → Act → Answer
 answer_to homes t who (Run text verdict) = Replies (verdict_replies homes verdict t)
 answer_to homes t who (Map props buffer) = if has_no_pixels buffer.size then Empty else map_answer t (limit_of t)
-answer_to homes t who (Close v) = if is_window t who v then Done else NoView
+answer_to homes t who (Close v) = window_answer t who v
+answer_to homes t who (Retitle v title) = window_answer t who v
+answer_to homes t who (Urgent v on) = window_answer t who v
+answer_to homes t who Gone = Done
+answer_to homes t who (OutputAdd plan) = add_answer plan t
+answer_to homes t who (OutputRemove name) = remove_answer name t
+answer_to homes t who (Reserve name edges) = reserve_answer name t
 answer_to homes t who Still = Done
+
+-- what a step makes of the tree where it is done; otherwise the tree is as it was
+abbrev pub if_done : Answer → TreeValue → TreeValue → TreeValue
+if_done Done new t = new
+if_done other new t = t
 
 -- the tree that the step leaves; a refused step leaves it as it was
 abbrev pub tree_after : List (List ℕ × List ℕ) → TreeValue → ℕ → Act → TreeValue
 tree_after homes t who (Run text verdict) = verdict_tree homes verdict t
 tree_after homes t who (Map props buffer) = if has_no_pixels buffer.size then t else map_tree t who props buffer.size (limit_of t)
-tree_after homes t who (Close v) = if is_window t who v then settled (detached v t) else t
+tree_after homes t who (Close v) = if_done (window_answer t who v) (settled (detached v t)) t
+tree_after homes t who (Retitle v title) = if_done (window_answer t who v) (retitled v title t) t
+tree_after homes t who (Urgent v on) = if_done (window_answer t who v) (with_urgency v on t) t
+tree_after homes t who Gone = without_owned who t
+tree_after homes t who (OutputAdd plan) = if_done (add_answer plan t) (added plan t) t
+tree_after homes t who (OutputRemove name) = if_done (remove_answer name t) (removed name t) t
+tree_after homes t who (Reserve name edges) = if_done (reserve_answer name t) (reserved name edges t) t
 tree_after homes t who Still = t
 
 -- ---- the tree and the answers of a history

@@ -3,5 +3,7 @@ pub mod DeskValue
 pub mod Frame
 pub mod History
 pub mod Look
+pub mod Outputs
 pub mod Schedule
 pub mod Sizes
+pub mod Windows

@@ -2,17 +2,25 @@
 use Rattle.std.specs.Prelude.{◌≡◌, ◌≤◌, IsTrue, None}
 use Rattle.wm_base.specs.declared.geometry.Size.{Size}
 use Rattle.wm_criteria.specs.Prepared.{is_built}
+use Rattle.wm_layouts.specs.Plan.{IsFitEdges}
 use Rattle.wm_core.specs.declared.step.Step.{Step}
-use Rattle.wm_core.specs.declared.step.Step.TheVariants.{Run, Map, Close}
+use Rattle.wm_core.specs.declared.step.Step.TheVariants.{Run, Map, Close, Retitle, Urgent, Gone, OutputAdd, OutputRemove, Reserve}
 
 -- a buffer's sides are at most 16,384
 pub record IsFitSize (s : Size) : Type 0 where
   pub width : s.w ≤ 16384
   pub height : s.h ≤ 16384
 
--- a text's patterns are built, and of the other steps only those are taken that a script has a line for
+-- a text's patterns are built, and reserved edges are within their limits; the rectangle of an output may be any. Keys and
+-- ticks are not taken yet
 abbrev pub IsFitStep : Step → Type 0
 IsFitStep (Run prepared) = IsTrue (is_built prepared)
 IsFitStep (Map props buffer then) = IsFitSize buffer.size × (then ≡ None)
 IsFitStep (Close con) = Unit {0}
+IsFitStep (Retitle con title) = Unit {0}
+IsFitStep (Urgent con on) = Unit {0}
+IsFitStep Gone = Unit {0}
+IsFitStep (OutputAdd plan) = IsFitEdges plan.reserved
+IsFitStep (OutputRemove name) = Unit {0}
+IsFitStep (Reserve name edges) = IsFitEdges edges
 IsFitStep other = ⊥

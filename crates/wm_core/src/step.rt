@@ -75,4 +75,10 @@ pub enum Answer {
     Empty,
     /// This limit would be passed.
     Full(Limit),
+    /// An output has the name already.
+    NameTaken,
+    /// No output has the name, or the one that would go is the only one.
+    NoTarget,
+    /// The rectangle of the output is outside the limits.
+    BadRect,
 }

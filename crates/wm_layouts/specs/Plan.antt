@@ -1,19 +1,19 @@
 -- When a plan is sound.
-use Rattle.std.specs.Prelude.{◌≡◌, ◌*◌, ◌≤◌, pos, List, [], ◌∷◌, codes}
+use Rattle.std.specs.Prelude.{◌≡◌, ◌*◌, ◌≤◌, pos, negsuc, int_le, nat_le, Bool, false, ◌&&◌, ◌||◌, IsTrue, ℕ, List, [], ◌∷◌, length, codes}
+use Rattle.std.specs.Str.{bytes_eq}
 use Rattle.wm_base.specs.declared.geometry.Rect.{Rect}
 use Rattle.wm_base.specs.declared.geometry.Edges.{Edges}
 use Rattle.wm_base.specs.declared.plan.Border.{Border}
 use Rattle.wm_base.specs.declared.plan.Border.TheVariants.{Normal, Pixel, Bare}
 use Rattle.wm_base.specs.declared.plan.OutputPlan.{OutputPlan}
-use Rattle.wm_tree.specs.Sound.{IsOutputRect}
 use Rattle.wm_layouts.specs.declared.plan.Plan.{Plan}
 
--- an output's rectangle: sides of 1 to 16,384, an area of at most 33,554,432, and a place within the limits
-pub record IsFitRect (r : Rect) : Type 0 where
-  pub placed : IsOutputRect r
-  pub width : 1 ≤ r.w
-  pub height : 1 ≤ r.h
-  pub area : r.w * r.h ≤ 33554432
+-- an output's rectangle is within the limits: a place from -131,072 to 131,071, sides of 1 to 16,384, and an area of at
+-- most 33,554,432
+abbrev pub is_fit_rect : Rect → Bool
+is_fit_rect r =
+    int_le (negsuc 131071) r.x && int_le r.x (pos 131071) && int_le (negsuc 131071) r.y && int_le r.y (pos 131071) &&
+    nat_le 1 r.w && nat_le r.w 16384 && nat_le 1 r.h && nat_le r.h 16384 && nat_le (r.w * r.h) 33554432
 
 pub record IsFitEdges (e : Edges) : Type 0 where
   pub top : e.top ≤ 16384
@@ -22,21 +22,34 @@ pub record IsFitEdges (e : Edges) : Type 0 where
   pub left : e.left ≤ 16384
 
 abbrev pub IsFitOutput : OutputPlan → Type 0
-IsFitOutput o = IsFitRect o.rect × IsFitEdges o.reserved
+IsFitOutput o = IsTrue (is_fit_rect o.rect) × IsFitEdges o.reserved
 
 abbrev pub IsFitBorder : Border → Type 0
 IsFitBorder (Normal n) = n ≤ 64
 IsFitBorder (Pixel n) = n ≤ 64
 IsFitBorder Bare = Unit {0}
 
--- there is one output, and it is within its limits
-abbrev pub IsOne : List OutputPlan → Type 0
-IsOne [] = ⊥
-IsOne (o ∷ []) = IsFitOutput o
-IsOne (o ∷ p ∷ os) = ⊥
+-- each output is within its limits
+abbrev pub FitOutputs : List OutputPlan → Type 0
+FitOutputs [] = Unit {0}
+FitOutputs (o ∷ os) = IsFitOutput o × FitOutputs os
 
+-- one of the outputs has the name
+abbrev pub is_taken : List ℕ → List OutputPlan → Bool
+is_taken n [] = false
+is_taken n (o ∷ os) = bytes_eq o.name n || is_taken n os
+
+-- no two outputs have one name
+abbrev pub NamesDiffer : List OutputPlan → Type 0
+NamesDiffer [] = Unit {0}
+NamesDiffer (o ∷ os) = (is_taken o.name os ≡ false) × NamesDiffer os
+
+-- there are 1 to 8 outputs, each within its limits and with a name of its own, and the border and the gaps are within theirs
 pub record IsSound (p : Plan) : Type 0 where
-  pub outputs : IsOne p.outputs
+  pub some : 1 ≤ length p.outputs
+  pub few : length p.outputs ≤ 8
+  pub fit : FitOutputs p.outputs
+  pub names : NamesDiffer p.outputs
   pub border : IsFitBorder p.border
   pub inner : p.inner ≤ 1000
   pub outer : p.outer ≤ 1000

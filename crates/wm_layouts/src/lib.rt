@@ -3,4 +3,4 @@
 
 mod plan;
 
-pub use plan::{Env, Plan};
+pub use plan::{Env, Plan, is_fit_rect};

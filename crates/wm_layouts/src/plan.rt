@@ -1,9 +1,12 @@
 //! The plan with which a desk is started.
 ghost use Rattle.std.specs.Prelude.{◌≡◌, ◌↔◌, IsTrue, IfOk};
-ghost use Rattle.wm_layouts.specs.Plan.{IsSound, IsFitBorder, IsFitOutput, IsFitRect, IsStandard};
+ghost use Rattle.wm_layouts.specs.Plan.{FitOutputs, IsSound, IsFitBorder, IsFitEdges, IsFitOutput, IsStandard, NamesDiffer, is_fit_rect, is_taken};
 
 use std::alloc::Global;
 use wm_base::{Border, Edges, List, NoMemory, OutputPlan, Rect, Str, Text};
+
+/// How many outputs a plan has at most.
+const MAX_OUTPUTS: usize = 8;
 
 /// What commands find beside the tree: the binding modes other than `default`, and for workspaces by their name the
 /// output on which each is made.
@@ -63,37 +66,63 @@ impl Plan {
         })
     }
 
-    /// Whether the limits hold: one output whose sides are 1 to 16,384 pixels with an area of at most
-    /// 33,554,432, places from -131,072 to 131,071, reserved edges of at most 16,384, a border of at most
-    /// 64 and gaps of at most 1,000.
+    /// Whether the limits hold: 1 to 8 outputs with names of their own, whose sides are 1 to 16,384 pixels with an
+    /// area of at most 33,554,432, places from -131,072 to 131,071, reserved edges of at most 16,384, a border of at
+    /// most 64 and gaps of at most 1,000.
     pub fn sound(&self) -> bool
         ensures { IsTrue result ↔ IsSound self.now }
     {
-        match self.outputs.items() {
-            [output] => {
-                is_fit_output(output)
-                    && is_fit_border(self.border)
-                    && self.inner <= 1000
-                    && self.outer <= 1000
-            }
-            _ => false,
-        }
+        let outputs = self.outputs.items();
+        1 <= outputs.len()
+            && outputs.len() <= MAX_OUTPUTS
+            && are_fit(outputs)
+            && do_names_differ(outputs)
+            && is_fit_border(self.border)
+            && self.inner <= 1000
+            && self.outer <= 1000
+    }
+}
+
+/// Whether each output is within its limits.
+fn are_fit(outputs: &[OutputPlan]) -> bool
+    ensures { IsTrue result ↔ FitOutputs outputs.now }
+{
+    match outputs {
+        [] => true,
+        [first, rest @ ..] => is_fit_output(first) && are_fit(rest),
+    }
+}
+
+/// Whether no two outputs have one name.
+fn do_names_differ(outputs: &[OutputPlan]) -> bool
+    ensures { IsTrue result ↔ NamesDiffer outputs.now }
+{
+    match outputs {
+        [] => true,
+        [first, rest @ ..] => !is_taken(rest, first.name.as_str()) && do_names_differ(rest),
+    }
+}
+
+/// Whether one of the outputs has the name.
+fn is_taken(outputs: &[OutputPlan], name: &str) -> bool
+    ensures { result ≡ is_taken name.now outputs.now }
+{
+    match outputs {
+        [] => false,
+        [first, rest @ ..] => first.name.as_str() == name || is_taken(rest, name),
     }
 }
 
 fn is_fit_output(output: &OutputPlan) -> bool
     ensures { IsTrue result ↔ IsFitOutput output.now }
 {
-    let edges = output.reserved;
-    is_fit_rect(output.rect)
-        && edges.top <= 16384
-        && edges.right <= 16384
-        && edges.bottom <= 16384
-        && edges.left <= 16384
+    is_fit_rect(output.rect) && are_fit_edges(output.reserved)
 }
 
-fn is_fit_rect(rect: Rect) -> bool
-    ensures { IsTrue result ↔ IsFitRect rect }
+/// Whether an output may have this rectangle: a place from -131,072 to 131,071, sides of 1 to 16,384 pixels, and an area
+/// of at most 33,554,432.
+pub fn is_fit_rect(rect: Rect) -> bool
+    ensures { result ≡ is_fit_rect rect }
 {
     -131_072 <= rect.x
         && rect.x <= 131_071
@@ -104,6 +133,13 @@ fn is_fit_rect(rect: Rect) -> bool
         && 1 <= rect.h
         && rect.h <= 16384
         && rect.w * rect.h <= 33_554_432
+}
+
+/// Whether the edges may be reserved: each is at most 16,384 pixels.
+fn are_fit_edges(edges: Edges) -> bool
+    ensures { IsTrue result ↔ IsFitEdges edges }
+{
+    edges.top <= 16384 && edges.right <= 16384 && edges.bottom <= 16384 && edges.left <= 16384
 }
 
 fn is_fit_border(border: Border) -> bool

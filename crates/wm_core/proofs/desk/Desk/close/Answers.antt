@@ -7,7 +7,7 @@ use Rattle.wm_tree.specs.TreeValue.{TreeValue}
 use Rattle.wm_tree.specs.Words.{detached, settled}
 use Rattle.wm_tree.proofs.IdLemmas.{gone_after, given_id, ids_detached, ids_settled, ids_trans}
 use Rattle.wm_core.specs.DeskValue.{DeskValue, IsNotGone}
-use Rattle.wm_core.specs.History.{is_window}
+use Rattle.wm_core.specs.Windows.{is_window}
 use Rattle.wm_core.specs.Act.{Close}
 use Rattle.wm_core.proofs.StandsLemmas.{stands_next, stands_counted, buffer_kept, other_than_gone, still_known}
 use Rattle.wm_core.proofs.desk.Desk.close.Goals as goal

@@ -1,0 +1,53 @@
+-- The windows of a caller, and the steps on them.
+use Rattle.std.specs.Prelude.{ℕ, ◌==◌, Bool, false, if◌then◌else◌, List, [], ◌∷◌, ◌++◌, filter, Option, None, Some}
+use Rattle.wm_base.specs.declared.ids.ConId.{ConId}
+use Rattle.wm_tree.specs.declared.kind.KindEdit.TheVariants as edits
+use Rattle.wm_tree.specs.declared.part.ConKind.{ConKind}
+use Rattle.wm_tree.specs.declared.part.ConKind.TheVariants.{Split, Window, Placeholder}
+use Rattle.wm_tree.specs.declared.part.ConPart.{ConPart}
+use Rattle.wm_tree.specs.Look.{con_kind, kind_of}
+use Rattle.wm_tree.specs.Recency.{lists, without_id}
+use Rattle.wm_tree.specs.TreeValue.{TreeValue}
+use Rattle.wm_tree.specs.Words.{detached, edited, settled}
+
+abbrev pub is_owned : ℕ → ConKind → Bool
+is_owned who (Split layout last) = false
+is_owned who (Window props owner natural) = owner == who
+is_owned who (Placeholder props swallows) = false
+
+abbrev pub owned_by : ℕ → Option ConPart → Bool
+owned_by who None = false
+owned_by who (Some con) = is_owned who con.kind
+
+-- v is an open window of the caller
+abbrev pub is_window : TreeValue → ℕ → ConId → Bool
+is_window t who v = owned_by who (kind_of con_kind v t.nodes)
+
+-- the open windows of the caller, the most recent first
+abbrev pub owned : ℕ → TreeValue → List ConId
+owned who t = filter (is_window t who) t.recency
+
+-- the tree with another title of the window v
+abbrev pub retitled : ConId → List ℕ → TreeValue → TreeValue
+retitled v title t = settled (edited v (edits.Title title) t)
+
+-- the window v comes last among the urgent ones, unless it is one of them already
+abbrev pub with_urgent : ConId → TreeValue → TreeValue
+with_urgent v t = if lists v t.urgent then t else record t { urgent = t.urgent ++ v ∷ [] }
+
+-- the window v is none of the urgent ones
+abbrev pub without_urgent : ConId → TreeValue → TreeValue
+without_urgent v t = record t { urgent = without_id v t.urgent }
+
+-- the tree in which the window v is urgent or not
+abbrev pub with_urgency : ConId → Bool → TreeValue → TreeValue
+with_urgency v on t = settled (if on then with_urgent v t else without_urgent v t)
+
+-- the tree without these windows
+abbrev pub without_windows : List ConId → TreeValue → TreeValue
+without_windows [] t = t
+without_windows (v ∷ vs) t = without_windows vs (detached v t)
+
+-- the tree without the windows of the caller
+abbrev pub without_owned : ℕ → TreeValue → TreeValue
+without_owned who t = settled (without_windows (owned who t) t)
