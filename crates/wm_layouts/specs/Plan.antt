@@ -8,12 +8,17 @@ use Rattle.wm_base.specs.declared.plan.Border.TheVariants.{Normal, Pixel, Bare}
 use Rattle.wm_base.specs.declared.plan.OutputPlan.{OutputPlan}
 use Rattle.wm_layouts.specs.declared.plan.Plan.{Plan}
 
--- an output's rectangle is within the limits: a place from -131,072 to 131,071, sides of 1 to 16,384, and an area of at
--- most 33,554,432
+-- a place from -131,072 to 131,071
+abbrev pub is_fit_place : Rect → Bool
+is_fit_place r = int_le (negsuc 131071) r.x && int_le r.x (pos 131071) && int_le (negsuc 131071) r.y && int_le r.y (pos 131071)
+
+-- sides of 1 to 16,384, and an area of at most 33,554,432
+abbrev pub is_fit_size : Rect → Bool
+is_fit_size r = nat_le 1 r.w && nat_le r.w 16384 && nat_le 1 r.h && nat_le r.h 16384 && nat_le (r.w * r.h) 33554432
+
+-- an output may have the rectangle
 abbrev pub is_fit_rect : Rect → Bool
-is_fit_rect r =
-    int_le (negsuc 131071) r.x && int_le r.x (pos 131071) && int_le (negsuc 131071) r.y && int_le r.y (pos 131071) &&
-    nat_le 1 r.w && nat_le r.w 16384 && nat_le 1 r.h && nat_le r.h 16384 && nat_le (r.w * r.h) 33554432
+is_fit_rect r = is_fit_place r && is_fit_size r
 
 pub record IsFitEdges (e : Edges) : Type 0 where
   pub top : e.top ≤ 16384

@@ -1,6 +1,6 @@
 //! The plan with which a desk is started.
 ghost use Rattle.std.specs.Prelude.{◌≡◌, ◌↔◌, IsTrue, IfOk};
-ghost use Rattle.wm_layouts.specs.Plan.{FitOutputs, IsSound, IsFitBorder, IsFitEdges, IsFitOutput, IsStandard, NamesDiffer, is_fit_rect, is_taken};
+ghost use Rattle.wm_layouts.specs.Plan.{FitOutputs, IsSound, IsFitBorder, IsFitEdges, IsFitOutput, IsStandard, NamesDiffer, is_fit_place, is_fit_rect, is_fit_size, is_taken};
 
 use std::alloc::Global;
 use wm_base::{Border, Edges, List, NoMemory, OutputPlan, Rect, Str, Text};
@@ -124,11 +124,19 @@ fn is_fit_output(output: &OutputPlan) -> bool
 pub fn is_fit_rect(rect: Rect) -> bool
     ensures { result ≡ is_fit_rect rect }
 {
-    -131_072 <= rect.x
-        && rect.x <= 131_071
-        && -131_072 <= rect.y
-        && rect.y <= 131_071
-        && 1 <= rect.w
+    is_fit_place(rect) && is_fit_size(rect)
+}
+
+fn is_fit_place(rect: Rect) -> bool
+    ensures { result ≡ is_fit_place rect }
+{
+    -131_072 <= rect.x && rect.x <= 131_071 && -131_072 <= rect.y && rect.y <= 131_071
+}
+
+fn is_fit_size(rect: Rect) -> bool
+    ensures { result ≡ is_fit_size rect }
+{
+    1 <= rect.w
         && rect.w <= 16384
         && 1 <= rect.h
         && rect.h <= 16384
