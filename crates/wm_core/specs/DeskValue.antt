@@ -7,6 +7,7 @@ use Rattle.std.specs.Map.{lookup}
 use Rattle.wm_base.specs.contracts.ids.Buffer as buffer
 use Rattle.wm_base.specs.declared.ids.Buffer.{Buffer}
 use Rattle.wm_base.specs.declared.ids.ConId.{ConId}
+use Rattle.wm_tree.specs.Look.{same}
 use Rattle.wm_tree.specs.Sound.{times}
 use Rattle.wm_tree.specs.TreeValue.{TreeValue, tree_code}
 use Rattle.wm_arrange.specs.contracts.parts.Placed as placed
@@ -36,6 +37,11 @@ pub record DeskValue : Type 0 where
 -- the buffer of the window v
 abbrev pub buffer_in : List (ℕ × Buffer) → ConId → Option Buffer
 buffer_in buffers v = lookup (is_at (nat_cmp v.0)) buffers
+
+-- the buffer of v after a step that opened this window with its buffer
+abbrev pub opened_with : Option (ConId × Buffer) → ConId → Option Buffer → Option Buffer
+opened_with None v before = before
+opened_with (Some window) v before = if same window.0 v then Some window.1 else before
 
 -- v is not gone: it is a workspace or container of the tree, or its id was not given yet
 abbrev pub IsNotGone : TreeValue → ConId → Type 0

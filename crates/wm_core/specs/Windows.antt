@@ -1,11 +1,11 @@
 -- The windows of a caller, and the steps on them.
-use Rattle.std.specs.Prelude.{ℕ, ◌==◌, Bool, false, if◌then◌else◌, List, [], ◌∷◌, ◌++◌, filter, Option, None, Some}
+use Rattle.std.specs.Prelude.{◌≡◌, ◌≢◌, ℕ, ◌==◌, Bool, true, false, if◌then◌else◌, List, [], ◌∷◌, ◌++◌, filter, Option, None, Some}
 use Rattle.wm_base.specs.declared.ids.ConId.{ConId}
 use Rattle.wm_tree.specs.declared.kind.KindEdit.TheVariants as edits
 use Rattle.wm_tree.specs.declared.part.ConKind.{ConKind}
 use Rattle.wm_tree.specs.declared.part.ConKind.TheVariants.{Split, Window, Placeholder}
 use Rattle.wm_tree.specs.declared.part.ConPart.{ConPart}
-use Rattle.wm_tree.specs.Look.{con_kind, kind_of}
+use Rattle.wm_tree.specs.Look.{con_kind, has, kind_of}
 use Rattle.wm_tree.specs.Recency.{lists, without_id}
 use Rattle.wm_tree.specs.TreeValue.{TreeValue}
 use Rattle.wm_tree.specs.Words.{detached, edited, settled}
@@ -42,6 +42,11 @@ without_urgent v t = record t { urgent = without_id v t.urgent }
 -- the tree in which the window v is urgent or not
 abbrev pub with_urgency : ConId → Bool → TreeValue → TreeValue
 with_urgency v on t = settled (if on then with_urgent v t else without_urgent v t)
+
+-- those of these that are there are containers
+abbrev pub AreContainers : List ConId → TreeValue → Type 0
+AreContainers [] t = Unit {0}
+AreContainers (v ∷ vs) t = (has v t.nodes ≡ true → kind_of con_kind v t.nodes ≢ None) × AreContainers vs t
 
 -- the tree without these windows
 abbrev pub without_windows : List ConId → TreeValue → TreeValue

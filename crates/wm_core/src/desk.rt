@@ -1,41 +1,36 @@
 //! The desk: the tree, the buffers of its windows, and the last arrangement that was committed.
-ghost use Rattle.std.specs.Prelude.{◌≡◌, ◌≢◌, ◌+◌, ◌<◌, ◌^◌, [], ◌∷◌, true, map, None, Option, IfOk, IsTrue, OnOk, OnErr};
+ghost use Rattle.std.specs.Prelude.{◌≡◌, ◌+◌, ◌<◌, ◌^◌, [], ◌∷◌, false, Option, IfOk, OnOk, OnErr};
 ghost use Rattle.wm_base.specs.declared.ids.Buffer.{Buffer};
+ghost use Rattle.wm_base.specs.declared.ids.ConId.{ConId};
 ghost use Rattle.wm_arrange.specs.Arranged.{arranged};
-ghost use Rattle.wm_core.specs.DeskValue.{next_desk, Stands};
+ghost use Rattle.wm_core.specs.Act.{act_of};
+ghost use Rattle.wm_core.specs.DeskValue.{buffer_in, next_desk, opened_with, IsNotGone, Stands};
 ghost use Rattle.wm_core.specs.Frame.{buffer_after, frame};
-ghost use Rattle.wm_core.specs.Windows.{is_owned, is_window};
-ghost use Rattle.wm_core.specs.History.{answer, answer_to, has_no_pixels, opening_of, reply_to, tree_after, verdict_replies, verdict_tree, Entry, History};
-ghost use Rattle.wm_layouts.specs.Plan.{IsSound};
+ghost use Rattle.wm_core.specs.History.{answer, answer_to, opening_of, tree_after, Entry, History};
 ghost use Rattle.wm_core.specs.Sizes.{IsFitStep};
-ghost use Rattle.std.specs.Bool.{OnTrue};
-ghost use Rattle.wm_tree.specs.Look.{con_kind, has, kind_of};
+ghost use Rattle.wm_core.specs.declared.step.Answer.TheVariants.{Done};
+ghost use Rattle.wm_layouts.specs.Plan.{IsSound};
+ghost use Rattle.wm_tree.specs.Ids.{IdsRise};
+ghost use Rattle.wm_tree.specs.Recency.{lists};
 ghost use Rattle.wm_tree.specs.Sound as trees;
-ghost use Rattle.wm_core.specs.Act.{act_of, Act, Close, Map, Run};
-ghost use Rattle.wm_apply.specs.Batches.{outcome};
-ghost use Rattle.wm_criteria.specs.Prepared.{is_built};
-ghost use Rattle.wm_core.specs.declared.step.Answer.TheVariants.{Replies};
+ghost use Rattle.wm_tree.specs.Words.{settled};
 
 use crate::frame::painted;
-use crate::replies::replies_to;
 use crate::step::{Answer, Step};
-use std::alloc::Global;
+use std::alloc::{AllocError, Global};
 use std::collections::BTreeMap;
 use std::marker::Model;
-use wm_apply::run;
 use wm_arrange::{Arrangement, arrange};
-use wm_base::{Buffer, ConId, List, NoMemory, Props, Size};
-use wm_criteria::{Prepared, Verdict};
-use wm_json::Reply;
+use wm_base::{Buffer, ConId, List, NoMemory};
 use wm_layouts::Plan;
 use wm_paint::Frame;
-use wm_tree::{ConKind, NewCon, Tree, TreeRefusal, copy_props};
+use wm_tree::Tree;
 
 /// A desk. It stands for the history of the steps that were taken on it, from the opening of its plan.
 #[derive(Drop)]
 pub struct Desk {
     pub(crate) alloc: Global,
-    plan: Plan,
+    pub(crate) plan: Plan,
     steps: u64,
     pub(crate) tree: Tree,
     buffers: BTreeMap<u32, Buffer>,
@@ -97,7 +92,13 @@ impl Desk {
             Step::Run(text) => self.run(who, text),
             Step::Map { props, buffer, .. } => self.map(who, props, *buffer),
             Step::Close { con } => self.close(who, *con),
-            _ => unreachable!(),
+            Step::Retitle { con, title } => self.retitle(who, *con, title),
+            Step::Urgent { con, on } => self.urgent(who, *con, *on),
+            Step::Gone => self.gone(who),
+            Step::OutputAdd { plan } => self.add_output(who, plan),
+            Step::OutputRemove { name } => self.remove_output(who, name),
+            Step::Reserve { name, edges } => self.reserve(who, name, *edges),
+            Step::Key { .. } | Step::Tick { .. } => unreachable!(),
         }
     }
 
@@ -121,137 +122,72 @@ impl Desk {
         })
     }
 
-    /// Opens a window of the caller, raised, where there is room for it.
-    fn map(&mut self, who: u32, props: &Props, buffer: Buffer) -> Result<Answer, NoMemory>
+    /// Counts a step that changes nothing else, and gives its answer.
+    pub(crate) fn stay(&mut self, answer: Answer) -> Answer
         requires few { self.old.steps < 2 ^ 48 }
-        ensures answer { IfOk result (λ a. a ≡ answer_to self.old.plan.env.homes self.old.tree who (Map props.now buffer)) }
-        ensures stands { (history : History) → Stands self.old history →
-            OnOk result (Stands self.new (record { who = who; act = Map props.now buffer } ∷ history)) }
+        ensures answer { result ≡ answer }
+        ensures stands { (history : History) → (entry : Entry) → Stands self.old history →
+            self.old.tree ≡ tree_after self.old.plan.env.homes self.old.tree entry.who entry.act →
+            ((v : ConId) → (b : Option Buffer) → buffer_after self.old.tree entry.act v b ≡ b) →
+            Stands self.new (entry ∷ history) }
         ensures plan { self.new.plan ≡ self.old.plan }
-        ensures count { OnOk result (self.new.steps ≡ self.old.steps + 1) }
-        ensures err { OnErr result (self.new ≡ self.old) }
+        ensures count { self.new.steps ≡ self.old.steps + 1 }
     {
-        if has_no_pixels(buffer.size) {
-            self.steps += 1;
-            return Ok(Answer::Empty);
-        }
-        let mut tree = self.tree.copy()?;
-        let window = NewCon::Window {
-            props: copy_props(props)?,
-            owner: who,
-            natural: buffer.size,
-        };
-        let id = match tree.attach(tree.newcomer_place(), window) {
-            Ok(id) => id,
-            Err(TreeRefusal::Full { limit }) => {
-                self.steps += 1;
-                return Ok(Answer::Full(limit));
-            }
-            Err(TreeRefusal::Missing(_)) => unreachable!(),
-            Err(TreeRefusal::NoMemory) => return Err(NoMemory),
-        };
-        tree.raise(id);
-        tree.settle();
-        let newest = arrange(self.alloc, &tree)?;
-        self.buffers.insert(id.0, buffer)?;
-        self.commit(tree, newest);
-        Ok(Answer::Mapped(id))
+        self.steps += 1;
+        answer
     }
 
-    /// Closes the caller's window.
-    fn close(&mut self, who: u32, con: ConId) -> Result<Answer, NoMemory>
+    /// Settles a tree and takes it as the one after this step, which opened no window and closed those that are gone.
+    pub(crate) fn finish(&mut self, tree: Tree, gone: &[ConId]) -> Result<Answer, NoMemory>
         requires few { self.old.steps < 2 ^ 48 }
-        ensures answer { IfOk result (λ a. a ≡ answer_to self.old.plan.env.homes self.old.tree who (Close con)) }
-        ensures stands { (history : History) → Stands self.old history →
-            OnOk result (Stands self.new (record { who = who; act = Close con } ∷ history)) }
+        requires sound { trees.IsSound tree }
+        ensures answer { IfOk result (λ a. a ≡ Done) }
+        ensures stands { (history : History) → (entry : Entry) → Stands self.old history →
+            settled tree ≡ tree_after self.old.plan.env.homes self.old.tree entry.who entry.act →
+            IdsRise self.old.tree tree →
+            ((v : ConId) → IsNotGone (settled tree) v → lists v gone.now ≡ false) →
+            ((v : ConId) → (b : Option Buffer) → buffer_after self.old.tree entry.act v b ≡ b) →
+            OnOk result (Stands self.new (entry ∷ history)) }
         ensures plan { self.new.plan ≡ self.old.plan }
         ensures count { OnOk result (self.new.steps ≡ self.old.steps + 1) }
         ensures err { OnErr result (self.new ≡ self.old) }
     {
-        if !self.is_window(who, con) {
-            self.steps += 1;
-            return Ok(Answer::NoView);
-        }
-        let mut tree = self.tree.copy()?;
-        if tree.detach(con).is_err() {
-            unreachable!();
-        }
+        let mut tree = tree;
         tree.settle();
-        let newest = arrange(self.alloc, &tree)?;
-        self.buffers.remove(&con.0);
-        self.commit(tree, newest);
+        self.commit(tree, None, gone)?;
         Ok(Answer::Done)
     }
 
-    /// Runs a text, or answers why it is not run.
-    fn run(&mut self, who: u32, text: &Prepared) -> Result<Answer, NoMemory>
-        requires built { IsTrue (is_built text.now) }
+    /// Takes a tree as the one after this step, which opened this window with its buffer, if any, and closed those that
+    /// are gone.
+    pub(crate) fn commit(
+        &mut self,
+        tree: Tree,
+        opened: Option<(ConId, Buffer)>,
+        gone: &[ConId],
+    ) -> Result<(), NoMemory>
         requires few { self.old.steps < 2 ^ 48 }
-        ensures answer { IfOk result (λ a. a ≡ Replies (verdict_replies self.old.plan.env.homes text.now.verdict self.old.tree)) }
-        ensures stands { (history : History) → Stands self.old history →
-            OnOk result (Stands self.new (record { who = who; act = Run text.now.text text.now.verdict } ∷ history)) }
+        requires sound { trees.IsSound tree }
+        ensures stands { (history : History) → (entry : Entry) → Stands self.old history →
+            tree ≡ tree_after self.old.plan.env.homes self.old.tree entry.who entry.act →
+            IdsRise self.old.tree tree →
+            ((v : ConId) → IsNotGone tree v → lists v gone.now ≡ false) →
+            ((v : ConId) → (b : Option Buffer) → buffer_after self.old.tree entry.act v b ≡ opened_with opened v b) →
+            OnOk result (Stands self.new (entry ∷ history)) }
         ensures plan { self.new.plan ≡ self.old.plan }
         ensures count { OnOk result (self.new.steps ≡ self.old.steps + 1) }
         ensures err { OnErr result (self.new ≡ self.old) }
     {
-        match &text.verdict {
-            Verdict::Ready(_) => self.apply(text),
-            Verdict::Bad { at } => self.reply(Reply::Parse(*at)),
-            Verdict::PatternRefused { pattern } => self.reply(Reply::Pattern(*pattern)),
-        }
-    }
-
-    /// Runs the commands of a text that reads.
-    fn apply(&mut self, text: &Prepared) -> Result<Answer, NoMemory>
-        requires built { IsTrue (is_built text.now) }
-        requires few { self.old.steps < 2 ^ 48 }
-        ensures answer { IfOk result (λ a. a ≡ Replies (map reply_to (outcome self.old.plan.env.homes text.now.verdict None self.old.tree).replies)) }
-        ensures stands { (history : History) → (entry : Entry) →
-            verdict_tree self.old.plan.env.homes text.now.verdict self.old.tree ≡ tree_after self.old.plan.env.homes self.old.tree entry.who entry.act →
-            ((v : ConId) → (b : Option Buffer) → buffer_after self.old.tree entry.act v b ≡ b) →
-            Stands self.old history → OnOk result (Stands self.new (entry ∷ history)) }
-        ensures plan { self.new.plan ≡ self.old.plan }
-        ensures count { OnOk result (self.new.steps ≡ self.old.steps + 1) }
-        ensures err { OnErr result (self.new ≡ self.old) }
-    {
-        let (tree, applied) = run(self.alloc, &self.tree, &self.plan.env, text, None)?;
-        let replies = replies_to(self.alloc, applied.replies.items())?;
         let newest = arrange(self.alloc, &tree)?;
-        self.commit(tree, newest);
-        Ok(Answer::Replies(List::of(replies)))
-    }
-
-    /// Answers a text that is not run with this reply, and changes nothing.
-    fn reply(&mut self, reply: Reply) -> Result<Answer, NoMemory>
-        requires few { self.old.steps < 2 ^ 48 }
-        ensures answer { IfOk result (λ a. a ≡ Replies (reply ∷ [])) }
-        ensures stands { (history : History) → (entry : Entry) →
-            self.old.tree ≡ tree_after self.old.plan.env.homes self.old.tree entry.who entry.act →
-            ((v : ConId) → (b : Option Buffer) → buffer_after self.old.tree entry.act v b ≡ b) →
-            Stands self.old history → OnOk result (Stands self.new (entry ∷ history)) }
-        ensures plan { self.new.plan ≡ self.old.plan }
-        ensures count { OnOk result (self.new.steps ≡ self.old.steps + 1) }
-        ensures err { OnErr result (self.new ≡ self.old) }
-    {
-        let replies = vec![in self.alloc; reply]?;
-        self.steps += 1;
-        Ok(Answer::Replies(List::of(replies)))
-    }
-
-    /// Whether this is an open window of the caller.
-    fn is_window(&self, who: u32, con: ConId) -> bool
-        ensures value { result ≡ is_window self.now.tree who con }
-        ensures there { OnTrue result ((has con self.now.tree.nodes ≡ true) × (kind_of con_kind con self.now.tree.nodes ≢ None)) }
-    {
-        match self.tree.container(con) {
-            Some(part) => is_owned(who, &part.kind),
-            None => false,
-        }
+        keep(&mut self.buffers, opened)?;
+        forget(&mut self.buffers, gone);
+        self.advance(tree, newest);
+        Ok(())
     }
 
     /// Takes a tree and its arrangement as those after this step: a transaction begins, and ends, where the
     /// arrangement differs from the last one.
-    fn commit(&mut self, tree: Tree, newest: Arrangement)
+    fn advance(&mut self, tree: Tree, newest: Arrangement)
         requires few { self.old.steps < 2 ^ 48 }
         requires arranged { newest.parts ≡ arranged tree }
         requires sound { trees.IsSound tree }
@@ -267,19 +203,27 @@ impl Desk {
     }
 }
 
-/// Whether a side is 0.
-fn has_no_pixels(size: Size) -> bool
-    ensures { result ≡ has_no_pixels size }
+/// Keeps the buffer of a window that was opened.
+fn keep(
+    buffers: &mut BTreeMap<u32, Buffer>,
+    opened: Option<(ConId, Buffer)>,
+) -> Result<(), AllocError>
+    ensures kept { (v : ConId) → OnOk result (buffer_in buffers.new.entries v ≡ opened_with opened v (buffer_in buffers.old.entries v)) }
+    ensures err { OnErr result (buffers.new.entries ≡ buffers.old.entries) }
 {
-    size.w == 0 || size.h == 0
+    if let Some((window, buffer)) = opened {
+        buffers.insert(window.0, buffer)?;
+    }
+    Ok(())
 }
 
-/// Whether this is a window of the caller.
-fn is_owned(who: u32, kind: &ConKind) -> bool
-    ensures { result ≡ is_owned who kind.now }
+/// Forgets the buffers of windows that are gone.
+fn forget(buffers: &mut BTreeMap<u32, Buffer>, gone: &[ConId])
+    ensures { (v : ConId) → lists v gone.now ≡ false → buffer_in buffers.new.entries v ≡ buffer_in buffers.old.entries v }
 {
-    match kind {
-        ConKind::Window { owner, .. } => *owner == who,
-        ConKind::Split { .. } | ConKind::Placeholder { .. } => false,
+    let mut rest = gone;
+    while let [window, after @ ..] = rest {
+        buffers.remove(&window.0);
+        rest = after;
     }
 }

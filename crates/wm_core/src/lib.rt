@@ -4,10 +4,16 @@
 mod desk;
 mod frame;
 mod look;
+mod mapping;
+mod outputs;
 mod replies;
+mod running;
 mod step;
 #[cfg(test)]
 mod tests;
+#[cfg(test)]
+mod tests_steps;
+mod windows;
 
 pub use desk::Desk;
 pub use look::{Query, View};

@@ -9,12 +9,12 @@ use wm_base::{Buffer, ConId, Ink, NoMemory, Props, Size, Text};
 use wm_layouts::Plan;
 use wm_paint::frame_text;
 
-const AMBER: Buffer = Buffer {
+pub const AMBER: Buffer = Buffer {
     ink: Ink(0xe0b030),
     size: Size { w: 400, h: 300 },
 };
 
-const BLUE: Buffer = Buffer {
+pub const BLUE: Buffer = Buffer {
     ink: Ink(0x3070e0),
     size: Size { w: 640, h: 480 },
 };
@@ -25,14 +25,14 @@ const NO_HEIGHT: Buffer = Buffer {
 };
 
 /// A desk of one output of 1000x800.
-fn started(alloc: Global) -> Result<Desk, NoMemory>
+pub fn started(alloc: Global) -> Result<Desk, NoMemory>
     ensures { IfOk result (λ desk. desk.steps ≡ 0) }
 {
     Desk::start(alloc, Plan::standard(alloc)?)
 }
 
 /// Takes a step.
-fn take(desk: &mut Desk, who: u32, step: Step) -> Result<Answer, NoMemory>
+pub fn take(desk: &mut Desk, who: u32, step: Step) -> Result<Answer, NoMemory>
     requires few { desk.old.steps ≤ 1000 }
     requires fit { IsFitStep step }
     ensures { OnOk result (desk.new.steps ≡ desk.old.steps + 1) }
@@ -41,12 +41,12 @@ fn take(desk: &mut Desk, who: u32, step: Step) -> Result<Answer, NoMemory>
 }
 
 /// A short text.
-fn word(alloc: Global, text: &str) -> Result<Text, NoMemory> {
+pub fn word(alloc: Global, text: &str) -> Result<Text, NoMemory> {
     Text::new(alloc, text).map_err(|_| NoMemory)
 }
 
 /// Opens a window without properties.
-fn map(alloc: Global, desk: &mut Desk, who: u32, buffer: Buffer) -> Result<Answer, NoMemory>
+pub fn map(alloc: Global, desk: &mut Desk, who: u32, buffer: Buffer) -> Result<Answer, NoMemory>
     requires few { desk.old.steps ≤ 1000 }
     requires fit { IsFitSize buffer.size }
     ensures { OnOk result (desk.new.steps ≡ desk.old.steps + 1) }
@@ -68,7 +68,7 @@ fn map(alloc: Global, desk: &mut Desk, who: u32, buffer: Buffer) -> Result<Answe
 }
 
 /// The text of the desk's frame.
-fn text(alloc: Global, desk: &Desk) -> Result<String, NoMemory> {
+pub fn text(alloc: Global, desk: &Desk) -> Result<String, NoMemory> {
     frame_text(alloc, &desk.frame()?)
 }
 

@@ -14,7 +14,6 @@ use Rattle.wm_tree.proofs.IdLemmas.{ids_attached, ids_raised, ids_settled, ids_t
 use Rattle.wm_core.specs.DeskValue.{DeskValue}
 use Rattle.wm_core.specs.History.{has_no_pixels, limit_of, mapped}
 use Rattle.wm_core.specs.Act.{Map}
-use Rattle.wm_core.proofs.StandsLemmas.{stands_next, stands_counted, buffer_put, still_known}
 use Rattle.wm_core.proofs.desk.Desk.map.Goals as goal
 
 limit_via : (t copy : TreeValue) (at : Place) (limit : Option Limit) → copy ≡ t → at ≡ newcomer_place copy → passed_limit at copy.nodes copy.next_id ≡ limit → limit_of t ≡ limit
@@ -36,36 +35,31 @@ mapped_ids t attached_tree raised_tree settled_tree at i newcomer a r s =
 -- a buffer without pixels changes nothing
 pub returns-then-has_no_pixels-clause-stands : goal.returns-then-has_no_pixels-clause-stands
 returns-then-has_no_pixels-clause-stands c = λ history s.
-    let i = c.self.inside in
-    let d : DeskValue = record { plan = i.plan; steps = i.steps; tree = i.tree; buffers = i.buffers.entries; number = i.number; prefix = i.prefix; parts = i.arrangement.parts } in
     let empty : has_no_pixels c.args.buffer.size ≡ true = sym c.has_no_pixels.ensures ∙ c.if-has_no_pixels.true in
-    stands_counted d history (record { who = c.args.who; act = Map c.args.props.now c.args.buffer }) (rw (← c.self.view_is) at s) c.self.invariant.1 (rw empty refl) (λ v b. rw empty refl)
+    c.stay.ensures.stands history (record { who = c.args.who; act = Map c.args.props.now c.args.buffer }) s (rw empty refl) (λ v b. rw empty refl)
 
 -- nor does one for which there is no room
 pub returns-in-Err-Full-clause-stands : goal.returns-in-Err-Full-clause-stands
 returns-in-Err-Full-clause-stands c = λ history s.
-    let i = c.self.inside in
-    let d : DeskValue = record { plan = i.plan; steps = i.steps; tree = i.tree; buffers = i.buffers.entries; number = i.number; prefix = i.prefix; parts = i.arrangement.parts } in
+    let same : c.in_ok-tree.tree ≡ c.args.self.now.tree = c.in_ok-tree.ensures ∙ ap (λ (d : DeskValue). d.tree) c.self.view_is in
     let pixels : has_no_pixels c.args.buffer.size ≡ false = sym c.has_no_pixels.ensures ∙ c.if-has_no_pixels.false in
-    let full : limit_of d.tree ≡ Some c.in-Err-Full.limit = limit_via d.tree c.in_ok-tree.tree c.newcomer_place.result _ c.in_ok-tree.ensures c.newcomer_place.ensures.place (rw c.in-Err-Full.field-0-is at c.in-Err-Full.ensures.cause).1 in
-    stands_counted d history (record { who = c.args.who; act = Map c.args.props.now c.args.buffer }) (rw (← c.self.view_is) at s) c.self.invariant.1 (rw (pixels, full) refl) (λ v b. rw (pixels, full) refl)
+    let full : limit_of c.args.self.now.tree ≡ Some c.in-Err-Full.limit =
+    limit_via c.args.self.now.tree c.in_ok-tree.tree c.newcomer_place.result _ same c.newcomer_place.ensures.place (rw c.in-Err-Full.field-0-is at c.in-Err-Full.ensures.cause).1 in
+    c.stay-in-Err-Full.ensures.stands history (record { who = c.args.who; act = Map c.args.props.now c.args.buffer }) s (rw (pixels, full) refl) (λ v b. rw (pixels, full) refl)
 
 -- the new window is raised, and its buffer kept
 pub returns-clause-stands : goal.returns-clause-stands
 returns-clause-stands c = λ history s.
-    let i = c.self.inside in
-    let d : DeskValue = record { plan = i.plan; steps = i.steps; tree = i.tree; buffers = i.buffers.entries; number = i.number; prefix = i.prefix; parts = i.arrangement.parts } in
-    let stood = rw (← c.self.view_is) at s in
+    let t = c.args.self.now.tree in
+    let same : c.in_ok-tree.tree ≡ t = c.in_ok-tree.ensures ∙ ap (λ (d : DeskValue). d.tree) c.self.view_is in
     let pixels : has_no_pixels c.args.buffer.size ≡ false = sym c.has_no_pixels.ensures ∙ c.if-has_no_pixels.false in
-    let room : limit_of d.tree ≡ None = limit_via d.tree c.in_ok-tree.tree c.newcomer_place.result _ c.in_ok-tree.ensures c.newcomer_place.ensures.place c.in-Ok.ensures.room in
-    let number = c.in-Ok.ensures.id ∙ ap (λ (z : TreeValue). id z.next_id) c.in_ok-tree.ensures in
+    let room : limit_of t ≡ None = limit_via t c.in_ok-tree.tree c.newcomer_place.result _ same c.newcomer_place.ensures.place c.in-Ok.ensures.room in
+    let number : c.in-Ok.id ≡ id t.next_id = c.in-Ok.ensures.id ∙ ap (λ (z : TreeValue). id z.next_id) same in
     let raised_tree = c.raise.ensures.tree in
     let ids = mapped_ids c.in_ok-tree.tree c.attach.new.self c.raise.new.self c.settle.new.self c.newcomer_place.result c.in-Ok.id (Window c.in_ok-copy_props.field-0 c.args.who c.args.buffer.size) c.in-Ok.ensures.ok raised_tree c.settle.ensures.tree in
-    rw c.commit.ensures
-    (stands_next d history (record { who = c.args.who; act = Map c.args.props.now c.args.buffer }) c.settle.new.self c.insert.new.self.entries stood c.self.invariant.1
-    (mapped_via d.tree c.in_ok-tree.tree c.attach.new.self c.raise.new.self c.settle.new.self c.newcomer_place.result c.in-Ok.id c.args.who c.args.props.now _ c.args.buffer.size c.in_ok-tree.ensures c.newcomer_place.ensures.place c.in-Ok.ensures.id c.in_ok-copy_props.ensures c.in-Ok.ensures.ok raised_tree c.settle.ensures.tree
+    c.in_ok-commit.ensures.stands history (record { who = c.args.who; act = Map c.args.props.now c.args.buffer }) s
+    (mapped_via t c.in_ok-tree.tree c.attach.new.self c.raise.new.self c.settle.new.self c.newcomer_place.result c.in-Ok.id c.args.who c.args.props.now _ c.args.buffer.size same c.newcomer_place.ensures.place c.in-Ok.ensures.id c.in_ok-copy_props.ensures c.in-Ok.ensures.ok raised_tree c.settle.ensures.tree
     ∙ rw (pixels, room) refl)
-    (λ v h.
-    buffer_put i.buffers.entries c.insert.new.self.entries c.in-Ok.id v c.args.buffer _ (c.in_ok-insert.ensures.updates.0 v.0)
-    (λ other. stood.buffers v (rw c.in_ok-tree.ensures at (still_known c.in_ok-tree.tree c.settle.new.self v ids h)))
-    ∙ rw (pixels, room, number) refl))
+    (subst (λ z. IdsRise z c.settle.new.self) same ids)
+    (λ v h. refl)
+    (λ v b. rw (pixels, room, number) refl)

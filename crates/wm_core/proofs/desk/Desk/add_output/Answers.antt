@@ -1,0 +1,69 @@
+use Rattle.std.proofs.Common.{◌≡◌, true, false, is_some, Some, None, ap, refl, subst, sym, ◌∙◌}
+use Rattle.wm_layouts.specs.Plan.{is_fit_rect}
+use Rattle.wm_spaces.specs.Coming.{output_added_tree}
+use Rattle.wm_spaces.specs.Names.{output_named}
+use Rattle.wm_spaces.proofs.RiseLemmas.{ids_output_added}
+use Rattle.wm_tree.specs.Ids.{IdsRise}
+use Rattle.wm_tree.specs.Outputs.{passed_by_output}
+use Rattle.wm_tree.specs.TreeValue.{TreeValue}
+use Rattle.wm_tree.specs.Words.{settled}
+use Rattle.wm_core.specs.Act.{OutputAdd}
+use Rattle.wm_core.specs.DeskValue.{DeskValue}
+use Rattle.wm_core.proofs.StepLemmas.{has_limit, has_room, never_taken}
+use Rattle.wm_core.proofs.desk.Desk.add_output.Goals as goal
+
+-- an output has the name, so nothing changes
+pub returns-then-is_some-clause-stands : goal.returns-then-is_some-clause-stands
+returns-then-is_some-clause-stands c = λ history s.
+    let seen = ap (λ (d : DeskValue). d.tree) c.self.view_is in
+    let taken : is_some (output_named c.args.plan.now.name c.args.self.now.tree) ≡ true =
+    sym (c.if-is_some.ensures ∙ ap is_some (c.in_ok-output_named.ensures ∙ ap (output_named c.args.plan.now.name) seen)) in
+    c.stay.ensures.stands history (record { who = c.args.who; act = OutputAdd c.args.plan.now }) s (rw taken refl) (λ v b. refl)
+
+-- nor does anything where the rectangle is outside the limits
+pub returns-then-not-is_fit_rect-clause-stands : goal.returns-then-not-is_fit_rect-clause-stands
+returns-then-not-is_fit_rect-clause-stands c = λ history s.
+    let seen = ap (λ (d : DeskValue). d.tree) c.self.view_is in
+    let free : is_some (output_named c.args.plan.now.name c.args.self.now.tree) ≡ false =
+    sym (c.if-is_some.ensures ∙ ap is_some (c.in_ok-output_named.ensures ∙ ap (output_named c.args.plan.now.name) seen)) in
+    let unfit : is_fit_rect c.args.plan.now.rect ≡ false = sym c.if-not-is_fit_rect.ensures in
+    c.stay-then-not-is_fit_rect.ensures.stands history (record { who = c.args.who; act = OutputAdd c.args.plan.now }) s (rw (free, unfit) refl) (λ v b. refl)
+
+pub returns-in-Ok-clause-stands : goal.returns-in-Ok-clause-stands
+returns-in-Ok-clause-stands c = λ history s.
+    let t = c.args.self.now.tree in
+    let seen = ap (λ (d : DeskValue). d.tree) c.self.view_is in
+    let same : c.in_ok-tree.tree ≡ t = c.in_ok-tree.ensures ∙ seen in
+    let free : is_some (output_named c.args.plan.now.name t) ≡ false =
+    sym (c.if-is_some.ensures ∙ ap is_some (c.in_ok-output_named.ensures ∙ ap (output_named c.args.plan.now.name) seen)) in
+    let fit : is_fit_rect c.args.plan.now.rect ≡ true = sym c.if-not-is_fit_rect.ensures in
+    let copied : is_some (output_named c.args.plan.now.name c.in_ok-tree.tree) ≡ false = ap (λ z. is_some (output_named c.args.plan.now.name z)) same ∙ free in
+    let room : passed_by_output t.nodes t.next_id ≡ None =
+    ap (λ (z : TreeValue). passed_by_output z.nodes z.next_id) (sym same) ∙ has_room c.args.plan.now c.in_ok-tree.tree copied c.in-Ok.ensures.fine in
+    let left = c.in-Ok.ensures.tree ∙ ap (output_added_tree c.args.plan.now) same in
+    c.finish.ensures.stands history (record { who = c.args.who; act = OutputAdd c.args.plan.now }) s
+    (ap settled left ∙ rw (free, fit, room) refl)
+    (subst (IdsRise t) (sym left) (ids_output_added c.args.plan.now t))
+    (λ v h. refl)
+    (λ v b. refl)
+
+-- no room, so nothing changes
+pub returns-in-Err-Full-clause-stands : goal.returns-in-Err-Full-clause-stands
+returns-in-Err-Full-clause-stands c = λ history s.
+    let t = c.args.self.now.tree in
+    let seen = ap (λ (d : DeskValue). d.tree) c.self.view_is in
+    let same : c.in_ok-tree.tree ≡ t = c.in_ok-tree.ensures ∙ seen in
+    let free : is_some (output_named c.args.plan.now.name t) ≡ false =
+    sym (c.if-is_some.ensures ∙ ap is_some (c.in_ok-output_named.ensures ∙ ap (output_named c.args.plan.now.name) seen)) in
+    let fit : is_fit_rect c.args.plan.now.rect ≡ true = sym c.if-not-is_fit_rect.ensures in
+    let copied : is_some (output_named c.args.plan.now.name c.in_ok-tree.tree) ≡ false = ap (λ z. is_some (output_named c.args.plan.now.name z)) same ∙ free in
+    let full : passed_by_output t.nodes t.next_id ≡ Some c.in-Err-Full.limit =
+    ap (λ (z : TreeValue). passed_by_output z.nodes z.next_id) (sym same) ∙ has_limit c.args.plan.now c.in_ok-tree.tree copied c.in-Err-Full.limit (rw c.in-Err-Full.field-0-is at c.in-Err-Full.ensures.cause) in
+    c.stay-in-Err-Full.ensures.stands history (record { who = c.args.who; act = OutputAdd c.args.plan.now }) s (rw (free, fit, full) refl) (λ v b. refl)
+
+-- the name was tested before
+pub unreachable-requires : goal.unreachable-requires
+unreachable-requires c =
+    let free : is_some (output_named c.args.plan.now.name c.in_ok-tree.tree) ≡ false =
+    sym (c.if-is_some.ensures ∙ ap is_some (c.in_ok-output_named.ensures ∙ ap (output_named c.args.plan.now.name) (sym c.in_ok-tree.ensures))) in
+    never_taken c.args.plan.now c.in_ok-tree.tree free c.in-Err-NameTaken.ensures.cause

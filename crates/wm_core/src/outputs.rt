@@ -1,0 +1,91 @@
+//! Outputs that come and go, and the edges that bars reserve of them.
+ghost use Rattle.std.specs.Prelude.{◌≡◌, ◌+◌, ◌<◌, ◌^◌, ◌∷◌, IfOk, OnOk, OnErr};
+ghost use Rattle.wm_core.specs.Act.{OutputAdd, OutputRemove, Reserve};
+ghost use Rattle.wm_core.specs.DeskValue.{Stands};
+ghost use Rattle.wm_core.specs.History.{answer_to, History};
+ghost use Rattle.wm_spaces.specs.Names.{output_named};
+
+use crate::desk::Desk;
+use crate::step::Answer;
+use wm_base::{ConId, Edges, NoMemory, OutputPlan, Refusal, Text};
+use wm_grammar::OutArg;
+use wm_layouts::is_fit_rect;
+use wm_spaces::{output_added, output_at, output_removed};
+use wm_tree::Tree;
+
+impl Desk {
+    /// Adds an output, where its name is free, its rectangle within the limits, and there is room for it.
+    pub(crate) fn add_output(&mut self, who: u32, plan: &OutputPlan) -> Result<Answer, NoMemory>
+        requires few { self.old.steps < 2 ^ 48 }
+        ensures answer { IfOk result (λ a. a ≡ answer_to self.old.plan.env.homes self.old.tree who (OutputAdd plan.now)) }
+        ensures stands { (history : History) → Stands self.old history →
+            OnOk result (Stands self.new (record { who = who; act = OutputAdd plan.now } ∷ history)) }
+        ensures plan { self.new.plan ≡ self.old.plan }
+        ensures count { OnOk result (self.new.steps ≡ self.old.steps + 1) }
+        ensures err { OnErr result (self.new ≡ self.old) }
+    {
+        if output_named(&self.tree, &plan.name)?.is_some() {
+            return Ok(self.stay(Answer::NameTaken));
+        }
+        if !is_fit_rect(plan.rect) {
+            return Ok(self.stay(Answer::BadRect));
+        }
+        let mut tree = self.tree.copy()?;
+        match output_added(self.alloc, &mut tree, plan) {
+            Ok(()) => self.finish(tree, &[]),
+            Err(Refusal::Full { limit }) => Ok(self.stay(Answer::Full(limit))),
+            Err(Refusal::NoMemory) => Err(NoMemory),
+            Err(Refusal::NameTaken | Refusal::NoTarget(_)) => unreachable!(),
+        }
+    }
+
+    /// Removes the output of this name, where it is not the only one.
+    pub(crate) fn remove_output(&mut self, who: u32, name: &Text) -> Result<Answer, NoMemory>
+        requires few { self.old.steps < 2 ^ 48 }
+        ensures answer { IfOk result (λ a. a ≡ answer_to self.old.plan.env.homes self.old.tree who (OutputRemove name.now)) }
+        ensures stands { (history : History) → Stands self.old history →
+            OnOk result (Stands self.new (record { who = who; act = OutputRemove name.now } ∷ history)) }
+        ensures plan { self.new.plan ≡ self.old.plan }
+        ensures count { OnOk result (self.new.steps ≡ self.old.steps + 1) }
+        ensures err { OnErr result (self.new ≡ self.old) }
+    {
+        let mut tree = self.tree.copy()?;
+        match output_removed(&mut tree, name) {
+            Ok(()) => self.finish(tree, &[]),
+            Err(Refusal::NoTarget(_)) => Ok(self.stay(Answer::NoTarget)),
+            Err(Refusal::NoMemory) => Err(NoMemory),
+            Err(Refusal::NameTaken | Refusal::Full { .. }) => unreachable!(),
+        }
+    }
+
+    /// Reserves the edges of the output of this name.
+    pub(crate) fn reserve(
+        &mut self,
+        who: u32,
+        name: &Text,
+        edges: Edges,
+    ) -> Result<Answer, NoMemory>
+        requires few { self.old.steps < 2 ^ 48 }
+        ensures answer { IfOk result (λ a. a ≡ answer_to self.old.plan.env.homes self.old.tree who (Reserve name.now edges)) }
+        ensures stands { (history : History) → Stands self.old history →
+            OnOk result (Stands self.new (record { who = who; act = Reserve name.now edges } ∷ history)) }
+        ensures plan { self.new.plan ≡ self.old.plan }
+        ensures count { OnOk result (self.new.steps ≡ self.old.steps + 1) }
+        ensures err { OnErr result (self.new ≡ self.old) }
+    {
+        let Some(output) = output_named(&self.tree, name)? else {
+            return Ok(self.stay(Answer::NoTarget));
+        };
+        let mut tree = self.tree.copy()?;
+        tree.set_reserved(output, edges);
+        self.finish(tree, &[])
+    }
+}
+
+/// The output of this name.
+fn output_named(tree: &Tree, name: &Text) -> Result<Option<ConId>, NoMemory>
+    ensures { IfOk result (λ output. output ≡ output_named name.now tree.now) }
+{
+    let named = OutArg::Named(name.clone()?);
+    Ok(output_at(tree, tree.current(), &named))
+}

@@ -1,0 +1,168 @@
+//! The windows of a caller: what they say of themselves, and how they go.
+ghost use Rattle.std.specs.Prelude.{◌≡◌, ◌≢◌, ◌+◌, ◌<◌, ◌^◌, ◌∷◌, true, None, IfOk, OnOk, OnErr, filter, if◌then◌else◌};
+ghost use Rattle.std.specs.Bool.{OnTrue};
+ghost use Rattle.wm_core.specs.Act.{Close, Gone, Retitle, Urgent};
+ghost use Rattle.wm_core.specs.DeskValue.{Stands};
+ghost use Rattle.wm_core.specs.History.{answer_to, History};
+ghost use Rattle.wm_core.specs.Windows.{AreContainers, is_owned, is_window, owned, with_urgent, without_urgent, without_windows};
+ghost use Rattle.wm_tree.specs.Look.{con_kind, has, kind_of};
+ghost use Rattle.wm_tree.specs.Recency.{lists};
+ghost use Rattle.wm_tree.specs.Sound as trees;
+
+use crate::desk::Desk;
+use crate::step::Answer;
+use std::alloc::{AllocError, Global};
+use wm_base::{ConId, NoMemory, Text};
+use wm_tree::{ConKind, Tree};
+
+impl Desk {
+    /// Closes the caller's window.
+    pub(crate) fn close(&mut self, who: u32, con: ConId) -> Result<Answer, NoMemory>
+        requires few { self.old.steps < 2 ^ 48 }
+        ensures answer { IfOk result (λ a. a ≡ answer_to self.old.plan.env.homes self.old.tree who (Close con)) }
+        ensures stands { (history : History) → Stands self.old history →
+            OnOk result (Stands self.new (record { who = who; act = Close con } ∷ history)) }
+        ensures plan { self.new.plan ≡ self.old.plan }
+        ensures count { OnOk result (self.new.steps ≡ self.old.steps + 1) }
+        ensures err { OnErr result (self.new ≡ self.old) }
+    {
+        if !is_window(&self.tree, who, con) {
+            return Ok(self.stay(Answer::NoView));
+        }
+        let mut tree = self.tree.copy()?;
+        detach_all(&mut tree, &[con]);
+        self.finish(tree, &[con])
+    }
+
+    /// Closes all windows of the caller.
+    pub(crate) fn gone(&mut self, who: u32) -> Result<Answer, NoMemory>
+        requires few { self.old.steps < 2 ^ 48 }
+        ensures answer { IfOk result (λ a. a ≡ answer_to self.old.plan.env.homes self.old.tree who (Gone)) }
+        ensures stands { (history : History) → Stands self.old history →
+            OnOk result (Stands self.new (record { who = who; act = Gone } ∷ history)) }
+        ensures plan { self.new.plan ≡ self.old.plan }
+        ensures count { OnOk result (self.new.steps ≡ self.old.steps + 1) }
+        ensures err { OnErr result (self.new ≡ self.old) }
+    {
+        let windows = owned(self.alloc, &self.tree, who)?;
+        let mut tree = self.tree.copy()?;
+        detach_all(&mut tree, &windows);
+        self.finish(tree, &windows)
+    }
+
+    /// Gives the caller's window another title.
+    pub(crate) fn retitle(&mut self, who: u32, con: ConId, title: &Text) -> Result<Answer, NoMemory>
+        requires few { self.old.steps < 2 ^ 48 }
+        ensures answer { IfOk result (λ a. a ≡ answer_to self.old.plan.env.homes self.old.tree who (Retitle con title.now)) }
+        ensures stands { (history : History) → Stands self.old history →
+            OnOk result (Stands self.new (record { who = who; act = Retitle con title.now } ∷ history)) }
+        ensures plan { self.new.plan ≡ self.old.plan }
+        ensures count { OnOk result (self.new.steps ≡ self.old.steps + 1) }
+        ensures err { OnErr result (self.new ≡ self.old) }
+    {
+        if !is_window(&self.tree, who, con) {
+            return Ok(self.stay(Answer::NoView));
+        }
+        let mut tree = self.tree.copy()?;
+        tree.set_title(con, title.clone()?);
+        self.finish(tree, &[])
+    }
+
+    /// Says whether the caller's window is urgent.
+    pub(crate) fn urgent(&mut self, who: u32, con: ConId, on: bool) -> Result<Answer, NoMemory>
+        requires few { self.old.steps < 2 ^ 48 }
+        ensures answer { IfOk result (λ a. a ≡ answer_to self.old.plan.env.homes self.old.tree who (Urgent con on)) }
+        ensures stands { (history : History) → Stands self.old history →
+            OnOk result (Stands self.new (record { who = who; act = Urgent con on } ∷ history)) }
+        ensures plan { self.new.plan ≡ self.old.plan }
+        ensures count { OnOk result (self.new.steps ≡ self.old.steps + 1) }
+        ensures err { OnErr result (self.new ≡ self.old) }
+    {
+        if !is_window(&self.tree, who, con) {
+            return Ok(self.stay(Answer::NoView));
+        }
+        let mut tree = self.tree.copy()?;
+        set_urgent(&mut tree, con, on)?;
+        self.finish(tree, &[])
+    }
+}
+
+/// Whether this is an open window of the caller.
+fn is_window(tree: &Tree, who: u32, con: ConId) -> bool
+    ensures value { result ≡ is_window tree.now who con }
+    ensures there { OnTrue result ((has con tree.now.nodes ≡ true) × (kind_of con_kind con tree.now.nodes ≢ None)) }
+{
+    match tree.container(con) {
+        Some(part) => is_owned(who, &part.kind),
+        None => false,
+    }
+}
+
+/// Whether this is a window of the caller.
+fn is_owned(who: u32, kind: &ConKind) -> bool
+    ensures { result ≡ is_owned who kind.now }
+{
+    match kind {
+        ConKind::Window { owner, .. } => *owner == who,
+        ConKind::Split { .. } | ConKind::Placeholder { .. } => false,
+    }
+}
+
+/// The open windows of the caller, the most recent first.
+fn owned(alloc: Global, tree: &Tree, who: u32) -> Result<Vec<ConId>, AllocError>
+    ensures { IfOk result (λ windows. windows.items ≡ owned who tree.now) }
+{
+    let mut windows = Vec::new(alloc);
+    let mut rest = tree.recent_ids();
+    while let [con, after @ ..] = rest {
+        if is_window(tree, who, *con) {
+            windows.push(*con)?;
+        }
+        rest = after;
+    }
+    Ok(windows)
+}
+
+/// Takes the windows out of the tree, those that are there.
+fn detach_all(tree: &mut Tree, windows: &[ConId])
+    requires containers { AreContainers windows.now tree.old }
+    requires sound { trees.IsSound tree.old }
+    ensures tree { tree.new ≡ without_windows windows.now tree.old }
+    ensures sound { trees.IsSound tree.new }
+{
+    let mut rest = windows;
+    while let [window, after @ ..] = rest {
+        let _ = tree.detach(*window);
+        rest = after;
+    }
+}
+
+/// Makes a window that is there urgent, or no longer so.
+fn set_urgent(tree: &mut Tree, window: ConId, on: bool) -> Result<(), NoMemory>
+    requires there { has window tree.old.nodes ≡ true }
+    ensures tree { OnOk result (tree.new ≡ (if on then with_urgent window tree.old else without_urgent window tree.old)) }
+    ensures sound { trees.IsSound tree.old → trees.IsSound tree.new }
+{
+    if !on {
+        tree.remove_urgent(window);
+        return Ok(());
+    }
+    if lists(window, tree.urgent_ids()) {
+        return Ok(());
+    }
+    tree.add_urgent(window).map_err(|_| NoMemory)
+}
+
+/// Whether the window is among these.
+fn lists(window: ConId, ids: &[ConId]) -> bool
+    ensures { result ≡ lists window ids.now }
+{
+    let mut rest = ids;
+    while let [id, after @ ..] = rest {
+        if *id == window {
+            return true;
+        }
+        rest = after;
+    }
+    false
+}
