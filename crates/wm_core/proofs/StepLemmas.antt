@@ -1,5 +1,5 @@
 -- What a step on outputs leaves, by what is known of the tree.
-use Rattle.std.proofs.Common.{◌≡◌, false, is_some, Option, Some, None, refl, ap, sym, ◌∙◌, ℕ, List}
+use Rattle.std.proofs.Common.{◌≡◌, Bool, true, false, not, is_some, Option, Some, None, refl, ap, sym, ◌∙◌, ℕ, List}
 use Rattle.wm_base.specs.declared.errors.Limit.{Limit}
 use Rattle.wm_base.specs.declared.errors.Refusal.{Refusal}
 use Rattle.wm_base.specs.declared.errors.Refusal.TheVariants.{Full, NameTaken}
@@ -10,7 +10,11 @@ use Rattle.wm_spaces.specs.Names.{output_named}
 use Rattle.wm_tree.specs.Outputs.{passed_by_output}
 use Rattle.wm_tree.specs.TreeValue.{TreeValue}
 use Rattle.wm_core.specs.History.{if_done}
-use Rattle.wm_core.specs.Outputs.{remove_answer, removed}
+use Rattle.wm_core.specs.Outputs.{add_answer, added, remove_answer, removed, unless_full}
+use Rattle.wm_core.specs.declared.step.Answer.{Answer}
+use Rattle.wm_core.specs.declared.step.Answer.TheVariants as answers
+use Rattle.wm_layouts.specs.Plan.{is_fit_rect}
+use Rattle.std.specs.Prelude.{if◌then◌else◌}
 
 room : (p : Option Limit) → full_error p ≡ None → p ≡ None
 room None h = refl
@@ -33,6 +37,25 @@ module _ (plan : OutputPlan) (t : TreeValue) (free : is_some (output_named plan.
 
   pub never_taken : output_added_refusal plan t ≡ Some NameTaken → ⊥
   never_taken h = never (passed_by_output t.nodes t.next_id) (rw free at h)
+
+-- the answer to an output that comes, by what was tested
+abbrev add_by : Bool → Bool → Option Limit → Answer
+add_by taken fit passed = if taken then answers.NameTaken else if not fit then answers.BadRect else unless_full passed
+
+add_is : (plan : OutputPlan) (t : TreeValue) (passed : Option Limit) → is_some (output_named plan.name t) ≡ false → is_fit_rect plan.rect ≡ true → passed_by_output t.nodes t.next_id ≡ passed
+    → add_answer plan t ≡ unless_full passed
+add_is plan t passed free fit h =
+    ap (λ b. add_by b (is_fit_rect plan.rect) (passed_by_output t.nodes t.next_id)) free ∙ (ap (λ b. add_by false b (passed_by_output t.nodes t.next_id)) fit ∙ ap (add_by false true) h)
+
+-- an output for which there is room comes
+pub is_added : (plan : OutputPlan) (t : TreeValue) → is_some (output_named plan.name t) ≡ false → is_fit_rect plan.rect ≡ true → passed_by_output t.nodes t.next_id ≡ None
+    → added plan t ≡ if_done (add_answer plan t) (added plan t) t
+is_added plan t free fit h = sym (ap (λ a. if_done a (added plan t) t) (add_is plan t None free fit h))
+
+-- another one leaves the tree
+pub not_added : (plan : OutputPlan) (t : TreeValue) (l : Limit) → is_some (output_named plan.name t) ≡ false → is_fit_rect plan.rect ≡ true → passed_by_output t.nodes t.next_id ≡ Some l
+    → t ≡ if_done (add_answer plan t) (added plan t) t
+not_added plan t l free fit h = sym (ap (λ a. if_done a (added plan t) t) (add_is plan t (Some l) free fit h))
 
 -- an output that is not taken out leaves the tree
 pub not_removed : (name : List ℕ) (t copy : TreeValue) (e : Refusal) → copy ≡ t → output_removed_refusal name copy ≡ Some e → t ≡ if_done (remove_answer name t) (removed name t) t

@@ -35,7 +35,8 @@ impl Desk {
             Ok(()) => self.finish(tree, &[]),
             Err(Refusal::Full { limit }) => Ok(self.stay(Answer::Full(limit))),
             Err(Refusal::NoMemory) => Err(NoMemory),
-            Err(Refusal::NameTaken | Refusal::NoTarget(_)) => unreachable!(),
+            Err(Refusal::NameTaken) => unreachable!(),
+            Err(Refusal::NoTarget(_)) => unreachable!(),
         }
     }
 

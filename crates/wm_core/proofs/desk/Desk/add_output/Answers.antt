@@ -9,7 +9,7 @@ use Rattle.wm_tree.specs.TreeValue.{TreeValue}
 use Rattle.wm_tree.specs.Words.{settled}
 use Rattle.wm_core.specs.Act.{OutputAdd}
 use Rattle.wm_core.specs.DeskValue.{DeskValue}
-use Rattle.wm_core.proofs.StepLemmas.{has_limit, has_room, never_taken}
+use Rattle.wm_core.proofs.StepLemmas.{has_limit, has_room, is_added, never_taken, not_added}
 use Rattle.wm_core.proofs.desk.Desk.add_output.Goals as goal
 
 -- an output has the name, so nothing changes
@@ -42,7 +42,7 @@ returns-in-Ok-clause-stands c = λ history s.
     ap (λ (z : TreeValue). passed_by_output z.nodes z.next_id) (sym same) ∙ has_room c.args.plan.now c.in_ok-tree.tree copied c.in-Ok.ensures.fine in
     let left = c.in-Ok.ensures.tree ∙ ap (output_added_tree c.args.plan.now) same in
     c.finish.ensures.stands history (record { who = c.args.who; act = OutputAdd c.args.plan.now }) s
-    (ap settled left ∙ rw (free, fit, room) refl)
+    (ap settled left ∙ is_added c.args.plan.now t free fit room)
     (subst (IdsRise t) (sym left) (ids_output_added c.args.plan.now t))
     (λ v h. refl)
     (λ v b. refl)
@@ -59,11 +59,11 @@ returns-in-Err-Full-clause-stands c = λ history s.
     let copied : is_some (output_named c.args.plan.now.name c.in_ok-tree.tree) ≡ false = ap (λ z. is_some (output_named c.args.plan.now.name z)) same ∙ free in
     let full : passed_by_output t.nodes t.next_id ≡ Some c.in-Err-Full.limit =
     ap (λ (z : TreeValue). passed_by_output z.nodes z.next_id) (sym same) ∙ has_limit c.args.plan.now c.in_ok-tree.tree copied c.in-Err-Full.limit (rw c.in-Err-Full.field-0-is at c.in-Err-Full.ensures.cause) in
-    c.stay-in-Err-Full.ensures.stands history (record { who = c.args.who; act = OutputAdd c.args.plan.now }) s (rw (free, fit, full) refl) (λ v b. refl)
+    c.stay-in-Err-Full.ensures.stands history (record { who = c.args.who; act = OutputAdd c.args.plan.now }) s (not_added c.args.plan.now t c.in-Err-Full.limit free fit full) (λ v b. refl)
 
 -- the name was tested before
 pub unreachable-requires : goal.unreachable-requires
 unreachable-requires c =
     let free : is_some (output_named c.args.plan.now.name c.in_ok-tree.tree) ≡ false =
     sym (c.if-is_some.ensures ∙ ap is_some (c.in_ok-output_named.ensures ∙ ap (output_named c.args.plan.now.name) (sym c.in_ok-tree.ensures))) in
-    never_taken c.args.plan.now c.in_ok-tree.tree free c.in-Err-NameTaken.ensures.cause
+    never_taken c.args.plan.now c.in_ok-tree.tree free (rw c.in-Err-NameTaken.field-0-is at c.in-Err-NameTaken.ensures.cause)
