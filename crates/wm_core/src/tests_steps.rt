@@ -71,7 +71,7 @@ fn windows_and_their_callers(rt: HostRuntime) -> Result<(), Fail> {
     assert!(rt; matches!(without_windows, Answer::Done));
     let with_two = take(&mut desk, 1, Step::Gone)?;
     assert!(rt; matches!(with_two, Answer::Done));
-    let want = "frame 4 10\nback 3 0,0 1000x800\nwindow 6 0,0 1000x800 e0b030 400x300\nend\n";
+    let want = "frame 4 11\nback 3 0,0 1000x800\nwindow 6 0,0 1000x800 e0b030 400x300\nend\n";
     assert_eq!(rt; text(alloc, &desk)?.as_str(), want);
     Ok(())
 }
@@ -115,7 +115,7 @@ fn edges_are_reserved(rt: HostRuntime) -> Result<(), Fail> {
     let name = word(alloc, "DP-1")?;
     let known = take(&mut desk, 1, Step::Reserve { name, edges: BAR })?;
     assert!(rt; matches!(known, Answer::Done));
-    let want = "frame 2 3\nback 3 0,20 1000x780\nwindow 4 0,20 1000x780 e0b030 400x300\nend\n";
+    let want = "frame 2 3\nback 3 0,0 1000x800\nwindow 4 0,20 1000x780 e0b030 400x300\nend\n";
     assert_eq!(rt; text(alloc, &desk)?.as_str(), want);
     Ok(())
 }
