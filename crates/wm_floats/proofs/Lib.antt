@@ -1,0 +1,4 @@
+pub mod FloatLemmas
+pub mod FullLemmas
+pub mod LeafLemmas
+pub mod PlaceLemmas

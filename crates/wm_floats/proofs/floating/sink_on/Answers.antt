@@ -1,0 +1,10 @@
+use Rattle.std.proofs.Common.{◌≡◌, false, arith, rules}
+use Rattle.std.proofs.lemmas.Grind.{common_steps}
+use Rattle.wm_floats.proofs.LeafLemmas.{tiling_by}
+use Rattle.wm_tree.specs.TreeValue.{is_tiled_con}
+use Rattle.wm_floats.proofs.floating.sink_on.Goals as goal
+
+pub go-requires-clause-goal : goal.go-requires-clause-goal
+go-requires-clause-goal c =
+    let loose : is_tiled_con c.args.t.now c.args.con ≡ false = first_of (search rules, grind (arith, common_steps)) in
+    tiling_by c.args.con c.args.w c.tiling_place-at.result c.args.t.now c.tiling_place-at.ensures c.requires.sound c.requires.window c.requires.space loose

@@ -1,0 +1,7 @@
+pub mod Floating
+pub mod Fullscreen
+pub mod Kinds
+pub mod Places
+pub mod Placing
+pub mod Scratchpad
+pub mod Windows

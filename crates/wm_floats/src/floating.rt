@@ -1,0 +1,154 @@
+//! Windows float, and are tiled again.
+ghost use Rattle.std.specs.Prelude.{◌≡◌, ◌≢◌, None, Some, true, false, OnOk, OnErr, IfErr};
+ghost use Rattle.std.specs.Option.{option_copied};
+ghost use Rattle.wm_floats.specs.Floating.{IsGoal, float_refusal, float_tree, floated, floated_refusal, floating_by, floating_rect, new_rect, sink_refusal, sink_tree, sunk, sunk_refusal, tiling_place};
+ghost use Rattle.wm_showing.specs.Refusing.{full_error};
+ghost use Rattle.wm_showing.specs.Subject.{IsSubject, is_space};
+ghost use Rattle.wm_floats.specs.Windows.{natural_of};
+ghost use Rattle.wm_tree.specs.Move.{moved, passed_by_move};
+ghost use Rattle.wm_tree.specs.Look.{con_kind, kind_of};
+ghost use Rattle.wm_tree.specs.Sound.{IsSound};
+ghost use Rattle.wm_tree.specs.TreeValue.{workspace_of};
+
+use crate::places::{NOWHERE, held_middle, outer_size};
+use crate::windows::{natural_by, output_part_of, set_flag, window_refusal};
+use wm_base::{Border, ConId, Rect, Refusal, Size};
+use wm_showing::refused;
+use wm_tree::{ConPart, OutputPart, Place, Tree};
+
+/// Puts the container at the place.
+pub(crate) fn go(t: &mut Tree, con: ConId, at: Place) -> Result<(), Refusal>
+    requires sound { IsSound t.old }
+    requires goal { IsGoal con at t.old }
+    ensures tree { OnOk result (t.new ≡ moved con at t.old) }
+    ensures fine { OnOk result (full_error (passed_by_move con at t.old.nodes) ≡ None) }
+    ensures err { OnErr result (t.new ≡ t.old) }
+    ensures cause { IfErr result (λ e. full_error (passed_by_move con at t.old.nodes) ≡ Some e) }
+    ensures sound { IsSound t.new }
+{
+    match t.move_to(con, at) {
+        Ok(()) => Ok(()),
+        Err(error) => Err(refused(error)),
+    }
+}
+
+/// The outer rectangle of a window that floats for the first time: in the middle of its output.
+fn new_rect(output: Option<&OutputPart>, border: Border, natural: Option<Size>) -> Rect
+    ensures { result ≡ new_rect (option_copied output.entry) border natural }
+{
+    match (output, natural) {
+        (Some(output), Some(natural)) => {
+            held_middle(output.rect, outer_size(border, natural, output.rect))
+        }
+        _ => NOWHERE,
+    }
+}
+
+/// The outer rectangle with which a container floats.
+fn floating_by(output: Option<&OutputPart>, con: Option<&ConPart>) -> Rect
+    ensures { result ≡ floating_by (option_copied output.entry) (option_copied con.entry) }
+{
+    let Some(con) = con else {
+        return NOWHERE;
+    };
+    match con.state.rect {
+        Some(rect) => rect,
+        None => new_rect(output, con.state.border, natural_by(&con.kind)),
+    }
+}
+
+/// The outer rectangle with which the window floats: the one that it had when it floated earlier, or else a new one.
+pub(crate) fn floating_rect(t: &Tree, con: ConId) -> Rect
+    ensures { result ≡ floating_rect con t.now }
+{
+    floating_by(output_part_of(t, con), t.container(con))
+}
+
+/// Takes the window out of its place and puts it last among the floating windows of its workspace: with the outer
+/// rectangle that it had when it floated earlier, or with its natural size and border in the middle of its output.
+/// Nothing changes where it floats.
+pub fn float(t: &mut Tree, con: ConId) -> Result<(), Refusal>
+    requires { IsSubject t.old con }
+    ensures tree { OnOk result (t.new ≡ float_tree con t.old) }
+    ensures fine { OnOk result (float_refusal con t.old ≡ None) }
+    ensures err { OnErr result (t.new ≡ t.old) }
+    ensures cause { IfErr result (λ e. float_refusal con t.old ≡ Some e) }
+    ensures sound { IsSound t.new }
+{
+    if let Some(error) = window_refusal(t, con) {
+        return Err(error);
+    }
+    match t.workspace_of(con) {
+        Some(w) => float_on(t, con, w),
+        None => Ok(()),
+    }
+}
+
+/// Lets the window float on its workspace.
+fn float_on(t: &mut Tree, con: ConId, w: ConId) -> Result<(), Refusal>
+    requires sound { IsSound t.old }
+    requires con { kind_of con_kind con t.old.nodes ≢ None }
+    requires space { is_space t.old w ≡ true }
+    ensures tree { OnOk result (t.new ≡ floated con (Some w) t.old) }
+    ensures fine { OnOk result (floated_refusal con (Some w) t.old ≡ None) }
+    ensures err { OnErr result (t.new ≡ t.old) }
+    ensures cause { IfErr result (λ e. floated_refusal con (Some w) t.old ≡ Some e) }
+    ensures sound { IsSound t.new }
+{
+    if !t.is_tiled(con) {
+        return Ok(());
+    }
+    let rect = floating_rect(t, con);
+    go(t, con, Place::Float(w, rect))
+}
+
+/// The place after the leaf of the workspace, or last in it where nothing is tiled.
+fn tiling_place(t: &Tree, w: ConId) -> Place
+    ensures { result ≡ tiling_place w t.now }
+{
+    let leaf = t.leaf(w).unwrap_or(w);
+    if t.is_tiled(leaf) {
+        Place::After(leaf)
+    } else {
+        Place::Last(w)
+    }
+}
+
+/// Tiles the floating window in its workspace: after the leaf, or last where nothing is tiled. It is no longer flagged for
+/// the scratchpad. Nothing changes where it is tiled.
+pub fn sink(t: &mut Tree, con: ConId) -> Result<(), Refusal>
+    requires { IsSubject t.old con }
+    ensures tree { OnOk result (t.new ≡ sink_tree con t.old) }
+    ensures fine { OnOk result (sink_refusal con t.old ≡ None) }
+    ensures err { OnErr result (t.new ≡ t.old) }
+    ensures cause { IfErr result (λ e. sink_refusal con t.old ≡ Some e) }
+    ensures sound { IsSound t.new }
+{
+    if let Some(error) = window_refusal(t, con) {
+        return Err(error);
+    }
+    match t.workspace_of(con) {
+        Some(w) => sink_on(t, con, w),
+        None => Ok(()),
+    }
+}
+
+/// Tiles the window in its workspace.
+fn sink_on(t: &mut Tree, con: ConId, w: ConId) -> Result<(), Refusal>
+    requires sound { IsSound t.old }
+    requires window { natural_of con t.old ≢ None }
+    requires space { workspace_of t.old con ≡ Some w }
+    ensures tree { OnOk result (t.new ≡ sunk con (Some w) t.old) }
+    ensures fine { OnOk result (sunk_refusal con (Some w) t.old ≡ None) }
+    ensures err { OnErr result (t.new ≡ t.old) }
+    ensures cause { IfErr result (λ e. sunk_refusal con (Some w) t.old ≡ Some e) }
+    ensures sound { IsSound t.new }
+{
+    if t.is_tiled(con) {
+        return Ok(());
+    }
+    let at = tiling_place(t, w);
+    go(t, con, at)?;
+    set_flag(t, con, false);
+    Ok(())
+}

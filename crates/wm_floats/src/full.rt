@@ -1,0 +1,108 @@
+//! Windows that fill their output.
+ghost use Rattle.std.specs.Prelude.{◌≡◌, None, Some, OnOk, OnErr, IfErr};
+ghost use Rattle.wm_floats.specs.Fullscreen.{full_in, fullscreen_tree, is_full, other_full, others_unfull};
+ghost use Rattle.wm_floats.specs.Windows.{window_refusal};
+ghost use Rattle.wm_showing.specs.Subject.{IsSubject};
+ghost use Rattle.std.specs.Option.{option_or};
+ghost use Rattle.wm_tree.specs.Look.{first_floats, first_kids};
+ghost use Rattle.wm_tree.specs.Sound.{IsSound};
+ghost use Rattle.wm_tree.specs.TreeValue.{workspace_of};
+
+use crate::windows::{set_full, window_refusal};
+use wm_base::{ConId, Refusal};
+use wm_tree::{Cursor, NodeKind, Tree};
+
+/// Whether this is a fullscreen container.
+fn is_full(kind: &NodeKind) -> bool
+    ensures { result ≡ is_full kind.now }
+{
+    match kind {
+        NodeKind::Con(con) => con.state.fullscreen,
+        NodeKind::Root { .. } | NodeKind::Output(_) | NodeKind::Space(_) => false,
+    }
+}
+
+/// A fullscreen container of the row other than this one, at any depth.
+fn other_full(row: Cursor<'_>, con: ConId) -> Option<ConId>
+    ensures { result ≡ other_full con row.entry }
+{
+    let part = row.part()?;
+    if part.id != con && is_full(&part.kind) {
+        return Some(part.id);
+    }
+    if let Some(found) = other_full(row.kids(), con) {
+        return Some(found);
+    }
+    if let Some(found) = other_full(row.floats(), con) {
+        return Some(found);
+    }
+    other_full(row.rest(), con)
+}
+
+/// A fullscreen container of the first node other than this one.
+fn full_below(row: Cursor<'_>, con: ConId) -> Option<ConId>
+    ensures { result ≡ option_or (other_full con (first_kids row.entry)) (other_full con (first_floats row.entry)) }
+{
+    if let Some(found) = other_full(row.kids(), con) {
+        return Some(found);
+    }
+    other_full(row.floats(), con)
+}
+
+/// A fullscreen container of the workspace other than this one.
+fn full_in(row: Cursor<'_>, w: ConId, con: ConId) -> Option<ConId>
+    ensures { result ≡ full_in w con row.entry }
+{
+    let part = row.part()?;
+    if part.id == w {
+        return full_below(row, con);
+    }
+    if let Some(found) = full_in(row.kids(), w, con) {
+        return Some(found);
+    }
+    if let Some(found) = full_in(row.floats(), w, con) {
+        return Some(found);
+    }
+    full_in(row.rest(), w, con)
+}
+
+/// Takes fullscreen from the other containers of the workspace.
+fn clear_others(t: &mut Tree, con: ConId, w: ConId)
+    requires { IsSound t.old }
+    ensures tree { t.new ≡ others_unfull con (Some w) t.old }
+    ensures sound { IsSound t.new }
+{
+    while let Some(other) = full_in(t.nodes(), w, con) {
+        set_full(t, other, false);
+    }
+}
+
+/// Takes fullscreen from the others of the container's workspace.
+fn clear_beside(t: &mut Tree, con: ConId)
+    requires { IsSound t.old }
+    ensures tree { t.new ≡ others_unfull con (workspace_of t.old con) t.old }
+    ensures sound { IsSound t.new }
+{
+    if let Some(w) = t.workspace_of(con) {
+        clear_others(t, con, w);
+    }
+}
+
+/// Makes the window fullscreen (`on`), which takes that from the others of its workspace, or no longer so.
+pub fn fullscreen(t: &mut Tree, con: ConId, on: bool) -> Result<(), Refusal>
+    requires { IsSubject t.old con }
+    ensures tree { OnOk result (t.new ≡ fullscreen_tree con on t.old) }
+    ensures fine { OnOk result (window_refusal con t.old ≡ None) }
+    ensures err { OnErr result (t.new ≡ t.old) }
+    ensures cause { IfErr result (λ e. window_refusal con t.old ≡ Some e) }
+    ensures sound { IsSound t.new }
+{
+    if let Some(error) = window_refusal(t, con) {
+        return Err(error);
+    }
+    if on {
+        clear_beside(t, con);
+    }
+    set_full(t, con, on);
+    Ok(())
+}

@@ -1,0 +1,110 @@
+//! Moving floating windows about on the screen.
+ghost use Rattle.std.specs.Prelude.{◌≡◌, ◌+ℤ◌, None, Some, OnOk, OnErr, IfErr};
+ghost use Rattle.wm_floats.specs.Placing.{centre_refusal, centre_tree, middle_x, middle_y, move_by_refusal, move_by_tree, place_at_refusal, place_at_tree};
+ghost use Rattle.std.specs.Option.{option_copied};
+ghost use Rattle.wm_showing.specs.Subject.{IsSubject};
+ghost use Rattle.wm_tree.specs.Sound.{IsSound};
+
+use crate::places::{is_in_range, middle_of};
+use crate::windows::{output_part_of, rect_of, set_rect};
+use wm_base::{ConId, ErrorText, Rect, Refusal};
+use wm_showing::{is_hidden, is_space};
+use wm_tree::{OutputPart, Tree};
+
+/// Why the floating window is not put at this place, in pixels.
+fn place_refusal(t: &Tree, con: ConId, x: i64, y: i64) -> Option<Refusal>
+    ensures { result ≡ place_at_refusal con x y t.now }
+{
+    if is_hidden(t, con) {
+        return Some(Refusal::NoTarget(ErrorText::NoWorkspace));
+    }
+    if is_space(t, con) {
+        return Some(Refusal::NoTarget(ErrorText::AtWorkspace));
+    }
+    if t.is_tiled(con) {
+        return Some(Refusal::NoTarget(ErrorText::NotFloating));
+    }
+    if !(is_in_range(x) && is_in_range(y)) {
+        return Some(Refusal::NoTarget(ErrorText::OutOfRange));
+    }
+    None
+}
+
+/// Puts the floating window's outer rectangle at this place, in pixels. Its size stays.
+pub fn place_at(t: &mut Tree, con: ConId, x: i64, y: i64) -> Result<(), Refusal>
+    requires { IsSubject t.old con }
+    ensures tree { OnOk result (t.new ≡ place_at_tree con x y t.old) }
+    ensures fine { OnOk result (place_at_refusal con x y t.old ≡ None) }
+    ensures err { OnErr result (t.new ≡ t.old) }
+    ensures cause { IfErr result (λ e. place_at_refusal con x y t.old ≡ Some e) }
+    ensures sound { IsSound t.new }
+{
+    if let Some(error) = place_refusal(t, con, x, y) {
+        return Err(error);
+    }
+    let Rect { w, h, .. } = rect_of(t, con);
+    let rect = Rect {
+        x: x as i32,
+        y: y as i32,
+        w,
+        h,
+    };
+    set_rect(t, con, rect);
+    Ok(())
+}
+
+fn sum(a: i32, b: i32) -> i64
+    ensures { result ≡ a +ℤ b }
+{
+    i64::from(a) + i64::from(b)
+}
+
+/// Shifts the floating window by so many pixels to the right and down.
+pub fn move_by(t: &mut Tree, con: ConId, dx: i32, dy: i32) -> Result<(), Refusal>
+    requires { IsSubject t.old con }
+    ensures tree { OnOk result (t.new ≡ move_by_tree con dx dy t.old) }
+    ensures fine { OnOk result (move_by_refusal con dx dy t.old ≡ None) }
+    ensures err { OnErr result (t.new ≡ t.old) }
+    ensures cause { IfErr result (λ e. move_by_refusal con dx dy t.old ≡ Some e) }
+    ensures sound { IsSound t.new }
+{
+    let rect = rect_of(t, con);
+    let x = sum(rect.x, dx);
+    let y = sum(rect.y, dy);
+    place_at(t, con, x, y)
+}
+
+/// Where a rectangle begins across in the middle of the output.
+fn middle_x(output: Option<&OutputPart>, rect: Rect) -> i64
+    ensures { result ≡ middle_x (option_copied output.entry) rect }
+{
+    match output {
+        Some(output) => middle_of(output.rect.x, output.rect.w, rect.w),
+        None => i64::from(rect.x),
+    }
+}
+
+/// Where a rectangle begins from above in the middle of the output.
+fn middle_y(output: Option<&OutputPart>, rect: Rect) -> i64
+    ensures { result ≡ middle_y (option_copied output.entry) rect }
+{
+    match output {
+        Some(output) => middle_of(output.rect.y, output.rect.h, rect.h),
+        None => i64::from(rect.y),
+    }
+}
+
+/// Puts the floating window in the middle of its output: half of what is left is before it, rounded down.
+pub fn centre(t: &mut Tree, con: ConId) -> Result<(), Refusal>
+    requires { IsSubject t.old con }
+    ensures tree { OnOk result (t.new ≡ centre_tree con t.old) }
+    ensures fine { OnOk result (centre_refusal con t.old ≡ None) }
+    ensures err { OnErr result (t.new ≡ t.old) }
+    ensures cause { IfErr result (λ e. centre_refusal con t.old ≡ Some e) }
+    ensures sound { IsSound t.new }
+{
+    let rect = rect_of(t, con);
+    let x = middle_x(output_part_of(t, con), rect);
+    let y = middle_y(output_part_of(t, con), rect);
+    place_at(t, con, x, y)
+}

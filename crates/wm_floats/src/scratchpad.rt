@@ -1,0 +1,158 @@
+//! Windows hide in the scratchpad and come back.
+ghost use Rattle.std.specs.Prelude.{◌≡◌, ◌≢◌, None, Some, false, OnOk, OnErr, IfErr, IfSome};
+ghost use Rattle.wm_floats.specs.Scratchpad.{brought, brought_refusal, coming_place, first_brought, first_brought_refusal, first_hidden, middle_on, put_away, put_away_refusal, show_next_refusal, show_next_tree, show_scratchpad_refusal, show_scratchpad_tree, show_this_refusal, show_this_tree, to_scratchpad_refusal, to_scratchpad_tree};
+ghost use Rattle.std.specs.Option.{option_copied};
+ghost use Rattle.wm_showing.specs.Subject.{IsSubject, is_hidden};
+ghost use Rattle.wm_tree.specs.Look.{con_kind, kind_of};
+ghost use Rattle.wm_tree.specs.Sound.{IsSound};
+
+
+use crate::floating::{floating_rect, go};
+use crate::kinds::{Kind, is_of_space, latest};
+use crate::places::held_middle;
+use crate::windows::{rect_of, set_flag, window_refusal};
+use wm_base::{ConId, ErrorText, Rect, Refusal, Size};
+use wm_showing::is_hidden;
+use wm_tree::{OutputPart, Place, Tree};
+
+/// Puts the window last into the scratchpad, floating and flagged. It loses fullscreen.
+pub fn to_scratchpad(t: &mut Tree, con: ConId) -> Result<(), Refusal>
+    requires { IsSubject t.old con }
+    ensures tree { OnOk result (t.new ≡ to_scratchpad_tree con t.old) }
+    ensures fine { OnOk result (to_scratchpad_refusal con t.old ≡ None) }
+    ensures err { OnErr result (t.new ≡ t.old) }
+    ensures cause { IfErr result (λ e. to_scratchpad_refusal con t.old ≡ Some e) }
+    ensures sound { IsSound t.new }
+{
+    if let Some(error) = window_refusal(t, con) {
+        return Err(error);
+    }
+    let rect = floating_rect(t, con);
+    go(t, con, Place::Scratchpad(rect))?;
+    set_flag(t, con, true);
+    Ok(())
+}
+
+/// Puts a floating window last into the scratchpad as it is.
+fn put_away(t: &mut Tree, con: ConId) -> Result<(), Refusal>
+    requires sound { IsSound t.old }
+    requires con { kind_of con_kind con t.old.nodes ≢ None }
+    requires seen { is_hidden t.old con ≡ false }
+    ensures tree { OnOk result (t.new ≡ put_away con t.old) }
+    ensures fine { OnOk result (put_away_refusal con t.old ≡ None) }
+    ensures err { OnErr result (t.new ≡ t.old) }
+    ensures cause { IfErr result (λ e. put_away_refusal con t.old ≡ Some e) }
+    ensures sound { IsSound t.new }
+{
+    let rect = rect_of(t, con);
+    go(t, con, Place::Scratchpad(rect))
+}
+
+/// The rectangle in the middle of the output, where there is one.
+fn middle_on(output: Option<&OutputPart>, rect: Rect) -> Rect
+    ensures { result ≡ middle_on (option_copied output.entry) rect }
+{
+    let Rect { w, h, .. } = rect;
+    match output {
+        Some(output) => held_middle(output.rect, Size { w, h }),
+        None => rect,
+    }
+}
+
+/// Where a window of the scratchpad comes.
+fn coming_place(t: &Tree, con: ConId) -> Place
+    ensures { result ≡ coming_place con t.now }
+{
+    let rect = middle_on(t.output(t.current()), rect_of(t, con));
+    Place::Float(t.shown(), rect)
+}
+
+/// Brings a window of the scratchpad to the focused workspace, in the middle of the current output, and focuses it.
+fn bring(t: &mut Tree, con: ConId) -> Result<(), Refusal>
+    requires sound { IsSound t.old }
+    requires con { kind_of con_kind con t.old.nodes ≢ None }
+    ensures tree { OnOk result (t.new ≡ brought con t.old) }
+    ensures fine { OnOk result (brought_refusal con t.old ≡ None) }
+    ensures err { OnErr result (t.new ≡ t.old) }
+    ensures cause { IfErr result (λ e. brought_refusal con t.old ≡ Some e) }
+    ensures sound { IsSound t.new }
+{
+    let at = coming_place(t, con);
+    go(t, con, at)?;
+    t.raise(con);
+    Ok(())
+}
+
+/// Brings the first window of the scratchpad.
+fn bring_first(t: &mut Tree) -> Result<(), Refusal>
+    requires { IsSound t.old }
+    ensures tree { OnOk result (t.new ≡ first_brought (first_hidden t.old) t.old) }
+    ensures fine { OnOk result (first_brought_refusal (first_hidden t.old) t.old ≡ None) }
+    ensures err { OnErr result (t.new ≡ t.old) }
+    ensures cause { IfErr result (λ e. first_brought_refusal (first_hidden t.old) t.old ≡ Some e) }
+    ensures sound { IsSound t.new }
+{
+    match t.scratchpad(0) {
+        Some(con) => bring(t, con),
+        None => Err(Refusal::NoTarget(ErrorText::ScratchEmpty)),
+    }
+}
+
+/// Puts the focused window away where it is flagged and floats; else focuses the most recent such window of the focused
+/// workspace; else brings the first window of the scratchpad.
+fn show_next(t: &mut Tree) -> Result<(), Refusal>
+    requires { IsSound t.old }
+    ensures tree { OnOk result (t.new ≡ show_next_tree t.old) }
+    ensures fine { OnOk result (show_next_refusal t.old ≡ None) }
+    ensures err { OnErr result (t.new ≡ t.old) }
+    ensures cause { IfErr result (λ e. show_next_refusal t.old ≡ Some e) }
+    ensures sound { IsSound t.new }
+{
+    let w = t.shown();
+    let focused = t.focused();
+    if is_of_space(t, Kind::Flagged, w, focused) {
+        return put_away(t, focused);
+    }
+    match latest(t, Kind::Flagged, w) {
+        Some(con) => {
+            t.raise(con);
+            Ok(())
+        }
+        None => bring_first(t),
+    }
+}
+
+/// Brings the window where it is in the scratchpad, and puts it away where it is flagged and floats on the focused
+/// workspace.
+fn show_this(t: &mut Tree, con: ConId) -> Result<(), Refusal>
+    requires { IsSubject t.old con }
+    ensures tree { OnOk result (t.new ≡ show_this_tree con t.old) }
+    ensures fine { OnOk result (show_this_refusal con t.old ≡ None) }
+    ensures err { OnErr result (t.new ≡ t.old) }
+    ensures cause { IfErr result (λ e. show_this_refusal con t.old ≡ Some e) }
+    ensures sound { IsSound t.new }
+{
+    if is_hidden(t, con) {
+        return bring(t, con);
+    }
+    if is_of_space(t, Kind::Flagged, t.shown(), con) {
+        return put_away(t, con);
+    }
+    Err(Refusal::NoTarget(ErrorText::NoContainer))
+}
+
+/// Shows and hides windows of the scratchpad: this one, or without one that whose turn it is.
+pub fn show_scratchpad(t: &mut Tree, con: Option<ConId>) -> Result<(), Refusal>
+    requires sound { IsSound t.old }
+    requires subject { IfSome con (λ c. IsSubject t.old c) }
+    ensures tree { OnOk result (t.new ≡ show_scratchpad_tree con t.old) }
+    ensures fine { OnOk result (show_scratchpad_refusal con t.old ≡ None) }
+    ensures err { OnErr result (t.new ≡ t.old) }
+    ensures cause { IfErr result (λ e. show_scratchpad_refusal con t.old ≡ Some e) }
+    ensures sound { IsSound t.new }
+{
+    match con {
+        Some(con) => show_this(t, con),
+        None => show_next(t),
+    }
+}

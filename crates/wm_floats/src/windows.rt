@@ -1,0 +1,111 @@
+//! Windows as subjects of commands: their state, their natural size, and who is none.
+ghost use Rattle.std.specs.Prelude.{◌≡◌};
+ghost use Rattle.wm_floats.specs.Windows.{flag_set, full_set, natural_by, natural_of, rect_set, state_of, sticky_set, window_refusal};
+ghost use Rattle.wm_spaces.specs.Sending.{output_part_of, rect_of};
+ghost use Rattle.wm_tree.specs.Sound.{IsSound};
+ghost use Rattle.std.specs.Option.{option_copied};
+
+use crate::places::NOWHERE;
+use wm_base::{ConId, ErrorText, Rect, Refusal, Size};
+use wm_showing::{is_hidden, is_space, output_of};
+use wm_tree::{ConKind, ConState, OutputPart, Tree};
+
+/// The natural size of a window. `None` exactly where it is a split or a placeholder.
+pub(crate) fn natural_by(kind: &ConKind) -> Option<Size>
+    ensures { result ≡ natural_by kind.now }
+{
+    match kind {
+        ConKind::Window { natural, .. } => Some(*natural),
+        ConKind::Split { .. } | ConKind::Placeholder { .. } => None,
+    }
+}
+
+fn natural_of(t: &Tree, con: ConId) -> Option<Size>
+    ensures { result ≡ natural_of con t.now }
+{
+    natural_by(&t.container(con)?.kind)
+}
+
+/// Why a command for windows outside the scratchpad is not done to this one.
+pub(crate) fn window_refusal(t: &Tree, con: ConId) -> Option<Refusal>
+    ensures { result ≡ window_refusal con t.now }
+{
+    if is_hidden(t, con) {
+        return Some(Refusal::NoTarget(ErrorText::NoWorkspace));
+    }
+    if is_space(t, con) {
+        return Some(Refusal::NoTarget(ErrorText::AtWorkspace));
+    }
+    if natural_of(t, con).is_none() {
+        return Some(Refusal::NoTarget(ErrorText::NotWindow));
+    }
+    None
+}
+
+/// The state of a container.
+pub(crate) fn state_of(t: &Tree, con: ConId) -> Option<ConState>
+    ensures { result ≡ state_of con t.now }
+{
+    Some(t.container(con)?.state)
+}
+
+/// The outer rectangle of a floating window.
+pub(crate) fn rect_of(t: &Tree, con: ConId) -> Rect
+    ensures { result ≡ rect_of con t.now }
+{
+    match t.container(con) {
+        Some(part) => part.state.rect.unwrap_or(NOWHERE),
+        None => NOWHERE,
+    }
+}
+
+/// The output of a container or workspace, as it is.
+pub(crate) fn output_part_of(t: &Tree, con: ConId) -> Option<&OutputPart>
+    ensures { option_copied result ≡ output_part_of con t.now }
+{
+    t.output(output_of(t, con)?)
+}
+
+/// Makes the container sticky, or takes that from it.
+pub(crate) fn set_sticky(t: &mut Tree, con: ConId, on: bool)
+    ensures tree { t.new ≡ sticky_set on con t.old }
+    ensures sound { IsSound t.old → IsSound t.new }
+{
+    if let Some(state) = state_of(t, con) {
+        let sticky = on;
+        t.set_state(con, ConState { sticky, ..state });
+    }
+}
+
+/// Makes the container fullscreen, or takes that from it.
+pub(crate) fn set_full(t: &mut Tree, con: ConId, on: bool)
+    ensures tree { t.new ≡ full_set on con t.old }
+    ensures sound { IsSound t.old → IsSound t.new }
+{
+    if let Some(state) = state_of(t, con) {
+        let fullscreen = on;
+        t.set_state(con, ConState { fullscreen, ..state });
+    }
+}
+
+/// Flags the container for the scratchpad, or takes that from it.
+pub(crate) fn set_flag(t: &mut Tree, con: ConId, on: bool)
+    ensures tree { t.new ≡ flag_set on con t.old }
+    ensures sound { IsSound t.old → IsSound t.new }
+{
+    if let Some(state) = state_of(t, con) {
+        let flagged = on;
+        t.set_state(con, ConState { flagged, ..state });
+    }
+}
+
+/// Gives the container this outer rectangle.
+pub(crate) fn set_rect(t: &mut Tree, con: ConId, rect: Rect)
+    ensures tree { t.new ≡ rect_set rect con t.old }
+    ensures sound { IsSound t.old → IsSound t.new }
+{
+    if let Some(state) = state_of(t, con) {
+        let rect = Some(rect);
+        t.set_state(con, ConState { rect, ..state });
+    }
+}
