@@ -1,7 +1,6 @@
 -- Where windows may go that float or hide.
-use Rattle.std.proofs.Common.{◌≡◌, ℕ, ◌≢◌, ◌≤◌, Bool, true, false, cond, ◌&&◌, ◌||◌, not, inl, inr, Option, None, Some, refl, ap, sym, ◌∙◌, arith}
+use Rattle.std.proofs.Common.{◌≡◌, ℕ, ◌≢◌, ◌≤◌, Bool, true, false, cond, ◌&&◌, not, inl, inr, Option, None, Some, refl, ap, sym, ◌∙◌}
 use Rattle.std.specs.Prelude.{is_none, is_some, option_and_then}
-use Rattle.wm_base.specs.declared.errors.Refusal.{Refusal}
 use Rattle.wm_base.specs.declared.errors.ErrorText.TheVariants as texts
 use Rattle.wm_base.specs.declared.geometry.Rect.{Rect}
 use Rattle.wm_base.specs.declared.geometry.Size.{Size}
@@ -12,9 +11,9 @@ use Rattle.wm_floats.specs.Kinds.{is_flagged_state, is_of, is_of_space}
 use Rattle.wm_floats.specs.Scratchpad.{coming_place, first_hidden, middle_on}
 use Rattle.wm_floats.specs.Windows.{natural_in, natural_of, state_of, window_refusal}
 use Rattle.wm_showing.proofs.ShowLemmas.{space_is}
-use Rattle.wm_showing.proofs.SpaceLemmas.{IsSpaceIn, not_within}
+use Rattle.wm_showing.proofs.SpaceLemmas.{not_within}
 use Rattle.wm_showing.specs.Refusing.{error_if, full_error, refusal_by}
-use Rattle.wm_showing.specs.Subject.{IsSubject, is_container, is_hidden, is_space, is_subject_kind}
+use Rattle.wm_showing.specs.Subject.{IsSubject, is_hidden, is_space, is_subject_kind}
 use Rattle.wm_spaces.proofs.SendLemmas.{con_there}
 use Rattle.wm_grammar.specs.declared.arguments.Target.TheVariants as targets
 use Rattle.wm_spaces.proofs.StandLemmas.{goal_by}
@@ -40,7 +39,7 @@ use Rattle.wm_tree.specs.Forest.{Forest, end, con}
 use Rattle.wm_tree.specs.Look.{con_kind, first_floats, first_part, has, in_row, kind_by, kind_of, nth_id, only, output_kind, same, space_kind}
 use Rattle.wm_tree.specs.Move.{IsMoveCause, passed_by_move}
 use Rattle.wm_tree.specs.Sound.{IsNode, IsSound, IsSoundRow, containers, roots, tally}
-use Rattle.wm_tree.specs.Spot.{room_below, space_at, space_by, spot_below, spot_in, spot_of, top}
+use Rattle.wm_tree.specs.Spot.{room_below, space_by, spot_below, spot_in, spot_of, top}
 use Rattle.wm_tree.specs.TreeValue.{TreeValue, current, is_tiled_con, root, shown, workspace_of}
 
 -- ---- why a container does not move

@@ -1,14 +1,17 @@
 -- Taking fullscreen from the other containers of a workspace, one after another.
-use Rattle.std.proofs.Common.{◌≡◌, ◌≢◌, ℕ, ◌+◌, ◌≤◌, ◌<◌, Bool, true, false, cond, ◌||◌, ◌&&◌, not, Option, None, Some, refl, ap, sym, ◌∙◌, subst, arith, if◌then◌else◌}
-use Rattle.std.specs.Option.{option_or}
+use Rattle.std.proofs.Common.{◌≡◌, ℕ, ◌+◌, ◌≤◌, ◌<◌, Bool, true, false, cond, ◌&&◌, not, Option, None, Some, refl, ap, sym, ◌∙◌, subst, arith, if◌then◌else◌}
+use Rattle.std.specs.Option.{option_map, option_or}
+use Rattle.std.specs.Prelude.{is_none}
 use Rattle.wm_base.specs.declared.ids.ConId.{ConId}
-use Rattle.wm_floats.specs.Fullscreen.{full_in, is_full, other_full, others_unfull, unfull_but}
-use Rattle.wm_floats.specs.Windows.{full_set}
+use Rattle.wm_floats.specs.Fullscreen.{fills_alone, full_in, is_full, other_full, others_unfull, unfull_but}
+use Rattle.wm_floats.specs.Windows.{full_set, restated, state_of}
 use Rattle.wm_tree.proofs.CountLemmas.{counted}
 use Rattle.wm_tree.proofs.OnceLemmas.{in_floats, in_kids, in_rest, only_floats, only_kids, only_rest}
 use Rattle.wm_tree.proofs.RecencyLemmas.{same_is, same_self}
+use Rattle.wm_tree.specs.declared.kind.KindEdit.{KindEdit}
 use Rattle.wm_tree.specs.declared.kind.KindEdit.TheVariants as edits
 use Rattle.wm_tree.specs.declared.part.ConPart.{ConPart}
+use Rattle.wm_tree.specs.declared.part.ConState.{ConState}
 use Rattle.wm_tree.specs.declared.part.NodeKind.{NodeKind}
 use Rattle.wm_tree.specs.declared.part.NodeKind.TheVariants.{Root, Output, Space, Con}
 use Rattle.wm_tree.specs.declared.part.Part.{Part}
@@ -356,3 +359,38 @@ one_less w c i t new s h e =
 -- where none is found, none loses it
 pub none_left : (w c : ConId) (t : TreeValue) → full_in w c t.nodes ≡ None → others_unfull c (Some w) t ≡ t
 none_left w c t h = ap (λ z. record t { nodes = z }) (none_in w c t.nodes h)
+
+-- ---- who fills it alone
+
+-- a change of c leaves the others as they are
+other_edited : (c : ConId) (e : KindEdit) (f : Forest) → other_full c (at c kind_changed e f) ≡ other_full c f
+other_edited c e end = refl
+other_edited c e (con part kids floats rest) = step (same part.id c) (has c kids) (has c floats) refl (other_edited c e kids) (other_edited c e floats) (other_edited c e rest)
+  where
+    step : (a k l : Bool) → same part.id c ≡ a → other_full c (at c kind_changed e kids) ≡ other_full c kids → other_full c (at c kind_changed e floats) ≡ other_full c floats → other_full c (at c kind_changed e rest) ≡ other_full c rest
+        → other_full c (cond a (kind_changed e part kids floats rest) (cond k (con part (at c kind_changed e kids) floats rest) (cond l (con part kids (at c kind_changed e floats) rest) (con part kids floats (at c kind_changed e rest)))))
+        ≡ other_full c (con part kids floats rest)
+    step true k l ea u v x = rw ea refl
+    step false true l ea u v x = rw u refl
+    step false false true ea u v x = rw v refl
+    step false false false ea u v x = rw x refl
+
+full_edited : (w c : ConId) (e : KindEdit) (f : Forest) → full_in w c (at c kind_changed e f) ≡ full_in w c f
+full_edited w c e end = refl
+full_edited w c e (con part kids floats rest) = step (same part.id c) (has c kids) (has c floats) (full_edited w c e kids) (full_edited w c e floats) (full_edited w c e rest)
+  where
+    step : (a k l : Bool) → full_in w c (at c kind_changed e kids) ≡ full_in w c kids → full_in w c (at c kind_changed e floats) ≡ full_in w c floats → full_in w c (at c kind_changed e rest) ≡ full_in w c rest
+        → full_in w c (cond a (kind_changed e part kids floats rest) (cond k (con part (at c kind_changed e kids) floats rest) (cond l (con part kids (at c kind_changed e floats) rest) (con part kids floats (at c kind_changed e rest)))))
+        ≡ full_in w c (con part kids floats rest)
+    step true k l u v x = refl
+    step false true l u v x = rw (u, other_edited c e kids) refl
+    step false false true u v x = rw (v, other_edited c e floats) refl
+    step false false false u v x = rw x refl
+
+pub alone_kept : (c : ConId) (w : Option ConId) (on : Bool) (t new : TreeValue) → new ≡ full_set on c t → fills_alone c w t ≡ true → fills_alone c w new ≡ true
+alone_kept c None on t new e h = refl
+alone_kept c (Some w) on t new e h = rw e (by (state_of c t))
+  where
+    by : (o : Option ConState) → fills_alone c (Some w) (restated c (option_map (λ (s : ConState). record s { fullscreen = on }) o) t) ≡ true
+    by None = h
+    by (Some s) = ap is_none (full_edited w c (edits.State (record s { fullscreen = on })) t.nodes) ∙ h

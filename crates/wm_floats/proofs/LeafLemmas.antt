@@ -1,5 +1,5 @@
 -- The leaf of a workspace is not within a container that is not tiled, which may come after it.
-use Rattle.std.proofs.Common.{◌≡◌, ◌≢◌, ℕ, ◌+◌, ◌≤◌, Bool, true, false, cond, ◌||◌, ◌&&◌, List, Option, None, Some, refl, ap, sym, ◌∙◌, subst, arith}
+use Rattle.std.proofs.Common.{◌≡◌, ◌≢◌, ◌+◌, ◌≤◌, Bool, true, false, cond, ◌||◌, List, Option, None, Some, refl, ap, sym, ◌∙◌, subst, arith}
 use Rattle.wm_base.specs.declared.ids.ConId.{ConId}
 use Rattle.wm_floats.proofs.FloatLemmas.{window_con}
 use Rattle.wm_floats.specs.Floating.{IsGoal, tiling_place}
@@ -9,12 +9,11 @@ use Rattle.wm_showing.proofs.SpaceLemmas.{IsSpaceIn, not_within}
 use Rattle.wm_spaces.proofs.SendLemmas.{con_there}
 use Rattle.wm_tree.proofs.AlongLemmas.{space_there}
 use Rattle.wm_tree.proofs.CountLemmas.{counted}
-use Rattle.wm_tree.proofs.ForestLemmas.{first_held_end, only_absent}
+use Rattle.wm_tree.proofs.ForestLemmas.{only_absent}
 use Rattle.wm_tree.proofs.LeafLaws.{first_there}
 use Rattle.wm_tree.proofs.OnceLemmas.{in_floats, in_kids, in_rest, only_floats, only_kids, only_rest, spot_floats, spot_kids, spot_rest, within}
 use Rattle.wm_tree.proofs.PlaceLemmas.{after_fits}
 use Rattle.wm_tree.proofs.RecencyLemmas.{same_is, same_self}
-use Rattle.wm_tree.specs.declared.part.ConPart.{ConPart}
 use Rattle.wm_tree.specs.declared.part.NodeKind.{NodeKind}
 use Rattle.wm_tree.specs.declared.part.NodeKind.TheVariants.{Root, Output, Space, Con}
 use Rattle.wm_tree.specs.declared.part.Part.{Part}
@@ -23,7 +22,7 @@ use Rattle.wm_tree.specs.declared.place.Place.TheVariants.{After, Last}
 use Rattle.wm_tree.specs.declared.spot.Spot.{Spot}
 use Rattle.wm_tree.specs.Forest.{Forest, end, con}
 use Rattle.wm_tree.specs.Look.{con_kind, first_part, has, kind_by, kind_of, only, same, space_kind}
-use Rattle.wm_tree.specs.Place.{IsPlace, TakesFirst, TakesKids, named}
+use Rattle.wm_tree.specs.Place.{TakesFirst, TakesKids}
 use Rattle.wm_tree.specs.Recency.{first_held}
 use Rattle.wm_tree.specs.Sound.{IsSound, one_of, tally}
 use Rattle.wm_tree.specs.Spot.{spot_below, spot_in, spot_of, top}
@@ -121,15 +120,17 @@ module _ (ids : List ConId) (c : ConId) where
 
       low : (o : Option ConId) → first_held kids ids ≡ o → ((j : ConId) → has j kids ≡ true → Beside c (leaf_at ids kids j) kids) → Beside c (follow part.id (leaf_at ids kids) o) (con part kids floats rest)
       low None e below =
-          let once_own : one_of part.id part + tally part.id kids + tally part.id floats + tally part.id rest ≤ 1 = once part.id in
-          (rw (same_self part.id part.id refl) refl,
-          out c part.id part kids floats rest first (nowhere_in c part.id kids (omega (arith, once_own, own))) (nowhere_in c part.id floats (omega (arith, once_own, own))) (nowhere_in c part.id rest (omega (arith, once_own, own))))
+          let once_own : one_of part.id part + tally part.id kids + tally part.id floats + tally part.id rest ≤ 1 = once part.id in (
+            rw (same_self part.id part.id refl) refl,
+            out c part.id part kids floats rest first (nowhere_in c part.id kids (omega (arith, once_own, own))) (nowhere_in c part.id floats (omega (arith, once_own, own))) (nowhere_in c part.id rest (omega (arith, once_own, own))),
+          )
       low (Some j) e below =
           let d = leaf_at ids kids j in
           let b = below j (first_there kids ids j e) in
-          let n = counted d kids b.0 in
-          (in_kids d part kids floats rest b.0,
-          out c d part kids floats rest first b.1 (nowhere_in c d floats (omega (arith, once d, n))) (nowhere_in c d rest (omega (arith, once d, n))))
+          let n = counted d kids b.0 in (
+            in_kids d part kids floats rest b.0,
+            out c d part kids floats rest first b.1 (nowhere_in c d floats (omega (arith, once d, n))) (nowhere_in c d rest (omega (arith, once d, n))),
+          )
 
       behind : (a k l r : Bool) → (a || k || l || false) ≡ false → (a || k || l || r) ≡ true → r ≡ true
       behind true k l r e h = cc
@@ -144,9 +145,10 @@ module _ (ids : List ConId) (c : ConId) where
       step false e u x =
           let d = leaf_at ids rest i in
           let b = x i (behind (same part.id i) (has i kids) (has i floats) (has i rest) e there) in
-          let n = counted d rest b.0 in
-          (in_rest d part kids floats rest b.0,
-          out c d part kids floats rest first (nowhere_in c d kids (omega (arith, once d, n))) (nowhere_in c d floats (omega (arith, once d, n))) b.1)
+          let n = counted d rest b.0 in (
+            in_rest d part kids floats rest b.0,
+            out c d part kids floats rest first (nowhere_in c d kids (omega (arith, once d, n))) (nowhere_in c d floats (omega (arith, once d, n))) b.1,
+          )
 
 -- ---- down to the workspace
 
@@ -205,30 +207,33 @@ module _ (ids : List ConId) (c w d : ConId) where
               let On : ConId → Type 0 = λ z. Beside c z kids in
               let bd = subst On one b in
               let n = counted d kids bd.0 in
-              let w_in : has w (con part kids floats end) ≡ true = rw a refl in
-              (in_kids d part kids floats rest bd.0,
-              out c d part kids floats rest (not_c w_in) bd.1 (nowhere_in c d floats (omega (arith, once d, n))) (nowhere_in c d rest (omega (arith, once d, n))))
+              let w_in : has w (con part kids floats end) ≡ true = rw a refl in (
+                in_kids d part kids floats rest bd.0,
+                out c d part kids floats rest (not_c w_in) bd.1 (nowhere_in c d floats (omega (arith, once d, n))) (nowhere_in c d rest (omega (arith, once d, n))),
+              )
 
       by_kids : (Leads kids → Beside c d kids) → has w kids ≡ true → Beside c d (con part kids floats rest)
       by_kids u k =
           let b =
-              u (record { away = in_row kids (only_kids c part kids floats rest (once c)); leads = ap (leaf_of ids) (sym (only_kids w part kids floats rest (once w) k)) ∙ q.leads; there = k }) in
-          let n = counted d kids b.0 in
-          (in_kids d part kids floats rest b.0,
-          out c d part kids floats rest (not_c (in_kids w part kids floats end k)) b.1 (nowhere_in c d floats (omega (arith, once d, n))) (nowhere_in c d rest (omega (arith, once d, n))))
+          u (record { away = in_row kids (only_kids c part kids floats rest (once c)); leads = ap (leaf_of ids) (sym (only_kids w part kids floats rest (once w) k)) ∙ q.leads; there = k }) in
+          let n = counted d kids b.0 in (
+            in_kids d part kids floats rest b.0,
+            out c d part kids floats rest (not_c (in_kids w part kids floats end k)) b.1 (nowhere_in c d floats (omega (arith, once d, n))) (nowhere_in c d rest (omega (arith, once d, n))),
+          )
 
       by_floats : (Leads floats → Beside c d floats) → has w floats ≡ true → Beside c d (con part kids floats rest)
       by_floats u k =
           let b =
-              u (record { away = in_row floats (only_floats c part kids floats rest (once c)); leads = ap (leaf_of ids) (sym (only_floats w part kids floats rest (once w) k)) ∙ q.leads; there = k }) in
-          let n = counted d floats b.0 in
-          (in_floats d part kids floats rest b.0,
-          out c d part kids floats rest (not_c (in_floats w part kids floats end k)) (nowhere_in c d kids (omega (arith, once d, n))) b.1 (nowhere_in c d rest (omega (arith, once d, n))))
+          u (record { away = in_row floats (only_floats c part kids floats rest (once c)); leads = ap (leaf_of ids) (sym (only_floats w part kids floats rest (once w) k)) ∙ q.leads; there = k }) in
+          let n = counted d floats b.0 in (
+            in_floats d part kids floats rest b.0,
+            out c d part kids floats rest (not_c (in_floats w part kids floats end k)) (nowhere_in c d kids (omega (arith, once d, n))) b.1 (nowhere_in c d rest (omega (arith, once d, n))),
+          )
 
       by_rest : (Leads rest → Beside c d rest) → has w rest ≡ true → Beside c d (con part kids floats rest)
       by_rest u k =
           let b =
-              u (record { away = in_row rest (only_rest c part kids floats rest (once c)); leads = ap (leaf_of ids) (sym (only_rest w part kids floats rest (once w) k)) ∙ q.leads; there = k }) in
+          u (record { away = in_row rest (only_rest c part kids floats rest (once c)); leads = ap (leaf_of ids) (sym (only_rest w part kids floats rest (once w) k)) ∙ q.leads; there = k }) in
           let n = counted d rest b.0 in
           let gone = λ (e : tally d (con part kids floats end) ≤ 0). nowhere_in c d (con part kids floats end) e in
           let far = gone (omega (arith, once d, n)) in

@@ -1,5 +1,5 @@
 -- A shift is refused as the place is to which it goes.
-use Rattle.std.proofs.Common.{◌≡◌, Option, None, Some, Result, Ok, Err}
+use Rattle.std.proofs.Common.{◌≡◌, Some, Result, Ok, Err}
 use Rattle.std.specs.Prelude.{ℤ, ◌+ℤ◌, IfErr}
 use Rattle.wm_base.specs.declared.errors.Refusal.{Refusal}
 use Rattle.wm_base.specs.declared.geometry.Rect.{Rect}

@@ -1,5 +1,5 @@
 -- Windows that fill their output.
-use Rattle.std.specs.Prelude.{Bool, true, false, ◌&&◌, not, if◌then◌else◌, Option, None, Some}
+use Rattle.std.specs.Prelude.{Bool, true, false, ◌&&◌, not, if◌then◌else◌, Option, None, Some, is_none}
 use Rattle.std.specs.Option.{option_or}
 use Rattle.wm_base.specs.declared.ids.ConId.{ConId}
 use Rattle.wm_floats.specs.Windows.{full_set}
@@ -45,3 +45,8 @@ full_in w c end = None
 full_in w c (con part kids floats rest) =
     if same part.id w then option_or (other_full c kids) (other_full c floats)
     else option_or (full_in w c kids) (option_or (full_in w c floats) (full_in w c rest))
+
+-- no container of the workspace but c is fullscreen
+abbrev pub fills_alone : ConId → Option ConId → TreeValue → Bool
+fills_alone c None t = true
+fills_alone c (Some w) t = is_none (full_in w c t.nodes)

@@ -1,6 +1,6 @@
 //! Windows that fill their output.
-ghost use Rattle.std.specs.Prelude.{◌≡◌, None, Some, OnOk, OnErr, IfErr};
-ghost use Rattle.wm_floats.specs.Fullscreen.{full_in, fullscreen_tree, is_full, other_full, others_unfull};
+ghost use Rattle.std.specs.Prelude.{◌≡◌, None, Some, true, OnOk, OnErr, IfErr};
+ghost use Rattle.wm_floats.specs.Fullscreen.{fills_alone, full_in, fullscreen_tree, is_full, other_full, others_unfull};
 ghost use Rattle.wm_floats.specs.Windows.{window_refusal};
 ghost use Rattle.wm_showing.specs.Subject.{IsSubject};
 ghost use Rattle.std.specs.Option.{option_or};
@@ -70,6 +70,7 @@ fn full_in(row: Cursor<'_>, w: ConId, con: ConId) -> Option<ConId>
 fn clear_others(t: &mut Tree, con: ConId, w: ConId)
     requires { IsSound t.old }
     ensures tree { t.new ≡ others_unfull con (Some w) t.old }
+    ensures alone { fills_alone con (Some w) t.new ≡ true }
     ensures sound { IsSound t.new }
 {
     while let Some(other) = full_in(t.nodes(), w, con) {
@@ -81,11 +82,23 @@ fn clear_others(t: &mut Tree, con: ConId, w: ConId)
 fn clear_beside(t: &mut Tree, con: ConId)
     requires { IsSound t.old }
     ensures tree { t.new ≡ others_unfull con (workspace_of t.old con) t.old }
+    ensures alone { fills_alone con (workspace_of t.old con) t.new ≡ true }
     ensures sound { IsSound t.new }
 {
     if let Some(w) = t.workspace_of(con) {
         clear_others(t, con, w);
     }
+}
+
+/// Makes the container fullscreen, and no other of its workspace.
+fn fill(t: &mut Tree, con: ConId)
+    requires { IsSound t.old }
+    ensures tree { t.new ≡ fullscreen_tree con true t.old }
+    ensures alone { fills_alone con (workspace_of t.old con) t.new ≡ true }
+    ensures sound { IsSound t.new }
+{
+    clear_beside(t, con);
+    set_full(t, con, true);
 }
 
 /// Makes the window fullscreen (`on`), which takes that from the others of its workspace, or no longer so.
@@ -96,13 +109,17 @@ pub fn fullscreen(t: &mut Tree, con: ConId, on: bool) -> Result<(), Refusal>
     ensures err { OnErr result (t.new ≡ t.old) }
     ensures cause { IfErr result (λ e. window_refusal con t.old ≡ Some e) }
     ensures sound { IsSound t.new }
+
+    // No other window of its workspace is fullscreen beside it.
+    ensures alone { on ≡ true → OnOk result (fills_alone con (workspace_of t.old con) t.new ≡ true) }
 {
     if let Some(error) = window_refusal(t, con) {
         return Err(error);
     }
     if on {
-        clear_beside(t, con);
+        fill(t, con);
+    } else {
+        set_full(t, con, false);
     }
-    set_full(t, con, on);
     Ok(())
 }

@@ -6,7 +6,6 @@ ghost use Rattle.wm_showing.specs.Subject.{IsSubject, is_hidden};
 ghost use Rattle.wm_tree.specs.Look.{con_kind, kind_of};
 ghost use Rattle.wm_tree.specs.Sound.{IsSound};
 
-
 use crate::floating::{floating_rect, go};
 use crate::kinds::{Kind, is_of_space, latest};
 use crate::places::held_middle;

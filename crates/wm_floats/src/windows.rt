@@ -84,7 +84,13 @@ pub(crate) fn set_full(t: &mut Tree, con: ConId, on: bool)
 {
     if let Some(state) = state_of(t, con) {
         let fullscreen = on;
-        t.set_state(con, ConState { fullscreen, ..state });
+        t.set_state(
+            con,
+            ConState {
+                fullscreen,
+                ..state
+            },
+        );
     }
 }
 

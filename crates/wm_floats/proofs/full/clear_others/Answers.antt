@@ -1,4 +1,4 @@
-use Rattle.std.proofs.Common.{◌≡◌, ◌∙◌, None, Some, sym, ap, arith, rules}
+use Rattle.std.proofs.Common.{◌≡◌, ◌∙◌, None, Some, sym, arith, rules}
 use Rattle.std.proofs.lemmas.Grind.{common_steps}
 use Rattle.wm_floats.proofs.FullLemmas.{none_left, one_less}
 use Rattle.wm_floats.specs.Fullscreen.{full_in}
