@@ -1,4 +1,5 @@
 pub mod FloatLemmas
 pub mod FullLemmas
 pub mod LeafLemmas
+pub mod MovedLemmas
 pub mod PlaceLemmas

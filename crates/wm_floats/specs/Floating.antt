@@ -40,6 +40,14 @@ abbrev pub floating_by : Option OutputPart → Option ConPart → Rect
 floating_by o None = nowhere
 floating_by o (Some p) = rect_or p.state.rect (new_rect o p.state.border (natural_by p.kind))
 
+abbrev pub earlier_in : Option ConPart → Option Rect
+earlier_in None = None
+earlier_in (Some p) = p.state.rect
+
+-- the outer rectangle of a floating window, or the earlier one of a window that floated
+abbrev pub earlier : ConId → TreeValue → Option Rect
+earlier c t = earlier_in (kind_of con_kind c t.nodes)
+
 -- the outer rectangle with which c floats: the one that it had when it floated earlier, or else a new one
 abbrev pub floating_rect : ConId → TreeValue → Rect
 floating_rect c t = floating_by (output_part_of c t) (kind_of con_kind c t.nodes)

@@ -1,14 +1,14 @@
 //! Windows float, and are tiled again.
 ghost use Rattle.std.specs.Prelude.{◌≡◌, ◌≢◌, None, Some, true, false, OnOk, OnErr, IfErr};
 ghost use Rattle.std.specs.Option.{option_copied};
-ghost use Rattle.wm_floats.specs.Floating.{IsGoal, float_refusal, float_tree, floated, floated_refusal, floating_by, floating_rect, new_rect, sink_refusal, sink_tree, sunk, sunk_refusal, tiling_place};
+ghost use Rattle.wm_floats.specs.Floating.{IsGoal, earlier, float_refusal, float_tree, floated, floated_refusal, floating_by, floating_rect, new_rect, sink_refusal, sink_tree, sunk, sunk_refusal, tiling_place};
 ghost use Rattle.wm_showing.specs.Refusing.{full_error};
 ghost use Rattle.wm_showing.specs.Subject.{IsSubject, is_space};
 ghost use Rattle.wm_floats.specs.Windows.{natural_of};
 ghost use Rattle.wm_tree.specs.Move.{moved, passed_by_move};
 ghost use Rattle.wm_tree.specs.Look.{con_kind, kind_of};
 ghost use Rattle.wm_tree.specs.Sound.{IsSound};
-ghost use Rattle.wm_tree.specs.TreeValue.{workspace_of};
+ghost use Rattle.wm_tree.specs.TreeValue.{is_tiled_con, workspace_of};
 
 use crate::places::{NOWHERE, held_middle, outer_size};
 use crate::windows::{natural_by, output_part_of, set_flag, window_refusal};
@@ -74,6 +74,9 @@ pub fn float(t: &mut Tree, con: ConId) -> Result<(), Refusal>
     ensures err { OnErr result (t.new ≡ t.old) }
     ensures cause { IfErr result (λ e. float_refusal con t.old ≡ Some e) }
     ensures sound { IsSound t.new }
+
+    // The window that was tiled has that rectangle.
+    ensures rect { is_tiled_con t.old con ≡ true → OnOk result (earlier con t.new ≡ Some (floating_rect con t.old)) }
 {
     if let Some(error) = window_refusal(t, con) {
         return Err(error);
@@ -94,6 +97,7 @@ fn float_on(t: &mut Tree, con: ConId, w: ConId) -> Result<(), Refusal>
     ensures err { OnErr result (t.new ≡ t.old) }
     ensures cause { IfErr result (λ e. floated_refusal con (Some w) t.old ≡ Some e) }
     ensures sound { IsSound t.new }
+    ensures rect { is_tiled_con t.old con ≡ true → OnOk result (earlier con t.new ≡ Some (floating_rect con t.old)) }
 {
     if !t.is_tiled(con) {
         return Ok(());
@@ -123,6 +127,9 @@ pub fn sink(t: &mut Tree, con: ConId) -> Result<(), Refusal>
     ensures err { OnErr result (t.new ≡ t.old) }
     ensures cause { IfErr result (λ e. sink_refusal con t.old ≡ Some e) }
     ensures sound { IsSound t.new }
+
+    // It keeps the rectangle with which it floated, and with which it floats again.
+    ensures rect { OnOk result (earlier con t.new ≡ earlier con t.old) }
 {
     if let Some(error) = window_refusal(t, con) {
         return Err(error);
@@ -143,6 +150,7 @@ fn sink_on(t: &mut Tree, con: ConId, w: ConId) -> Result<(), Refusal>
     ensures err { OnErr result (t.new ≡ t.old) }
     ensures cause { IfErr result (λ e. sunk_refusal con (Some w) t.old ≡ Some e) }
     ensures sound { IsSound t.new }
+    ensures rect { OnOk result (earlier con t.new ≡ earlier con t.old) }
 {
     if t.is_tiled(con) {
         return Ok(());
