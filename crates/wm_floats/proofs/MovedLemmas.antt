@@ -4,8 +4,10 @@ use Rattle.std.specs.Option.{option_map}
 use Rattle.std.specs.Prelude.{OnOk}
 use Rattle.wm_base.specs.declared.geometry.Rect.{Rect}
 use Rattle.wm_base.specs.declared.ids.ConId.{ConId}
-use Rattle.wm_floats.specs.Floating.{IsGoal, earlier, earlier_in, floating_rect, tiling_place}
-use Rattle.wm_floats.specs.Windows.{flag_set, restated, state_of}
+use Rattle.wm_floats.specs.Floating.{IsGoal, earlier, earlier_in, floating_by, floating_rect, new_rect, rect_or, tiling_place}
+use Rattle.wm_floats.specs.Kinds.{is_flagged_state}
+use Rattle.wm_floats.specs.Windows.{flag_set, natural_by, restated, state_of}
+use Rattle.wm_spaces.specs.Sending.{output_part_of}
 use Rattle.wm_spaces.proofs.SendLemmas.{con_there}
 use Rattle.wm_tree.proofs.CountLemmas.{count-without, counted, found_counted}
 use Rattle.wm_tree.proofs.ForestLemmas.{only_absent}
@@ -204,3 +206,21 @@ pub float_rect_ok : {A E : Type 0} (o : Result A E) (c w : ConId) (r : Rect) (t 
     → OnOk o (earlier c new ≡ Some (floating_rect c t))
 float_rect_ok (Ok a) c w r t new e er s g ok = float_rect c w r t new e s g ok ∙ ap (λ z. Some z) er
 float_rect_ok (Err a) c w r t new e er s g ok = tt
+
+pub as_before : (c : ConId) (r : Rect) (t : TreeValue) → earlier c t ≡ Some r → floating_rect c t ≡ r
+as_before c r t h = by (kind_of con_kind c t.nodes) h
+  where
+    by : (o : Option ConPart) → earlier_in o ≡ Some r → floating_by (output_part_of c t) o ≡ r
+    by None h = cc
+    by (Some p) h = ap (λ z. rect_or z (new_rect (output_part_of c t) p.state.border (natural_by p.kind))) h
+
+-- one that has come to the scratchpad is flagged and has that rectangle
+pub hidden_state : (c : ConId) (r : Rect) (t mid new : TreeValue) → mid ≡ moved c (Scratchpad r) t → new ≡ flag_set true c mid → r ≡ floating_rect c t → IsSound t → IsGoal c (Scratchpad r) t → kind_of con_kind c t.nodes ≢ None
+    → (is_flagged_state (state_of c new) ≡ true) × (earlier c new ≡ Some (floating_rect c t))
+hidden_state c r t mid new em en er s g ok =
+    let had : earlier c mid ≡ Some r = ap (earlier c) em ∙ moved_rect c (Scratchpad r) t s g ok in
+    (ap (λ z. is_flagged_state (state_of c z)) en ∙ by (kind_of con_kind c mid.nodes) refl had, ap (earlier c) en ∙ (flag_rect c true mid ∙ (had ∙ ap (λ z. Some z) er)))
+  where
+    by : (o : Option ConPart) → kind_of con_kind c mid.nodes ≡ o → earlier_in o ≡ Some r → is_flagged_state (state_of c (restated c (option_map (λ (s : ConState). record s { flagged = true }) (option_map (λ (p : ConPart). p.state) o)) mid)) ≡ true
+    by None e h = cc
+    by (Some p) e h = ap (λ z. is_flagged_state (option_map (λ (q : ConPart). q.state) z)) (state_edited c (record p.state { flagged = true }) p mid.nodes e)

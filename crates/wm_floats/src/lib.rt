@@ -4,6 +4,7 @@
 mod floating;
 mod full;
 mod kinds;
+mod laws;
 mod places;
 mod placing;
 mod scratchpad;
@@ -17,6 +18,7 @@ mod windows;
 pub use floating::{float, sink};
 pub use full::fullscreen;
 pub use kinds::focus_kind;
+pub use laws::floats_as_before;
 pub use placing::{centre, move_by, place_at};
 pub use scratchpad::{show_scratchpad, to_scratchpad};
 pub use sticking::stick;

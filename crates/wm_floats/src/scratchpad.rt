@@ -1,5 +1,8 @@
 //! Windows hide in the scratchpad and come back.
-ghost use Rattle.std.specs.Prelude.{◌≡◌, ◌≢◌, None, Some, false, OnOk, OnErr, IfErr, IfSome};
+ghost use Rattle.std.specs.Prelude.{◌≡◌, ◌≢◌, None, Some, false, true, OnOk, OnErr, IfErr, IfSome};
+ghost use Rattle.wm_floats.specs.Floating.{earlier, floating_rect};
+ghost use Rattle.wm_floats.specs.Kinds.{is_flagged_state};
+ghost use Rattle.wm_floats.specs.Windows.{state_of};
 ghost use Rattle.wm_floats.specs.Scratchpad.{brought, brought_refusal, coming_place, first_brought, first_brought_refusal, first_hidden, middle_on, put_away, put_away_refusal, show_next_refusal, show_next_tree, show_scratchpad_refusal, show_scratchpad_tree, show_this_refusal, show_this_tree, to_scratchpad_refusal, to_scratchpad_tree};
 ghost use Rattle.std.specs.Option.{option_copied};
 ghost use Rattle.wm_showing.specs.Subject.{IsSubject, is_hidden};
@@ -22,6 +25,10 @@ pub fn to_scratchpad(t: &mut Tree, con: ConId) -> Result<(), Refusal>
     ensures err { OnErr result (t.new ≡ t.old) }
     ensures cause { IfErr result (λ e. to_scratchpad_refusal con t.old ≡ Some e) }
     ensures sound { IsSound t.new }
+
+    // It is flagged and has a rectangle there.
+    ensures flagged { OnOk result (is_flagged_state (state_of con t.new) ≡ true) }
+    ensures rect { OnOk result (earlier con t.new ≡ Some (floating_rect con t.old)) }
 {
     if let Some(error) = window_refusal(t, con) {
         return Err(error);
