@@ -10,7 +10,7 @@ use Rattle.wm_tool.specs.declared.run.Command.{Command}
 use Rattle.wm_tool.specs.declared.run.Command.TheVariants.{Replay, Ipc}
 use Rattle.wm_tool.specs.declared.run.FramesEnd.{FramesEnd}
 use Rattle.wm_tool.specs.declared.run.FramesEnd.TheVariants as end
-use Rattle.wm_tool.specs.declared.script.Line.{Line}
+use Rattle.wm_tool.specs.declared.line.Line.{Line}
 use Rattle.wm_tool.specs.declared.status.Status.{Status}
 use Rattle.wm_tool.specs.declared.status.Status.TheVariants.{Done, BadWords, BadScript, BadFrames, Truncated, TooLarge, ReadFault, WriteFault, NoMemory}
 use Rattle.wm_tool.specs.declared.status.Refused.{Refused}

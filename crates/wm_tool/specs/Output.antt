@@ -3,6 +3,7 @@ use Rattle.std.specs.Prelude.{ℕ, List, [], ◌∷◌, ◌++◌, length, Option
 use Rattle.std.specs.Fmt.{decimal}
 use Rattle.wm_base.specs.declared.plan.Border.{Border}
 use Rattle.wm_base.specs.declared.plan.Border.TheVariants.{Bare}
+use Rattle.wm_base.specs.declared.plan.OutputPlan.{OutputPlan}
 use Rattle.wm_base.specs.ErrorText.{word_of}
 use Rattle.wm_tree.specs.TreeValue.{TreeValue, opening}
 use Rattle.wm_core.specs.declared.step.Answer.{Answer}
@@ -15,15 +16,16 @@ use Rattle.wm_core.specs.declared.look.Query.{Query}
 use Rattle.wm_core.specs.declared.look.Query.TheVariants as query
 use Rattle.wm_core.specs.declared.look.View.{View}
 use Rattle.wm_core.specs.declared.look.View.TheVariants as view
-use Rattle.wm_core.specs.Act.{Act, Run, Map, Close}
+use Rattle.wm_core.specs.Act.{Act}
+use Rattle.wm_core.specs.Act as acts
 use Rattle.wm_core.specs.History.{Entry, History, Start, answer, tree}
 use Rattle.wm_layouts.specs.Plan.{default_outputs}
 use Rattle.wm_paint.specs.FrameText.{frame_text, new_line}
-use Rattle.wm_tool.specs.declared.script.Line.{Line}
-use Rattle.wm_tool.specs.declared.script.Line.TheVariants as line
+use Rattle.wm_tool.specs.declared.line.Line.{Line}
+use Rattle.wm_tool.specs.declared.line.Line.TheVariants as line
 use Rattle.wm_tool.specs.declared.status.Refused.{Refused}
 use Rattle.wm_tool.specs.Refusals.{verdict_of}
-use Rattle.wm_tool.specs.Script.{script}
+use Rattle.wm_tool.specs.Script.{outputs_in, script}
 
 -- the line that tells an answer
 abbrev pub answer_text : Answer → List ℕ
@@ -33,6 +35,9 @@ answer_text (answers.Replies replies) = replies_text replies ++ new_line
 answer_text answers.NoView = codes "no-view" ++ new_line
 answer_text answers.Empty = codes "empty" ++ new_line
 answer_text (answers.Full limit) = codes "full " ++ (word_of limit ++ new_line)
+answer_text answers.NameTaken = codes "name-taken" ++ new_line
+answer_text answers.NoTarget = codes "no-target" ++ new_line
+answer_text answers.BadRect = codes "bad-rect" ++ new_line
 
 -- the opening of the standard plan, without homes
 abbrev pub start : Start
@@ -55,22 +60,23 @@ abbrev pub set_by : Line → Setting → Setting
 set_by (line.Border b) s = record s { border = b }
 set_by (line.Inner n) s = record s { inner = n }
 set_by (line.Outer n) s = record s { outer = n }
-set_by (line.Map props buffer) s = s
-set_by (line.Close con) s = s
-set_by (line.Run text) s = s
-set_by line.Paint s = s
-set_by line.Marks s = s
+set_by other s = s
 
 abbrev pub set_by_all : List Line → Setting → Setting
 set_by_all [] s = s
 set_by_all (l ∷ lines) s = set_by_all lines (set_by l s)
 
-abbrev pub opening_set : Setting → Start
-opening_set s = record { opened = opening default_outputs s.border s.inner s.outer; homes = [] }
+-- the outputs of a plan that is given these; the standard one where there is none
+abbrev pub outputs_or_default : List OutputPlan → List OutputPlan
+outputs_or_default [] = default_outputs
+outputs_or_default (o ∷ outputs) = o ∷ outputs
+
+abbrev pub opening_set : List OutputPlan → Setting → Start
+opening_set outputs s = record { opened = opening outputs s.border s.inner s.outer; homes = [] }
 
 -- the opening of a script
 abbrev pub start_of : List Line → Start
-start_of lines = opening_set (set_by_all lines plain)
+start_of lines = opening_set (outputs_or_default (outputs_in lines)) (set_by_all lines plain)
 
 -- ---- what lines do
 
@@ -80,7 +86,7 @@ entry_of act = record { who = 0; act = act }
 
 -- the step of caller 0 that runs a text after a history, given which patterns were refused
 abbrev pub run_entry : List Refused → History → List ℕ → Entry
-run_entry refused history text = entry_of (Run text (verdict_of refused (length history) text))
+run_entry refused history text = entry_of (acts.Run text (verdict_of refused (length history) text))
 
 abbrev pub after_entry : Option Entry → History → History
 after_entry None history = history
@@ -93,16 +99,28 @@ pub data Deed : Type 0 where
   Paints : Deed
   Looks : Query → Deed
 
--- what a line does after a history
+-- the step of a line that takes one and runs no text
+abbrev pub act_in : Line → Option Act
+act_in (line.Map props buffer) = Some (acts.Map props buffer)
+act_in (line.Retitle con title) = Some (acts.Retitle con title)
+act_in (line.Urgent con on) = Some (acts.Urgent con on)
+act_in (line.Close con) = Some (acts.Close con)
+act_in line.Gone = Some acts.Gone
+act_in (line.OutputAdd plan) = Some (acts.OutputAdd plan)
+act_in (line.OutputRemove name) = Some (acts.OutputRemove name)
+act_in (line.Reserve name edges) = Some (acts.Reserve name edges)
+act_in other = None
+
+abbrev pub takes : Option Act → Deed
+takes None = Rests
+takes (Some act) = Takes (entry_of act)
+
+-- what a line does after a history; those of the plan do nothing
 abbrev pub deed_of : List Refused → History → Line → Deed
-deed_of refused history (line.Border b) = Rests
-deed_of refused history (line.Inner n) = Rests
-deed_of refused history (line.Outer n) = Rests
-deed_of refused history (line.Map props buffer) = Takes (entry_of (Map props buffer))
-deed_of refused history (line.Close con) = Takes (entry_of (Close con))
 deed_of refused history (line.Run text) = Takes (run_entry refused history text)
 deed_of refused history line.Paint = Paints
 deed_of refused history line.Marks = Looks query.Marks
+deed_of refused history other = takes (act_in other)
 
 abbrev pub after_deed : Deed → History → History
 after_deed Rests history = history
@@ -134,16 +152,14 @@ abbrev pub out_from : Start → List Line → List Refused → History → List 
 out_from start [] refused history = []
 out_from start (l ∷ lines) refused history = told start l refused history ++ out_from start lines refused (after l refused history)
 
+abbrev pub one_if_some : Option Act → List (Option (List ℕ))
+one_if_some None = []
+one_if_some (Some act) = None ∷ []
+
 -- the steps of lines, each with the text that it runs, where it runs one; a line has one step or none
 abbrev pub line_step : Line → List (Option (List ℕ))
-line_step (line.Border b) = []
-line_step (line.Inner n) = []
-line_step (line.Outer n) = []
-line_step (line.Map props buffer) = None ∷ []
-line_step (line.Close con) = None ∷ []
 line_step (line.Run text) = Some text ∷ []
-line_step line.Paint = []
-line_step line.Marks = []
+line_step other = one_if_some (act_in other)
 
 abbrev pub line_texts : List Line → List (Option (List ℕ))
 line_texts [] = []

@@ -1,15 +1,13 @@
--- The script: its lines, and what each says.
-use Rattle.std.specs.Prelude.{◌≡◌, ℕ, ◌+◌, ◌==◌, ◌&&◌, ◌||◌, Bool, true, false, if◌then◌else◌, List, [], ◌∷◌, length, Option, None, Some, Result, Ok, Err, codes, ◌++◌, ◌≤◌}
-use Rattle.std.specs.Str.{is_utf8}
-use Rattle.wm_base.specs.declared.plan.Border.TheVariants as border
+-- The script: its lines, and their order.
+use Rattle.std.specs.Prelude.{◌≡◌, ℕ, ◌+◌, ◌==◌, ◌&&◌, ◌||◌, nat_lt, not, All, Bool, true, false, if◌then◌else◌, List, [], ◌∷◌, length, Option, None, Some, Result, Ok, Err, ◌++◌, ◌≤◌}
+use Rattle.wm_base.specs.declared.plan.OutputPlan.{OutputPlan}
 use Rattle.wm_core.specs.Sizes.{IsFitSize}
-use Rattle.wm_layouts.specs.Plan.{IsFitBorder}
-use Rattle.wm_tool.specs.Fields.{behind, buffer_at, if_end, number_at, or_none}
-use Rattle.wm_tool.specs.Properties.{none_given, properties_at, props_of}
+use Rattle.wm_layouts.specs.Plan.{IsFitBorder, IsFitEdges, IsFitOutput, NamesDiffer, is_taken}
+use Rattle.wm_tool.specs.Lines.{line_of}
 use Rattle.wm_tool.specs.declared.script.ScriptRefusal.{ScriptRefusal}
 use Rattle.wm_tool.specs.declared.script.ScriptRefusal.TheVariants as refusals
-use Rattle.wm_tool.specs.declared.script.Line.{Line}
-use Rattle.wm_tool.specs.declared.script.Line.TheVariants.{Border, Inner, Outer, Map, Close, Run, Paint, Marks}
+use Rattle.wm_tool.specs.declared.line.Line.{Line}
+use Rattle.wm_tool.specs.declared.line.Line.TheVariants.{Output, Border, Inner, Outer, Map, OutputAdd, Reserve, Run}
 
 -- ---- lines
 
@@ -22,117 +20,85 @@ abbrev pub lines_of : List ℕ → List (List ℕ)
 lines_of [] = []
 lines_of (c ∷ cs) = if c == 10 then [] ∷ lines_of cs else onto_first c (lines_of cs)
 
--- ---- what a line says
-
--- `INK WxH` and properties, to the end of the line
-abbrev pub map_at : List ℕ → Option Line
-map_at text = or_none (buffer_at text) (λ found. or_none (properties_at 6 none_given found.1) (λ given. Some (Map (props_of given) found.0)))
-
--- `ID`, to the end of the line
-abbrev pub close_at : List ℕ → Option Line
-close_at text = or_none (number_at 4294967295 text) (λ id. if_end (Close (record { 0 = id.0 })) id.1)
-
-abbrev pub or_else : Option (List ℕ) → (List ℕ → Option Line) → Option Line → Option Line
-or_else None f other = other
-or_else (Some rest) f other = f rest
-
--- a text to be run, to the end of the line; it is UTF-8
-abbrev pub run_at : List ℕ → Option Line
-run_at text = if is_utf8 text then Some (Run text) else None
-
--- a number of at most `most`, to the end of the line
-abbrev pub number_line : ℕ → (ℕ → Line) → List ℕ → Option Line
-number_line most line text = or_none (number_at most text) (λ n. if_end (line n.0) n.1)
-
--- the default border: `none`, or `pixel` or `normal` with a width of at most 64
-abbrev pub border_at : List ℕ → Option Line
-border_at text =
-    or_else (behind (codes "pixel ") text) (number_line 64 (λ n. Border (border.Pixel n)))
-    (or_else (behind (codes "normal ") text) (number_line 64 (λ n. Border (border.Normal n)))
-    (or_else (behind (codes "none") text) (if_end (Border border.Bare)) None))
-
--- a default gap: `inner` or `outer` with a width of at most 1,000
-abbrev pub gaps_at : List ℕ → Option Line
-gaps_at text = or_else (behind (codes "inner ") text) (number_line 1000 Inner) (or_else (behind (codes "outer ") text) (number_line 1000 Outer) None)
-
--- what a line of the plan says
-abbrev pub plan_line_of : List ℕ → Option Line
-plan_line_of text = or_else (behind (codes "border ") text) border_at (or_else (behind (codes "gaps ") text) gaps_at None)
-
--- what a line says that has no text
-abbrev pub other_line_of : List ℕ → Option Line
-other_line_of text =
-    or_else (behind (codes "close ") text) close_at
-    (or_else (behind (codes "paint") text) (if_end Paint)
-    (or_else (behind (codes "marks") text) (if_end Marks) (plan_line_of text)))
-
--- what a line says; None where it is outside the grammar
-abbrev pub line_of : List ℕ → Option Line
-line_of text = or_else (behind (codes "run ") text) run_at (or_else (behind (codes "map ") text) map_at (other_line_of text))
-
--- ---- the script
-
-abbrev pub with_line : Line → Result (List Line) ℕ → Result (List Line) ℕ
-with_line line (Ok lines) = Ok (line ∷ lines)
-with_line line (Err n) = Err n
-
-abbrev pub read_from : Option Line → ℕ → Result (List Line) ℕ → Result (List Line) ℕ
-read_from None n rest = Err n
-read_from (Some line) n rest = with_line line rest
+-- ---- their order
 
 -- a line of the plan
 abbrev pub is_plan : Line → Bool
+is_plan (Output o) = true
 is_plan (Border b) = true
 is_plan (Inner n) = true
 is_plan (Outer n) = true
-is_plan (Map props buffer) = false
-is_plan (Close con) = false
-is_plan (Run text) = false
-is_plan Paint = false
-is_plan Marks = false
+is_plan other = false
 
--- the lines of the plan come first: behind another line there are none
-abbrev pub in_order : Bool → Option Line → Option Line
-in_order begun None = None
-in_order begun (Some line) = if begun && is_plan line then None else Some line
+-- one of the lines is none of the plan
+abbrev pub has_begun : List Line → Bool
+has_begun [] = false
+has_begun (line ∷ lines) = not (is_plan line) || has_begun lines
 
-abbrev pub begins : Option Line → Bool
-begins None = false
-begins (Some line) = if is_plan line then false else true
+abbrev pub onto_outputs : Line → List OutputPlan → List OutputPlan
+onto_outputs (Output o) outputs = o ∷ outputs
+onto_outputs other outputs = outputs
 
--- what the lines say, or the number of the first one outside the grammar, the first of them being line n, behind
--- other lines than those of the plan or not
-abbrev pub script_from : Bool → ℕ → List (List ℕ) → Result (List Line) ℕ
-script_from begun n [] = Ok []
-script_from begun n (text ∷ texts) = read_from (in_order begun (line_of text)) n (script_from (begun || begins (line_of text)) (n + 1) texts)
+-- the outputs that lines give the plan
+abbrev pub outputs_in : List Line → List OutputPlan
+outputs_in [] = []
+outputs_in (line ∷ lines) = onto_outputs line (outputs_in lines)
+
+-- there are fewer than eight outputs, and none has the name of this one
+abbrev pub is_another : OutputPlan → List OutputPlan → Bool
+is_another o outputs = nat_lt (length outputs) 8 && not (is_taken o.name outputs)
+
+-- the line may stand behind these: those of the plan come first, and outputs have names of their own and are at most eight
+abbrev pub may_follow : List Line → Line → Bool
+may_follow before (Output o) = not (has_begun before) && is_another o (outputs_in before)
+may_follow before line = not (has_begun before && is_plan line)
+
+-- what a line says behind these lines, where it may stand there
+abbrev pub in_order : List Line → Option Line → Option Line
+in_order before None = None
+in_order before (Some line) = if may_follow before line then Some line else None
+
+-- ---- the script
+
+abbrev pub read_from : Option Line → ℕ → (Line → Result (List Line) ℕ) → Result (List Line) ℕ
+read_from None n rest = Err n
+read_from (Some line) n rest = rest line
+
+-- the script that begins with these lines and goes on with what the texts say, or the number of the first of them
+-- outside the grammar
+abbrev pub script_from : List Line → List (List ℕ) → Result (List Line) ℕ
+script_from before [] = Ok before
+script_from before (text ∷ texts) = read_from (in_order before (line_of text)) (length before + 1) (λ line. script_from (before ++ line ∷ []) texts)
 
 -- the script that bytes are, or the number of the first line outside the grammar, counted from 1
 abbrev pub script : List ℕ → Result (List Line) ℕ
-script bytes = script_from false 1 (lines_of bytes)
+script bytes = script_from [] (lines_of bytes)
 
--- a line's border, gap and buffer are within the limits, and its text within the size of an input
+-- a line's output, border, gap, buffer and edges are within the limits, and its text within the size of an input
 abbrev pub IsFitLine : Line → Type 0
+IsFitLine (Output o) = IsFitOutput o
 IsFitLine (Border b) = IsFitBorder b
 IsFitLine (Inner n) = n ≤ 1000
 IsFitLine (Outer n) = n ≤ 1000
 IsFitLine (Map props buffer) = IsFitSize buffer.size
-IsFitLine (Close con) = Unit {0}
+IsFitLine (OutputAdd o) = IsFitEdges o.reserved
+IsFitLine (Reserve name edges) = IsFitEdges edges
 IsFitLine (Run text) = length text ≤ 16777216
-IsFitLine Paint = Unit {0}
-IsFitLine Marks = Unit {0}
+IsFitLine other = Unit {0}
+
+-- lines are within the limits, and the outputs that they give the plan are at most eight, with names of their own
+pub record IsSoundScript (lines : List Line) : Type 0 where
+  pub fit : All IsFitLine lines
+  pub few : length (outputs_in lines) ≤ 8
+  pub names : NamesDiffer (outputs_in lines)
 
 -- why bytes are no script
 abbrev pub IsRefused : List ℕ → ScriptRefusal → Type 0
 IsRefused bytes (refusals.BadLine line) = script bytes ≡ Err line
 IsRefused bytes refusals.NoMemory = Unit {0}
 
--- some of the lines is none of the plan
-abbrev pub has_begun : List (List ℕ) → Bool
-has_begun [] = false
-has_begun (text ∷ texts) = begins (line_of text) || has_begun texts
-
 -- the line of this number, counted from 1, is the first of these outside the grammar: those before it are a script,
--- and it says nothing, or is one of the plan behind another
+-- and behind that it says nothing that may stand there
 pub record IsFirstBad (texts : List (List ℕ)) (line : ℕ) : Type 0 where
   pub before : List (List ℕ)
   pub text : List ℕ
@@ -140,5 +106,5 @@ pub record IsFirstBad (texts : List (List ℕ)) (line : ℕ) : Type 0 where
   pub whole : texts ≡ before ++ text ∷ later
   pub counted : line ≡ length before + 1
   pub lines : List Line
-  pub said : script_from false 1 before ≡ Ok lines
-  pub bad : in_order (has_begun before) (line_of text) ≡ None
+  pub said : script_from [] before ≡ Ok lines
+  pub bad : in_order lines (line_of text) ≡ None

@@ -27,6 +27,9 @@ pub fn push_answer(alloc: Global, piece: &mut Vec<u8>, answer: &Answer) -> Resul
             let line = format!(in alloc; "full {}\n", limit.word())?;
             piece.extend_from_slice(line.as_bytes())?;
         }
+        Answer::NameTaken => piece.extend_from_slice(b"name-taken\n")?,
+        Answer::NoTarget => piece.extend_from_slice(b"no-target\n")?,
+        Answer::BadRect => piece.extend_from_slice(b"bad-rect\n")?,
     }
     Ok(())
 }

@@ -1,18 +1,25 @@
-//! Fields of a line: numbers, inks and buffers at the front of a text.
+//! Fields of a line at the front of a text: numbers, inks, buffers, rectangles and edges.
 ghost use Rattle.std.specs.Prelude.{◌≡◌, ◌+◌, ◌*◌, ◌≤◌, ◌<◌, length, take_while, IfSome, Some, if◌then◌else◌, None, nat_le};
 ghost use Rattle.std.specs.Char.{is_ascii_digit};
 ghost use Rattle.std.specs.Option.{option_copied, option_map};
 ghost use Rattle.wm_core.specs.Sizes.{IsFitSize};
 ghost use Rattle.wm_defs.specs.Hex.{hex_value};
-ghost use Rattle.wm_tool.specs.Fields.{behind, buffer_at, decimal_value, ink_at, number_at, with_digit};
+ghost use Rattle.wm_layouts.specs.Plan.{IsFitEdges};
+ghost use Rattle.wm_tool.specs.Fields.{behind, buffer_at, coordinate_at, decimal_value, edges_at, if_end, ink_at, number_at, rect_at, size_at, width_at, with_digit};
 
-use wm_base::{Buffer, Ink, Size};
+use wm_base::{Buffer, Edges, Ink, Rect, Size};
 
 /// How many digits a number has at most.
 const MAX_DIGITS: usize = 20;
 
-/// The greatest side of a buffer in pixels.
+/// The greatest side and the greatest edge in pixels.
 const MAX_SIDE: u32 = 16384;
+
+/// The greatest place to the right of or below the origin in pixels.
+const MAX_PLACE: u32 = 131_071;
+
+/// The greatest place to the left of or above the origin in pixels.
+const MIN_PLACE: u32 = 131_072;
 
 /// What follows a word at the front of the text.
 pub fn behind<'a>(text: &'a [u8], word: &[u8]) -> Option<&'a [u8]>
@@ -67,14 +74,76 @@ pub fn buffer(text: &[u8]) -> Option<(Buffer, &[u8])>
 {
     let (ink, rest) = ink(text)?;
     let rest = behind(rest, b" ")?;
-    let (w, rest) = number(rest, MAX_SIDE)?;
+    let (size, rest) = size(rest)?;
+    Some((Buffer { ink, size }, rest))
+}
+
+/// A width and a height in pixels, `WxH`, and what follows them.
+fn size(text: &[u8]) -> Option<(Size, &[u8])>
+    ensures value { option_map (λ found. (found.0, found.1.now)) result ≡ size_at text.now }
+    ensures fit { IfSome result (λ found. IsFitSize found.0) }
+{
+    let (w, rest) = number(text, MAX_SIDE)?;
     let rest = behind(rest, b"x")?;
     let (h, rest) = number(rest, MAX_SIDE)?;
-    let buffer = Buffer {
-        ink,
-        size: Size { w, h },
+    Some((Size { w, h }, rest))
+}
+
+/// A place and a size in pixels, `X,Y WxH`, and what follows them.
+pub fn rect(text: &[u8]) -> Option<(Rect, &[u8])>
+    ensures { option_map (λ found. (found.0, found.1.now)) result ≡ rect_at text.now }
+{
+    let (x, rest) = coordinate(text)?;
+    let rest = behind(rest, b",")?;
+    let (y, rest) = coordinate(rest)?;
+    let rest = behind(rest, b" ")?;
+    let (size, rest) = size(rest)?;
+    let rect = Rect {
+        x,
+        y,
+        w: size.w,
+        h: size.h,
     };
-    Some((buffer, rest))
+    Some((rect, rest))
+}
+
+/// A number from -131,072 to 131,071, and what follows it.
+fn coordinate(text: &[u8]) -> Option<(i32, &[u8])>
+    ensures { option_map (λ found. (found.0, found.1.now)) result ≡ coordinate_at text.now }
+{
+    if let Some(digits) = behind(text, b"-") {
+        let (value, rest) = number(digits, MIN_PLACE)?;
+        return Some((-(value as i32), rest));
+    }
+    let (value, rest) = number(text, MAX_PLACE)?;
+    Some((value as i32, rest))
+}
+
+/// The widths of edges in pixels, ` TOP RIGHT BOTTOM LEFT`, and what follows them.
+pub fn edges(text: &[u8]) -> Option<(Edges, &[u8])>
+    ensures value { option_map (λ found. (found.0, found.1.now)) result ≡ edges_at text.now }
+    ensures fit { IfSome result (λ found. IsFitEdges found.0) }
+{
+    let (top, rest) = width(text)?;
+    let (right, rest) = width(rest)?;
+    let (bottom, rest) = width(rest)?;
+    let (left, rest) = width(rest)?;
+    let edges = Edges {
+        top,
+        right,
+        bottom,
+        left,
+    };
+    Some((edges, rest))
+}
+
+/// A width in pixels behind a blank, and what follows it.
+fn width(text: &[u8]) -> Option<(u32, &[u8])>
+    ensures value { option_map (λ found. (found.0, found.1.now)) result ≡ width_at text.now }
+    ensures within { IfSome result (λ found. found.0 ≤ 16384) }
+{
+    let text = behind(text, b" ")?;
+    number(text, MAX_SIDE)
 }
 
 /// An ink of six hexadecimal digits, and what follows it.
@@ -114,4 +183,12 @@ fn hex_digit(digit: u8) -> Option<u8>
         b'A'..=b'F' => Some(digit - b'A' + 10),
         _ => None,
     }
+}
+
+/// The value, where the text is at its end.
+pub fn at_end<T: Drop>(text: &[u8], value: T) -> Option<T>
+    ensures value { result ≡ if_end value text.now }
+    ensures same { IfSome result (λ found. found ≡ value) }
+{
+    if text.is_empty() { Some(value) } else { None }
 }

@@ -1,7 +1,8 @@
 //! Laws of scripts.
 ghost use Rattle.std.specs.Prelude.{◌≡◌, ℕ, List, map, Some, Ok, Err};
-ghost use Rattle.wm_tool.specs.Script.{line_of, lines_of, script, IsFirstBad};
-ghost use Rattle.wm_tool.specs.declared.script.Line.{Line};
+ghost use Rattle.wm_tool.specs.Lines.{line_of};
+ghost use Rattle.wm_tool.specs.Script.{lines_of, script, IsFirstBad};
+ghost use Rattle.wm_tool.specs.declared.line.Line.{Line};
 
 /// The line that a refusal names is the first one outside the grammar.
 pub fn bad_line_is_first()

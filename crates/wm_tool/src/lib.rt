@@ -6,6 +6,9 @@ mod fields;
 mod ipc;
 mod judging;
 mod laws;
+mod line;
+mod output_lines;
+mod plan_lines;
 mod planning;
 mod properties;
 mod quoted;
@@ -13,6 +16,7 @@ mod replay;
 mod run;
 mod script;
 mod status;
+mod window_lines;
 
 pub use laws::{bad_line_is_first, script_is_its_lines};
 pub use run::tool;

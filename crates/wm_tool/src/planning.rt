@@ -1,23 +1,23 @@
 //! The plan of a script: the standard one with what the lines of the plan say.
-ghost use Rattle.std.specs.Prelude.{◌≡◌, All, IfOk};
+ghost use Rattle.std.specs.Prelude.{◌≡◌, [], IfOk};
 ghost use Rattle.wm_core.specs.History.{opening_of};
-ghost use Rattle.wm_layouts.specs.Plan.{default_outputs, IsSound};
-ghost use Rattle.wm_tool.specs.Output.{set_by, start_of};
+ghost use Rattle.wm_layouts.specs.Plan.{IsSound};
+ghost use Rattle.wm_tool.specs.Output.{outputs_or_default, plain, set_by, start_of};
 ghost use Rattle.wm_tool.specs.Planning.{setting_of};
-ghost use Rattle.wm_tool.specs.Script.{IsFitLine};
+ghost use Rattle.wm_tool.specs.Script.{IsFitLine, IsSoundScript, outputs_in};
 
-use crate::script::Line;
-use std::alloc::Global;
-use wm_base::NoMemory;
+use crate::line::Line;
+use std::alloc::{AllocError, Global};
+use wm_base::{List, NoMemory, OutputPlan};
 use wm_layouts::Plan;
 
 /// The plan that the lines make of the standard one.
 pub fn plan_of(alloc: Global, lines: &[Line]) -> Result<Plan, NoMemory>
-    requires { All IsFitLine lines.now }
+    requires { IsSoundScript lines.now }
     ensures opens { IfOk result (λ plan. opening_of plan ≡ start_of lines.now) }
     ensures sound { IfOk result (λ plan. IsSound plan) }
 {
-    let mut plan = Plan::standard(alloc)?;
+    let mut plan = plan_on_outputs(alloc, lines)?;
     let mut rest = lines;
     while let [line, after @ ..] = rest {
         set(&mut plan, line);
@@ -26,7 +26,49 @@ pub fn plan_of(alloc: Global, lines: &[Line]) -> Result<Plan, NoMemory>
     Ok(plan)
 }
 
-/// What the line says of the plan. Only a line of the plan changes it.
+/// The standard plan, on the outputs of the lines where they give it some.
+fn plan_on_outputs(alloc: Global, lines: &[Line]) -> Result<Plan, NoMemory>
+    requires { IsSoundScript lines.now }
+    ensures outputs { IfOk result (λ plan. plan.outputs ≡ outputs_or_default (outputs_in lines.now)) }
+    ensures setting { IfOk result (λ plan. setting_of plan ≡ plain) }
+    ensures homes { IfOk result (λ plan. plan.env.homes ≡ []) }
+    ensures sound { IfOk result (λ plan. IsSound plan) }
+{
+    let mut plan = Plan::standard(alloc)?;
+    let outputs = copy_outputs(alloc, lines)?;
+    if !outputs.is_empty() {
+        plan.outputs = List::of(outputs);
+    }
+    Ok(plan)
+}
+
+/// The outputs that the lines give the plan.
+fn copy_outputs(alloc: Global, lines: &[Line]) -> Result<Vec<OutputPlan>, AllocError>
+    ensures { IfOk result (λ outputs. outputs.items ≡ outputs_in lines.now) }
+{
+    let mut outputs = Vec::new(alloc);
+    let mut rest = lines;
+    while let [line, after @ ..] = rest {
+        if let Line::Output(output) = line {
+            outputs.push(copy_output(output)?)?;
+        }
+        rest = after;
+    }
+    Ok(outputs)
+}
+
+/// A copy of the output.
+pub fn copy_output(output: &OutputPlan) -> Result<OutputPlan, AllocError>
+    ensures { IfOk result (λ copy. copy ≡ output.now) }
+{
+    Ok(OutputPlan {
+        name: output.name.clone()?,
+        rect: output.rect,
+        reserved: output.reserved,
+    })
+}
+
+/// What the line says of the border and the gaps. Only a line of the plan changes them.
 fn set(plan: &mut Plan, line: &Line)
     requires sound { IsSound plan.old }
     requires fit { IsFitLine line.now }
@@ -39,6 +81,6 @@ fn set(plan: &mut Plan, line: &Line)
         Line::Border(border) => plan.border = *border,
         Line::Inner(width) => plan.inner = *width,
         Line::Outer(width) => plan.outer = *width,
-        Line::Map { .. } | Line::Close(_) | Line::Run(_) | Line::Paint | Line::Marks => {}
+        _ => {}
     }
 }

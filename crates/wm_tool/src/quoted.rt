@@ -1,7 +1,7 @@
-//! Quoted texts of a line.
-ghost use Rattle.std.specs.Prelude.{◌≡◌, ◌++◌, IfOk, OnOk, false};
+//! Texts of a line: quoted ones, and names.
+ghost use Rattle.std.specs.Prelude.{◌≡◌, ◌++◌, ◌==◌, IfOk, OnOk, false, length, not, take_while};
 ghost use Rattle.std.specs.Option.{option_map};
-ghost use Rattle.wm_tool.specs.Properties.{closes, escapes, onto_text, quoted_at, short_text, stands_for, unquoted};
+ghost use Rattle.wm_tool.specs.Quoted.{closes, escapes, name_at, onto_text, quoted_at, short_text, stands_for, unquoted, word_at};
 
 use crate::fields::behind;
 use std::alloc::{AllocError, Global};
@@ -24,6 +24,40 @@ pub fn quoted(alloc: Global, text: &[u8]) -> Result<Option<(Text, &[u8])>, NoMem
         Some(said) => Ok(Some((said, rest))),
         None => Ok(None),
     }
+}
+
+/// A name, and what follows it: a quoted text, or a word, which is all up to the first blank. It has at most 1,024
+/// bytes.
+pub fn name(alloc: Global, text: &[u8]) -> Result<Option<(Text, &[u8])>, NoMemory>
+    ensures { IfOk result (λ said. option_map (λ found. (found.0, found.1.now)) said ≡ name_at text.now) }
+{
+    if text.starts_with(b"\"") {
+        quoted(alloc, text)
+    } else {
+        word(alloc, text)
+    }
+}
+
+/// A word of at most 1,024 bytes, and what follows it.
+fn word(alloc: Global, text: &[u8]) -> Result<Option<(Text, &[u8])>, NoMemory>
+    ensures { IfOk result (λ said. option_map (λ found. (found.0, found.1.now)) said ≡ word_at text.now) }
+{
+    let count = word_length(text);
+    if count == 0 {
+        return Ok(None);
+    }
+    let (word, rest) = text.split_at(count);
+    match short_text(alloc, word)? {
+        Some(said) => Ok(Some((said, rest))),
+        None => Ok(None),
+    }
+}
+
+/// How many bytes stand before the first blank.
+fn word_length(text: &[u8]) -> usize
+    ensures { result ≡ length (take_while (λ c. not (c == 32)) text.now) }
+{
+    text.iter().take_while(|c| **c != b' ').count()
 }
 
 /// Adds what is said up to the closing quotation mark, and gives what follows that. `None` where there is none.

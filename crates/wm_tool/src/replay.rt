@@ -1,5 +1,6 @@
 //! The lines of a script are run, and what they tell is written in pieces.
-ghost use Rattle.std.specs.Prelude.{◌≡◌, ℕ, List, Option, ◌+◌, ◌<◌, ◌≤◌, ◌^◌, [], ◌∷◌, None, All, IfErr, IfOk, OnErr, OnOk, length};
+ghost use Rattle.std.specs.Prelude.{◌≡◌, ℕ, List, Option, ◌+◌, ◌<◌, ◌≤◌, ◌^◌, [], ◌∷◌, None, All, IfErr, IfOk, IfSome, OnErr, OnOk, length};
+ghost use Rattle.std.specs.Option.{option_map};
 ghost use Rattle.wm_core.specs.Act.{act_of};
 ghost use Rattle.wm_core.specs.Frame.{frame};
 ghost use Rattle.wm_core.specs.Look.{look};
@@ -9,17 +10,17 @@ ghost use Rattle.wm_core.specs.Sizes.{IsFitStep};
 ghost use Rattle.wm_defs.specs.Counts.{Rose};
 ghost use Rattle.wm_ports.specs.Told.{TakesAll, TakesPart};
 ghost use Rattle.wm_tool.specs.Ending.{HasStopped};
-ghost use Rattle.wm_tool.specs.Output.{after, answer_text, entry_of, line_step, line_texts, out_from, start_of, told, view_text};
+ghost use Rattle.wm_tool.specs.Output.{act_in, after, answer_text, entry_of, line_step, line_texts, out_from, start_of, told, view_text};
 ghost use Rattle.wm_tool.specs.Refusals.{refusal_at, IsBacked};
 ghost use Rattle.wm_tool.specs.Running.{Backs, Grows, Leads, Plays, Stops, Writes};
-ghost use Rattle.wm_tool.specs.Script.{IsFitLine};
+ghost use Rattle.wm_tool.specs.Script.{IsFitLine, IsSoundScript};
 ghost use Rattle.wm_tool.specs.declared.status.Refused.{Refused};
 ghost use Rattle.wm_tool.specs.declared.replay.Stop.TheVariants as stops;
 
 use crate::answers::push_answer;
 use crate::judging::run_text;
-use crate::planning::plan_of;
-use crate::script::Line;
+use crate::line::Line;
+use crate::planning::{copy_output, plan_of};
 use std::alloc::{AllocError, Global};
 use wm_base::NoMemory;
 use wm_core::{Desk, Query, Step, View};
@@ -72,7 +73,7 @@ pub fn replay<B: Build, W: Sink>(
     sink: &mut W,
 ) -> Result<(), Stop>
     requires few { length lines.now ≤ 16777216 }
-    requires fit { All IsFitLine lines.now }
+    requires sound { IsSoundScript lines.now }
     requires none { refused.old.items ≡ [] }
     ensures ok { OnOk result (TakesAll (W.taken sink.old) (W.taken sink.new) (out_from (start_of lines.now) lines.now refused.new.items [])) }
     ensures part { OnErr result (TakesPart (W.taken sink.old) (W.taken sink.new) (out_from (start_of lines.now) lines.now refused.new.items [])) }
@@ -155,23 +156,51 @@ fn run_line<B: Build>(
         (B.refusals build.old) (B.refusals build.new) (B.refused build.old) (B.refused build.new) }
 {
     match line {
-        Line::Border(_) | Line::Inner(_) | Line::Outer(_) => Ok(()),
-        Line::Map { props, buffer } => {
-            let step = Step::Map {
-                props: copy_props(props)?,
-                buffer: *buffer,
-                then: None,
-            };
-            take(alloc, desk, &step, piece)
-        }
-        Line::Close(con) => take(alloc, desk, &Step::Close { con: *con }, piece),
         Line::Run(text) => {
             let answer = run_text(alloc, desk, text.as_str(), build, refused)?;
             push_answer(alloc, piece, &answer)
         }
         Line::Paint => paint(alloc, desk, piece),
         Line::Marks => look(alloc, desk, &Query::Marks, piece),
+        _ => match step_of(line)? {
+            Some(step) => take(alloc, desk, &step, piece),
+            None => Ok(()),
+        },
     }
+}
+
+/// The step of a line that takes one and runs no text.
+fn step_of(line: &Line) -> Result<Option<Step>, NoMemory>
+    requires { IsFitLine line.now }
+    ensures act { IfOk result (λ step. option_map act_of step ≡ act_in line.now) }
+    ensures fit { IfOk result (λ step. IfSome step IsFitStep) }
+{
+    let step = match line {
+        Line::Map { props, buffer } => Step::Map {
+            props: copy_props(props)?,
+            buffer: *buffer,
+            then: None,
+        },
+        Line::Retitle { con, title } => Step::Retitle {
+            con: *con,
+            title: title.clone()?,
+        },
+        Line::Urgent { con, on } => Step::Urgent { con: *con, on: *on },
+        Line::Close(con) => Step::Close { con: *con },
+        Line::Gone => Step::Gone,
+        Line::OutputAdd(plan) => Step::OutputAdd {
+            plan: copy_output(plan)?,
+        },
+        Line::OutputRemove(name) => Step::OutputRemove {
+            name: name.clone()?,
+        },
+        Line::Reserve { name, edges } => Step::Reserve {
+            name: name.clone()?,
+            edges: *edges,
+        },
+        _ => return Ok(None),
+    };
+    Ok(Some(step))
 }
 
 /// Takes a step of caller 0, and adds its answer.

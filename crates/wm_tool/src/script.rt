@@ -1,41 +1,20 @@
-//! The script: its lines, and what each says.
-ghost use Rattle.std.specs.Prelude.{◌≡◌, ◌||◌, Some, ◌==◌, ◌<◌, ◌≤◌, ◌∷◌, not, All, IfOk, IfErr, IfSome, Ok, length, take_while, vec_len};
+//! The script: its lines, and their order.
+ghost use Rattle.std.specs.Prelude.{◌≡◌, ◌||◌, ◌&&◌, ◌==◌, ◌<◌, ◌≤◌, ◌∷◌, Some, not, nat_lt, IfOk, IfErr, IfSome, Ok, length, take_while, vec_len};
 ghost use Rattle.wm_tool.specs.declared.script.ScriptRefusal.TheVariants as refusals;
-ghost use Rattle.wm_tool.specs.Fields.{if_end};
-ghost use Rattle.wm_tool.specs.Script.{begins, border_at, close_at, gaps_at, in_order, is_plan, line_of, lines_of, map_at, other_line_of, plan_line_of, run_at, script, IsFitLine, IsRefused};
+ghost use Rattle.wm_tool.specs.Lines.{line_of, other_line_of, run_at};
+ghost use Rattle.wm_tool.specs.Script.{has_begun, in_order, is_another, is_plan, lines_of, may_follow, outputs_in, script, IsFitLine, IsRefused, IsSoundScript};
 
-use crate::fields::{behind, buffer, number};
-use crate::properties::{FIELDS, Given, properties};
+use crate::fields::{at_end, behind};
+use crate::line::Line;
+use crate::output_lines::output_line;
+use crate::plan_lines::plan_line;
+use crate::window_lines::window_line;
 use std::alloc::{AllocFailed, Global};
 use std::str;
-use wm_base::{Border, Buffer, ConId, NoMemory, Props, Str};
+use wm_base::{NoMemory, OutputPlan, Str};
 
-/// The greatest width of a border in pixels.
-const MAX_BORDER: u32 = 64;
-
-/// The greatest gap in pixels.
-const MAX_GAP: u32 = 1000;
-
-/// A line of a script: one of the plan, a step of caller 0, a frame to be painted, or a look at the tree.
-#[derive(Debug, Drop)]
-pub enum Line {
-    /// Containers have this border.
-    Border(Border),
-    /// Workspaces have this inner gap in pixels.
-    Inner(u32),
-    /// Workspaces have this outer gap in pixels.
-    Outer(u32),
-    /// Opens a window with these properties and this buffer.
-    Map { props: Props, buffer: Buffer },
-    /// Closes the window.
-    Close(ConId),
-    /// Runs a text.
-    Run(Str),
-    /// Paints the frame.
-    Paint,
-    /// Tells all marks.
-    Marks,
-}
+/// How many outputs a plan has at most.
+const MAX_OUTPUTS: usize = 8;
 
 /// What the line says. `None` exactly where it is outside the grammar.
 fn read_line(alloc: Global, text: &[u8]) -> Result<Option<Line>, NoMemory>
@@ -43,12 +22,33 @@ fn read_line(alloc: Global, text: &[u8]) -> Result<Option<Line>, NoMemory>
     ensures value { IfOk result (λ line. line ≡ line_of text.now) }
     ensures fit { IfOk result (λ line. IfSome line IsFitLine) }
 {
+    if let Some(line) = plan_line(alloc, text)? {
+        return Ok(Some(line));
+    }
+    if let Some(line) = window_line(alloc, text)? {
+        return Ok(Some(line));
+    }
+    match output_line(alloc, text)? {
+        Some(line) => Ok(Some(line)),
+        None => other_line(alloc, text),
+    }
+}
+
+/// What a line says that runs a text, paints or looks.
+fn other_line(alloc: Global, text: &[u8]) -> Result<Option<Line>, NoMemory>
+    requires { length text.now ≤ 16777216 }
+    ensures value { IfOk result (λ line. line ≡ other_line_of text.now) }
+    ensures fit { IfOk result (λ line. IfSome line IsFitLine) }
+{
     if let Some(rest) = behind(text, b"run ") {
         return run_line(alloc, rest);
     }
-    match behind(text, b"map ") {
-        Some(rest) => map_line(alloc, rest),
-        None => Ok(other_line(text)),
+    if let Some(rest) = behind(text, b"paint") {
+        return Ok(at_end(rest, Line::Paint));
+    }
+    match behind(text, b"marks") {
+        Some(rest) => Ok(at_end(rest, Line::Marks)),
+        None => Ok(None),
     }
 }
 
@@ -66,100 +66,6 @@ fn run_line(alloc: Global, text: &[u8]) -> Result<Option<Line>, NoMemory>
         }
         Err(_) => Ok(None),
     }
-}
-
-/// What a line says that has no text.
-fn other_line(text: &[u8]) -> Option<Line>
-    ensures value { result ≡ other_line_of text.now }
-    ensures fit { IfSome result IsFitLine }
-{
-    if let Some(rest) = behind(text, b"close ") {
-        return close_line(rest);
-    }
-    if let Some(rest) = behind(text, b"paint") {
-        return at_end(rest, Line::Paint);
-    }
-    match behind(text, b"marks") {
-        Some(rest) => at_end(rest, Line::Marks),
-        None => plan_line(text),
-    }
-}
-
-/// What a line of the plan says.
-fn plan_line(text: &[u8]) -> Option<Line>
-    ensures value { result ≡ plan_line_of text.now }
-    ensures fit { IfSome result IsFitLine }
-{
-    if let Some(rest) = behind(text, b"border ") {
-        return border_line(rest);
-    }
-    match behind(text, b"gaps ") {
-        Some(rest) => gaps_line(rest),
-        None => None,
-    }
-}
-
-/// `pixel N`, `normal N` or `none`, to the end of the line.
-fn border_line(text: &[u8]) -> Option<Line>
-    ensures value { result ≡ border_at text.now }
-    ensures fit { IfSome result IsFitLine }
-{
-    if let Some(rest) = behind(text, b"pixel ") {
-        let (width, rest) = number(rest, MAX_BORDER)?;
-        return at_end(rest, Line::Border(Border::Pixel(width)));
-    }
-    if let Some(rest) = behind(text, b"normal ") {
-        let (width, rest) = number(rest, MAX_BORDER)?;
-        return at_end(rest, Line::Border(Border::Normal(width)));
-    }
-    let rest = behind(text, b"none")?;
-    at_end(rest, Line::Border(Border::Bare))
-}
-
-/// `inner N` or `outer N`, to the end of the line.
-fn gaps_line(text: &[u8]) -> Option<Line>
-    ensures value { result ≡ gaps_at text.now }
-    ensures fit { IfSome result IsFitLine }
-{
-    if let Some(rest) = behind(text, b"inner ") {
-        let (width, rest) = number(rest, MAX_GAP)?;
-        return at_end(rest, Line::Inner(width));
-    }
-    let rest = behind(text, b"outer ")?;
-    let (width, rest) = number(rest, MAX_GAP)?;
-    at_end(rest, Line::Outer(width))
-}
-
-/// The line, where the text is at its end.
-fn at_end(text: &[u8], line: Line) -> Option<Line>
-    ensures value { result ≡ if_end line text.now }
-    ensures same { IfSome result (λ found. found ≡ line) }
-{
-    if text.is_empty() { Some(line) } else { None }
-}
-
-/// `INK WxH` and properties, to the end of the line.
-fn map_line(alloc: Global, text: &[u8]) -> Result<Option<Line>, NoMemory>
-    ensures value { IfOk result (λ line. line ≡ map_at text.now) }
-    ensures fit { IfOk result (λ line. IfSome line IsFitLine) }
-{
-    let Some((buffer, rest)) = buffer(text) else {
-        return Ok(None);
-    };
-    let Some(given) = properties(alloc, Given::none(), rest, FIELDS)? else {
-        return Ok(None);
-    };
-    let props = given.props(alloc)?;
-    Ok(Some(Line::Map { props, buffer }))
-}
-
-/// `ID`, to the end of the line.
-fn close_line(text: &[u8]) -> Option<Line>
-    ensures value { result ≡ close_at text.now }
-    ensures fit { IfSome result IsFitLine }
-{
-    let (id, rest) = number(text, u32::MAX)?;
-    at_end(rest, Line::Close(ConId(id)))
 }
 
 /// Why bytes are no script.
@@ -186,45 +92,74 @@ impl<T: Drop> From<AllocFailed<T>> for ScriptRefusal {
     }
 }
 
-/// What the line says behind other lines than those of the plan, or not. `None` where it is outside the grammar, or of
-/// the plan behind another.
-fn line_in_order(alloc: Global, begun: bool, text: &[u8]) -> Result<Option<Line>, NoMemory>
-    requires { length text.now ≤ 16777216 }
-    ensures value { IfOk result (λ line. line ≡ in_order begun (line_of text.now)) }
-    ensures same { IfOk result (λ line. IfSome line (λ line. line_of text.now ≡ Some line)) }
+/// What the line says behind these lines, of which `begun` says whether one is none of the plan. `None` where it is
+/// outside the grammar, or may not stand there.
+fn line_in_order(
+    alloc: Global,
+    begun: bool,
+    before: &[Line],
+    text: &[u8],
+) -> Result<Option<Line>, NoMemory>
+    requires short { length text.now ≤ 16777216 }
+    requires begun { begun ≡ has_begun before.now }
+    ensures value { IfOk result (λ line. line ≡ in_order before.now (line_of text.now)) }
     ensures fit { IfOk result (λ line. IfSome line IsFitLine) }
+    ensures may { IfOk result (λ line. IfSome line (λ line. may_follow before.now line ≡ true)) }
 {
     let Some(line) = read_line(alloc, text)? else {
         return Ok(None);
     };
-    if begun && is_plan(&line) {
-        return Ok(None);
+    if may_follow(begun, before, &line) {
+        Ok(Some(line))
+    } else {
+        Ok(None)
     }
-    Ok(Some(line))
 }
 
-/// Whether one of the lines up to this one is none of the plan.
-fn has_begun(begun: bool, line: &Line) -> bool
-    ensures { result ≡ (begun || begins (Some line.now)) }
+/// Whether the line may stand behind these lines, of which `begun` says whether one is none of the plan.
+fn may_follow(begun: bool, before: &[Line], line: &Line) -> bool
+    requires { begun ≡ has_begun before.now }
+    ensures { result ≡ may_follow before.now line.now }
 {
-    begun || !is_plan(line)
+    match line {
+        Line::Output(output) => !begun && is_another(output, before),
+        _ => !(begun && is_plan(line)),
+    }
+}
+
+/// Whether the lines give the plan fewer than eight outputs, and none of this name.
+fn is_another(output: &OutputPlan, before: &[Line]) -> bool
+    ensures { result ≡ is_another output.now (outputs_in before.now) }
+{
+    let mut count = 0usize;
+    let mut rest = before;
+    while let [line, after @ ..] = rest {
+        if let Line::Output(other) = line {
+            if other.name.as_str() == output.name.as_str() {
+                return false;
+            }
+            count += 1;
+        }
+        rest = after;
+    }
+    count < MAX_OUTPUTS
 }
 
 /// Whether this is a line of the plan.
 fn is_plan(line: &Line) -> bool
     ensures { result ≡ is_plan line.now }
 {
-    match line {
-        Line::Border(_) | Line::Inner(_) | Line::Outer(_) => true,
-        Line::Map { .. } | Line::Close(_) | Line::Run(_) | Line::Paint | Line::Marks => false,
-    }
+    matches!(
+        line,
+        Line::Output(_) | Line::Border(_) | Line::Inner(_) | Line::Outer(_)
+    )
 }
 
 /// The lines of the script that the bytes are.
 pub fn read_script(alloc: Global, bytes: &[u8]) -> Result<Vec<Line>, ScriptRefusal>
     requires within { length bytes.now ≤ 16777216 }
     ensures ok { IfOk result (λ lines. script bytes.now ≡ Ok lines.items) }
-    ensures fit { IfOk result (λ lines. All IsFitLine lines.items) }
+    ensures sound { IfOk result (λ lines. IsSoundScript lines.items) }
     ensures few { IfOk result (λ lines. vec_len lines ≤ length bytes.now) }
     ensures err { IfErr result (IsRefused bytes.now) }
 {
@@ -234,10 +169,10 @@ pub fn read_script(alloc: Global, bytes: &[u8]) -> Result<Vec<Line>, ScriptRefus
     let mut rest = bytes;
     while !rest.is_empty() {
         let (text, after) = first_line(rest);
-        let Some(line) = line_in_order(alloc, begun, text)? else {
+        let Some(line) = line_in_order(alloc, begun, &lines, text)? else {
             return Err(ScriptRefusal::BadLine { line: number });
         };
-        begun = has_begun(begun, &line);
+        begun = begun || !is_plan(&line);
         lines.push(line)?;
         number += 1;
         rest = after;
