@@ -2,6 +2,7 @@ pub mod EndLemmas
 pub mod FieldLemmas
 pub mod FramesLemmas
 pub mod LawLemmas
+pub mod OrderLemmas
 pub mod PropertyLemmas
 pub mod RefusalLemmas
 pub mod RunLemmas

@@ -2,11 +2,11 @@
 use Rattle.std.proofs.Common.{◌≡◌, ◌∙◌, ℕ, zero, suc, ◌-◌, ◌<◌, List, [], ◌∷◌, length, Option, None, Some, refl, ap, sym, arith}
 use Rattle.wm_base.specs.declared.ids.Buffer.{Buffer}
 use Rattle.wm_tool.specs.declared.properties.Given.{Given}
-use Rattle.wm_tool.specs.declared.script.Line.{Line}
-use Rattle.wm_tool.specs.declared.script.Line.TheVariants.{Map}
+use Rattle.wm_tool.specs.declared.line.Line.{Line}
+use Rattle.wm_tool.specs.declared.line.Line.TheVariants.{Map}
 use Rattle.wm_tool.specs.Fields.{buffer_at, or_none}
 use Rattle.wm_tool.specs.Properties.{none_given, properties_at, property_at, props_of}
-use Rattle.wm_tool.specs.Script.{map_at}
+use Rattle.wm_tool.specs.Lines.{map_at}
 
 -- after one property come the others
 pub properties_more : (most : ℕ) (given next : Given) (text rest : List ℕ) → 0 < most → 0 < length text → property_at given text ≡ Some (next, rest)

@@ -10,8 +10,8 @@ use Rattle.wm_core.specs.DeskValue.{DeskValue, Stands}
 use Rattle.wm_criteria.specs.Building.{Tells}
 use Rattle.wm_core.specs.History.{History, Start, opening_of}
 use Rattle.wm_ports.specs.Told.{TakesAll, TakesPart}
-use Rattle.wm_tool.specs.declared.script.Line.{Line}
-use Rattle.wm_tool.specs.declared.script.Line.TheVariants as line
+use Rattle.wm_tool.specs.declared.line.Line.{Line}
+use Rattle.wm_tool.specs.declared.line.Line.TheVariants as line
 use Rattle.wm_tool.specs.declared.status.Refused.{Refused}
 use Rattle.wm_tool.specs.Ipc.{after_message, entry_by, framed, message_step, message_texts, payload, replied, replies_from, request_of, text_of_request, text_step}
 use Rattle.wm_tool.specs.Output.{after, after_deed, after_entry, deed_of, deed_text, line_step, Takes, entry_of, line_texts, out_from, run_entry, start, told}

@@ -1,14 +1,8 @@
 -- Reading a script line by line.
-use Rattle.std.proofs.Common.{◌≡◌, ℕ, zero, suc, ◌+◌, ◌-◌, ◌<◌, ◌≤◌, Bool, true, false, cond, not, eqb, List, [], ◌∷◌, ◌++◌, length, take, drop, Result, Ok, Err, refl, ap, ap₂, sym, ◌∙◌, append_assoc, arith}
+use Rattle.std.proofs.Common.{◌≡◌, ℕ, zero, suc, ◌+◌, ◌-◌, ◌<◌, ◌≤◌, Bool, true, false, cond, not, eqb, List, [], ◌∷◌, length, take, drop, refl, ap, ap₂, sym, ◌∙◌, arith}
 use Rattle.std.specs.List.{take_while, prefix_len}
 use Rattle.std.proofs.lemmas.List.{length-take-le, take_all}
-use Rattle.wm_tool.specs.declared.script.Line.{Line}
-use Rattle.wm_tool.specs.Script.{lines_of, onto_first, with_line}
-
--- lines before those that are read, or the refusal
-abbrev pub with_lines : List Line → Result (List Line) ℕ → Result (List Line) ℕ
-with_lines before (Ok lines) = Ok (before ++ lines)
-with_lines before (Err n) = Err n
+use Rattle.wm_tool.specs.Script.{lines_of, onto_first}
 
 -- how many bytes stand before the first line feed
 abbrev pub feed_at : List ℕ → ℕ
@@ -44,11 +38,6 @@ first_step false c (d ∷ ds) e rest = rw e (ap (onto_first c) (rest (omega arit
 pub first_line_is : (text : List ℕ) → 0 < length text → lines_of text ≡ take (feed_at text) text ∷ lines_of (drop (suc (feed_at text)) text)
 first_line_is [] h = absurd (omega arith)
 first_line_is (c ∷ cs) h = first_step (eqb c 10) c cs refl (first_line_is cs)
-
--- one more line is read
-pub with_lines-push : (before : List Line) (line : Line) (rest : Result (List Line) ℕ) → with_lines (before ++ line ∷ []) rest ≡ with_lines before (with_line line rest)
-with_lines-push before line (Ok lines) = ap (λ z. Ok z) (append_assoc before (line ∷ []) lines)
-with_lines-push before line (Err n) = refl
 
 drop_one : (k : ℕ) (text : List ℕ) → drop 1 (drop k text) ≡ drop (suc k) text
 drop_one zero text = refl

@@ -29,4 +29,6 @@ mod ipc_tests;
 #[cfg(test)]
 mod line_tests;
 #[cfg(test)]
+mod output_tests;
+#[cfg(test)]
 mod tests;

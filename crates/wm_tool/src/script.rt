@@ -1,5 +1,5 @@
 //! The script: its lines, and their order.
-ghost use Rattle.std.specs.Prelude.{◌≡◌, ◌||◌, ◌&&◌, ◌==◌, ◌<◌, ◌≤◌, ◌∷◌, Some, not, nat_lt, IfOk, IfErr, IfSome, Ok, length, take_while, vec_len};
+ghost use Rattle.std.specs.Prelude.{◌≡◌, ◌==◌, ◌<◌, ◌≤◌, ◌∷◌, true, not, IfOk, IfErr, IfSome, Ok, length, take_while, vec_len};
 ghost use Rattle.wm_tool.specs.declared.script.ScriptRefusal.TheVariants as refusals;
 ghost use Rattle.wm_tool.specs.Lines.{line_of, other_line_of, run_at};
 ghost use Rattle.wm_tool.specs.Script.{has_begun, in_order, is_another, is_plan, lines_of, may_follow, outputs_in, script, IsFitLine, IsRefused, IsSoundScript};
@@ -172,7 +172,7 @@ pub fn read_script(alloc: Global, bytes: &[u8]) -> Result<Vec<Line>, ScriptRefus
         let Some(line) = line_in_order(alloc, begun, &lines, text)? else {
             return Err(ScriptRefusal::BadLine { line: number });
         };
-        begun = begun || !is_plan(&line);
+        begun |= !is_plan(&line);
         lines.push(line)?;
         number += 1;
         rest = after;

@@ -44,7 +44,7 @@ pub fn is_done(status: &Status, refused: &[Refused]) -> bool {
 }
 
 /// That these scripts end with these numbers, and write these texts.
-fn expect(rt: &impl Abort, alloc: Global, cases: &[(&str, u8, &str)]) -> Result<(), Fail> {
+pub fn expect(rt: &impl Abort, alloc: Global, cases: &[(&str, u8, &str)]) -> Result<(), Fail> {
     for (script, number, text) in cases {
         let mut bytes = Vec::new(alloc);
         bytes.extend_from_slice(script.as_bytes())?;

@@ -1,5 +1,5 @@
 use Rattle.std.proofs.Common.{◌≡◌, length, false}
-use Rattle.wm_tool.specs.Properties.{onto_text, unquoted}
+use Rattle.wm_tool.specs.Quoted.{onto_text, unquoted}
 use Rattle.wm_tool.proofs.quoted.unquote.Given as goal
 
 -- what was said so far, and what is left, make the whole

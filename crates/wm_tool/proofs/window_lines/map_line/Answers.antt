@@ -1,8 +1,8 @@
 use Rattle.std.proofs.Common.{◌∙◌, ap, sym, None, Some}
-use Rattle.wm_tool.specs.declared.script.Line.TheVariants.{Map}
+use Rattle.wm_tool.specs.declared.line.Line.TheVariants.{Map}
 use Rattle.wm_tool.specs.Properties.{properties_at}
 use Rattle.wm_tool.proofs.PropertyLemmas.{map_is}
-use Rattle.wm_tool.proofs.script.map_line.Goals as goal
+use Rattle.wm_tool.proofs.window_lines.map_line.Goals as goal
 
 pub returns-in_default-2-clause-value : goal.returns-in_default-2-clause-value
 returns-in_default-2-clause-value c =
