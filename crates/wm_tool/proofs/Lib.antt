@@ -3,6 +3,7 @@ pub mod FieldLemmas
 pub mod FramesLemmas
 pub mod LawLemmas
 pub mod OrderLemmas
+pub mod PlanLemmas
 pub mod PropertyLemmas
 pub mod RefusalLemmas
 pub mod RunLemmas

@@ -8,16 +8,16 @@ use Rattle.wm_layouts.specs.Plan.{IsStandard, default_outputs}
 use Rattle.wm_tree.specs.TreeValue.{TreeValue, opening}
 use Rattle.wm_core.specs.DeskValue.{DeskValue, Stands}
 use Rattle.wm_criteria.specs.Building.{Tells}
-use Rattle.wm_core.specs.History.{History, Start, opening_of}
+use Rattle.wm_core.specs.History.{History, Start, answer, opening_of}
 use Rattle.wm_ports.specs.Told.{TakesAll, TakesPart}
 use Rattle.wm_tool.specs.declared.line.Line.{Line}
 use Rattle.wm_tool.specs.declared.line.Line.TheVariants as line
 use Rattle.wm_tool.specs.declared.status.Refused.{Refused}
 use Rattle.wm_tool.specs.Ipc.{after_message, entry_by, framed, message_step, message_texts, payload, replied, replies_from, request_of, text_of_request, text_step}
-use Rattle.wm_tool.specs.Output.{after, after_deed, after_entry, deed_of, deed_text, line_step, Takes, entry_of, line_texts, out_from, run_entry, start, told}
+use Rattle.wm_tool.specs.Output.{act_in, after, after_deed, after_entry, answer_text, deed_of, deed_text, line_step, one_if_some, takes, Takes, entry_of, line_texts, out_from, run_entry, start, told}
 use Rattle.wm_tool.specs.Refusals.{IsBacked, IsRising, refusal_at, verdict_of}
 use Rattle.wm_tool.specs.Running.{Backs, Grows, Holds, IsBackedTo, Leads, Plays, Runs, Stops, Writes, fresh}
-use Rattle.wm_core.specs.Act.{Run, act_of}
+use Rattle.wm_core.specs.Act.{Act, Run, act_of}
 use Rattle.wm_core.specs.declared.step.Step.TheVariants as steps_of
 use Rattle.wm_criteria.specs.declared.prepared.Prepared.{Prepared}
 use Rattle.wm_criteria.specs.Verdict.{IsVerdict}
@@ -246,24 +246,32 @@ ok_weaker (Err e) p weaker = tt
 -- ---- lines
 
 line_longer : (l : Line) (rs : List Refused) (h : History) → length (after l rs h) ≡ length h + length (line_step l)
-line_longer (line.Border b) rs h = omega arith
-line_longer (line.Inner n) rs h = omega arith
-line_longer (line.Outer n) rs h = omega arith
-line_longer (line.Map props buffer) rs h = omega arith
-line_longer (line.Close con) rs h = omega arith
 line_longer (line.Run text) rs h = omega arith
 line_longer line.Paint rs h = omega arith
 line_longer line.Marks rs h = omega arith
+line_longer other rs h = omega arith
 
 line_same : (l : Line) (rs more : List Refused) (h : History) → IsRising (length (after l rs h)) more → deed_of (rs ++ more) h l ≡ deed_of rs h l
-line_same (line.Border b) rs more h rising = refl
-line_same (line.Inner n) rs more h rising = refl
-line_same (line.Outer n) rs more h rising = refl
-line_same (line.Map props buffer) rs more h rising = refl
-line_same (line.Close con) rs more h rising = refl
 line_same (line.Run text) rs more h rising = ap (λ e. Takes e) (run_same rs more h text rising)
 line_same line.Paint rs more h rising = refl
 line_same line.Marks rs more h rising = refl
+line_same other rs more h rising = refl
+
+-- a line that takes a step and runs no text
+step_deed : (l : Line) (act : Act) → act_in l ≡ Some act → (rs : List Refused) (h : History) → deed_of rs h l ≡ Takes (entry_of act)
+step_deed (line.Run text) act e rs h = cc
+step_deed line.Paint act e rs h = cc
+step_deed line.Marks act e rs h = cc
+step_deed other act e rs h = ap takes e
+
+pub step_count : (l : Line) (act : Act) → act_in l ≡ Some act → line_step l ≡ None ∷ []
+step_count (line.Run text) act e = cc
+step_count other act e = ap one_if_some e
+
+pub step_leads : (start : Start) (old new : DeskValue) (l : Line) (act : Act) (rs : List Refused) (before text : List ℕ) → act_in l ≡ Some act
+    → Leads old new (λ h. entry_of act ∷ h) (λ h. answer_text (answer start h (entry_of act))) before text → Leads old new (after l rs) (told start l rs) before text
+step_leads start old new l act rs before text e leads =
+    λ history stands. subst (λ d. Stands new (after_deed d history) × (text ≡ before ++ deed_text start history d)) (sym (step_deed l act e rs history)) (leads history stands)
 
 -- what is said of what is written from an opening tree, of the same tree
 pub from_start : (P : List ℕ → Type 0) (a b : Start) (lines : List Line) (refused : List Refused) → a ≡ b → P (out_from a lines refused []) → P (out_from b lines refused [])
@@ -274,14 +282,8 @@ none_left [] few = refl
 none_left (l ∷ rest) few = absurd (omega (arith, few))
 
 pub one_step : (l : Line) → length (line_step l) ≤ 1
-one_step (line.Border b) = omega arith
-one_step (line.Inner n) = omega arith
-one_step (line.Outer n) = omega arith
-one_step (line.Map props buffer) = omega arith
-one_step (line.Close con) = omega arith
 one_step (line.Run text) = omega arith
-one_step line.Paint = omega arith
-one_step line.Marks = omega arith
+one_step other = omega arith
 
 pub rest_is : (g d : Line) (rest : List Line) → 1 ≤ length rest → g ≡ get_or rest 0 d → rest ≡ g ∷ take (length rest - 1) (drop 1 rest)
 rest_is g d [] some is = absurd (omega arith)

@@ -3,7 +3,7 @@ use Rattle.std.specs.Prelude.{ℕ, ◌==◌, nat_le, false, if◌then◌else◌,
 use Rattle.std.specs.Str.{is_utf8}
 use Rattle.std.specs.Str.Lossy.{utf8_valid_len}
 use Rattle.wm_core.specs.declared.step.Answer.{Answer}
-use Rattle.wm_core.specs.declared.step.Answer.TheVariants.{Done, Mapped, Replies, NoView, Empty, Full}
+use Rattle.wm_core.specs.declared.step.Answer.TheVariants.{Replies}
 use Rattle.wm_core.specs.History.{Entry, History, Start, answer}
 use Rattle.wm_frames.specs.declared.message.Message.{Message}
 use Rattle.wm_frames.specs.Frame.{frame}
@@ -11,7 +11,6 @@ use Rattle.wm_frames.specs.Reading.{messages}
 use Rattle.wm_json.specs.declared.replies.Reply.{Reply}
 use Rattle.wm_json.specs.declared.replies.Reply.TheVariants as reply
 use Rattle.wm_json.specs.Replies.{replies_text, success_text, VERSION_TEXT}
-use Rattle.wm_tree.specs.TreeValue.{TreeValue}
 use Rattle.wm_tool.specs.declared.status.Refused.{Refused}
 use Rattle.wm_tool.specs.Output.{after_entry, run_entry, start}
 
@@ -57,14 +56,10 @@ entry_by refused history (Some text) = Some (run_entry refused history text)
 abbrev pub message_entry : List Refused → History → Message → Option Entry
 message_entry refused history m = entry_by refused history (text_of_request (request_of m))
 
--- the replies of an answer
+-- the replies of an answer; only a text has some
 abbrev pub replies_of : Answer → List Reply
 replies_of (Replies replies) = replies
-replies_of Done = []
-replies_of (Mapped id) = []
-replies_of NoView = []
-replies_of Empty = []
-replies_of (Full limit) = []
+replies_of other = []
 
 -- the payload of the reply to a request without a step, where it has a reply
 abbrev pub plain_payload : Request → Option (List ℕ)

@@ -5,7 +5,7 @@ use Rattle.wm_base.specs.declared.plan.Border.{Border}
 use Rattle.wm_base.specs.declared.plan.Border.TheVariants.{Bare}
 use Rattle.wm_base.specs.declared.plan.OutputPlan.{OutputPlan}
 use Rattle.wm_base.specs.ErrorText.{word_of}
-use Rattle.wm_tree.specs.TreeValue.{TreeValue, opening}
+use Rattle.wm_tree.specs.TreeValue.{opening}
 use Rattle.wm_core.specs.declared.step.Answer.{Answer}
 use Rattle.wm_core.specs.declared.step.Answer.TheVariants as answers
 use Rattle.wm_json.specs.Replies.{replies_text}

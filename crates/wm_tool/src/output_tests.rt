@@ -173,7 +173,11 @@ fn names_up_to_1024_bytes(rt: HostRuntime) -> Result<(), Fail> {
     ];
     for (front, count, last, line) in cases {
         let script = long_name(rt.alloc(), front, count, last)?;
-        assert_eq!(rt; bad_line(rt.alloc(), script.as_str())?, line, "{front} {count}");
+        assert_eq!(rt;
+            bad_line(rt.alloc(), script.as_str())?,
+            line,
+            "{front} {count}"
+        );
     }
     Ok(())
 }

@@ -36,9 +36,10 @@ fn plan_on_outputs(alloc: Global, lines: &[Line]) -> Result<Plan, NoMemory>
 {
     let mut plan = Plan::standard(alloc)?;
     let outputs = copy_outputs(alloc, lines)?;
-    if !outputs.is_empty() {
-        plan.outputs = List::of(outputs);
+    if outputs.is_empty() {
+        return Ok(plan);
     }
+    plan.outputs = List::of(outputs);
     Ok(plan)
 }
 

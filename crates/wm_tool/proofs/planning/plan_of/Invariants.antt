@@ -1,15 +1,15 @@
 use Rattle.std.proofs.Common.{◌≡◌, [], All, length}
-use Rattle.wm_layouts.specs.Plan.{IsSound, default_outputs}
-use Rattle.wm_tool.specs.Output.{plain, set_by_all}
+use Rattle.wm_layouts.specs.Plan.{IsSound}
+use Rattle.wm_tool.specs.Output.{outputs_or_default, plain, set_by_all}
 use Rattle.wm_tool.specs.Planning.{setting_of}
-use Rattle.wm_tool.specs.Script.{IsFitLine}
+use Rattle.wm_tool.specs.Script.{IsFitLine, outputs_in}
 use Rattle.wm_tool.proofs.planning.plan_of.Given as goal
 
 -- the plan so far with what the rest says is that of all lines
 abbrev pub invariant-loop-rest : goal.invariant-loop-rest
 invariant-loop-rest l = record {
   sound : IsSound l.plan;
-  outputs : l.plan.outputs ≡ default_outputs;
+  outputs : l.plan.outputs ≡ outputs_or_default (outputs_in l.lines);
   homes : l.plan.env.homes ≡ [];
   fit : All IsFitLine l.rest;
   set : set_by_all l.rest (setting_of l.plan) ≡ set_by_all l.lines plain;

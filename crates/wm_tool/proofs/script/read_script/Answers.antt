@@ -15,7 +15,7 @@ loop-rest-preserved c =
     let pushed = c.in_ok-push.ensures.items in
     let ordered : in_order lines (line_of text) ≡ Some line = ap (λ ls. in_order ls (line_of text)) (sym c.deref.ensures.value) ∙ (sym c.in_ok-line.ensures.value ∙ c.in-Some.is) in
     let may : may_follow lines line ≡ true =
-        subst (λ ls. may_follow ls line ≡ true) c.deref.ensures.value (subst (λ o. IfSome o (λ l. may_follow c.deref.result.now l ≡ true)) c.in-Some.is c.in_ok-line.ensures.may) in
+    subst (λ ls. may_follow ls line ≡ true) c.deref.ensures.value (subst (λ o. IfSome o (λ l. may_follow c.deref.result.now l ≡ true)) c.in-Some.is c.in_ok-line.ensures.may) in
     let fit : IsFitLine line = subst (λ o. IfSome o IsFitLine) c.in-Some.is c.in_ok-line.ensures.fit in
     record {
       numbered = omega (arith, kept.numbered, c.in_ok-push.ensures.len);
