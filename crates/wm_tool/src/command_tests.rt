@@ -23,7 +23,7 @@ fn replies(alloc: Global, errors: &[&str]) -> Result<String, Fail> {
 }
 
 /// Whether the text, run behind these lines, is answered with these replies.
-fn is_answered(alloc: Global, lines: &str, text: &str, errors: &[&str]) -> Result<bool, Fail> {
+pub fn is_answered(alloc: Global, lines: &str, text: &str, errors: &[&str]) -> Result<bool, Fail> {
     let script = format!(in alloc; "{lines}run {text}\n")?;
     let (ended, written) = replayed(alloc, script.as_str())?;
     let line = replies(alloc, errors)?;

@@ -31,4 +31,6 @@ mod line_tests;
 #[cfg(test)]
 mod output_tests;
 #[cfg(test)]
+mod space_tests;
+#[cfg(test)]
 mod tests;
