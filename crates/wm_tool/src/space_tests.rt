@@ -5,7 +5,8 @@ use std::alloc::Global;
 use std::test::Fail;
 
 /// Three outputs, the second beside the first and the third below it, and a window on the first.
-const PLACES: &str = "output A 0,0 1000x800\noutput B 1000,0 1000x800\noutput C 0,800 1000x800\nmap 000001 9x9\n";
+const PLACES: &str =
+    "output A 0,0 1000x800\noutput B 1000,0 1000x800\noutput C 0,800 1000x800\nmap 000001 9x9\n";
 
 #[test]
 fn texts_on_three_outputs(rt: HostRuntime) -> Result<(), Fail> {
