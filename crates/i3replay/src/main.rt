@@ -19,15 +19,25 @@ usage: i3replay replay < SCRIPT    write the answers and frames of a script
        i3replay --help             write this text
        i3replay --version          write the version
 
-A script has one of these on each line:
-  map INK WxH          open a window: six hexadecimal digits, and its buffer's size
-  close ID             close the window of this id
-  run TEXT             run the commands of a text, as `run layout splitv`
-  paint                write the frame
+A script has one of these on each line. Those of the plan come first:
+  output NAME X,Y WxH                     an output, at most eight; without one DP-1, 1000x800 at 0,0
+  border none | pixel N | normal N        the border of containers
+  gaps inner N | outer N                  the gaps of workspaces
+and then:
+  map INK WxH PROPERTY=\"T\" ..             open a window: six hexadecimal digits, its buffer's size, and its properties
+  title ID \"T\"                            give it another title
+  urgent ID on | off                      make it urgent or not
+  close ID, gone                          close the window of this id, or all
+  output-add NAME X,Y WxH                 add an output
+  output-remove NAME                      remove it
+  reserve NAME TOP RIGHT BOTTOM LEFT      keep its edges free
+  run TEXT                                run the commands of a text, as `run layout splitv`
+  paint                                   write the frame
+  marks                                   write all marks
 
-Of the commands `layout splith`, `layout splitv`, `nop`, `exec`, `exit` and the like are done; the others are
-read, and answered with `not built yet`. Of the messages of i3-ipc RUN_COMMAND and GET_VERSION do what they say; the
-other types up to 12 are answered {\"success\":false}, and those above have no reply.
+The commands on layouts, focus, moves, marks, workspaces and outputs are done; the others are read, and answered with
+`not built yet`. Of the messages of i3-ipc RUN_COMMAND and GET_VERSION do what they say; the other types up to 12 are
+answered {\"success\":false}, and those above have no reply.
 
 Exit status: 0 done, 2 bad words, 3 bad script, 4 bad frames, 5 frames cut short, 6 input too large, 7 read fault, 8 write fault, 9 no memory.
 ";
