@@ -1,4 +1,4 @@
-//! The program i3replay: replays scripts of windows, and answers frames of i3-ipc, on the desktop of i3.
+//! The program i3replay: replays scripts of windows, draws their frames, and answers frames of i3-ipc.
 #![tactic(auto)]
 
 use std::alloc::AllocError;
@@ -12,9 +12,10 @@ use wm_tool::{Status, tool};
 
 /// What `--help` writes.
 const HELP: &str = "\
-i3replay: replays scripts of windows, and answers frames of i3-ipc, on the desktop of i3.
+i3replay: replays scripts of windows, draws their frames, and answers frames of i3-ipc, on the desktop of i3.
 
 usage: i3replay replay < SCRIPT    write the answers and frames of a script
+       i3replay draw < SCRIPT      write the last frame of a script as a picture, a portable pixmap
        i3replay ipc < FRAMES       write the replies to the messages of i3-ipc
        i3replay --help             write this text
        i3replay --version          write the version
@@ -34,10 +35,17 @@ and then:
   run TEXT                                run the commands of a text, as `run layout splitv`
   paint                                   write the frame
   marks                                   write all marks
+  ack ID SERIAL                           acknowledge the configure of this serial
+  buffer ID INK WxH                       give the window a buffer
+  deadline N                              the time of transaction N is over
+  wants SERIAL KILL                       write what is asked of the caller's windows: configures above this serial, and
+                                          requests to close of steps above this number
+Each of these is of caller 0, or of another one with `@WHO ` in front. A frame shows an arrangement only
+once each window whose size it changes has given a buffer for it or was closed, or its deadline came.
 
-The commands on layouts, focus, moves, marks, workspaces and outputs are done; the others are read, and answered with
-`not built yet`. Of the messages of i3-ipc RUN_COMMAND and GET_VERSION do what they say; the other types up to 12 are
-answered {\"success\":false}, and those above have no reply.
+The commands on layouts, focus, moves, marks, workspaces, outputs, floating windows, the scratchpad, sizes, borders, gaps
+and `kill` are done; the others are read, and answered with `not built yet`. Of the messages of i3-ipc RUN_COMMAND and
+GET_VERSION do what they say; the other types up to 12 are answered {\"success\":false}, and those above have no reply.
 
 Exit status: 0 done, 2 bad words, 3 bad script, 4 bad frames, 5 frames cut short, 6 input too large, 7 read fault, 8 write fault, 9 no memory.
 ";

@@ -7,34 +7,44 @@ use Rattle.wm_base.specs.declared.plan.Layout.{Layout}
 use Rattle.wm_criteria.specs.declared.verdict.Verdict.{Verdict}
 use Rattle.wm_focus.specs.declared.direction.Goal.{Goal}
 use Rattle.wm_focus.specs.declared.direction.Goal.TheVariants as goals
-use Rattle.wm_focus.specs.Direction.{focusing_some, gone_to}
-use Rattle.wm_focus.specs.Moves.{beside, entry, held_out, is_split_con, near_end, out_tree, over_tree, side_of, space_over, step_tree, turned}
+use Rattle.wm_focus.specs.Direction.{focus_dir_tree, focusing_some, gone_to}
+use Rattle.wm_focus.specs.Direction.{goal_of as goal_to}
+use Rattle.wm_focus.specs.Moves.{beside, entry, held_out, is_split_con, move_dir_tree, near_end, out_tree, over_tree, side_of, space_over, step_tree, turned}
 use Rattle.wm_focus.specs.Parents.{raised_some}
 use Rattle.wm_focus.specs.Marks.{given_mark, is_marked, mark_tree, unmark_all, unmark_one, unmark_tree}
 use Rattle.wm_focus.specs.Swaps.{exchanged_with, moved_after}
 use Rattle.wm_focus.specs.Splits.{gives_layout, laid_as, split_as}
+use Rattle.wm_floats.proofs.RiseLemmas.{ids_floated, ids_fullscreen, ids_hidden, ids_kind, ids_placed, ids_round, ids_scratchpad, ids_shifted, ids_stuck, ids_sunk}
+use Rattle.wm_floats.specs.declared.kinds.Kind.TheVariants as kinds
+use Rattle.wm_floats.specs.Floating.{float_tree, sink_tree}
+use Rattle.wm_floats.specs.Kinds.{is_of}
+use Rattle.wm_floats.specs.Rounds.{focus_round_tree, shift_tree}
+use Rattle.wm_grammar.specs.declared.arguments.OnOff.{OnOff}
 use Rattle.wm_grammar.specs.declared.batch.Group.{Group}
 use Rattle.wm_grammar.specs.declared.command.Command.{Command}
 use Rattle.wm_grammar.specs.declared.command.Command.TheVariants as commands
 use Rattle.wm_showing.proofs.RiseLemmas.{ids_focusing, ids_same as as_same, output_same, over_same}
 use Rattle.wm_showing.specs.Showing.{output_focused}
+use Rattle.wm_apply.specs.FloatRows.{floating_tree, is_on}
 use Rattle.wm_apply.specs.OutputRows.{output_some, to_named_tree, to_output_tree}
 use Rattle.wm_showing.specs.Showing.{shown_on}
+use Rattle.wm_sizes.proofs.RiseLemmas.{ids_bordered, ids_cycled, ids_formatted, ids_gapped, ids_resize_set, ids_resized}
 use Rattle.wm_spaces.proofs.RiseLemmas.{ids_goal_sent, ids_output_focused, ids_renamed, ids_sent_some, ids_shown, ids_space_goes}
 use Rattle.wm_spaces.specs.Outs.{output_at}
+use Rattle.wm_spaces.specs.Sending.{sent_some}
 use Rattle.wm_spaces.specs.Renaming.{renamed_space}
 use Rattle.wm_spaces.specs.Targets.{goal_of}
 use Rattle.wm_tree.specs.Ids.{IdsRise}
 use Rattle.wm_tree.specs.declared.place.Place.TheVariants.{After}
 use Rattle.wm_tree.specs.Move.{exchanged, moved, unmarked, with_marks, wrapped}
-use Rattle.wm_tree.specs.TreeValue.{TreeValue, leaf, parent, workspace_of}
+use Rattle.wm_tree.specs.TreeValue.{TreeValue, is_tiled_con, leaf, parent, workspace_of}
 use Rattle.wm_tree.specs.Words.{settled}
 use Rattle.wm_tree.proofs.IdLemmas.{ids_raised, ids_refl, ids_settled, ids_trans, ids_wrapped}
 use Rattle.wm_apply.specs.declared.rows.How.{How}
 use Rattle.wm_apply.specs.declared.targets.Targets.{Targets}
 use Rattle.wm_apply.specs.Batches.{Outcome, command_done, commands_done, group_done, groups_done, groups_of, outcome, targets}
 use Rattle.wm_apply.specs.Commands.{Course, course, course_tree, on, refused, whole}
-use Rattle.wm_apply.specs.Rows.{row_refusal, row_tree, unmark_subject, whole_refusal, whole_tree}
+use Rattle.wm_apply.specs.Rows.{row_refusal, row_tree, matched_subject, whole_refusal, whole_tree}
 use Rattle.wm_apply.specs.Subjects.{each_tree, is_there, one_tree, unless_refused}
 
 -- ---- the commands
@@ -62,7 +72,11 @@ ids_exchanged c (Some o) t = ids_same t (exchanged c o t) refl refl
 
 ids_moved_after : (c : ConId) (m : Option ConId) (t : TreeValue) → IdsRise t (moved_after c m t)
 ids_moved_after c None t = ids_refl t
-ids_moved_after c (Some m) t = ids_same t (moved c (After m) t) refl refl
+ids_moved_after c (Some m) t = by_test (is_tiled_con t c)
+  where
+    by_test : (b : Bool) → IdsRise t (cond b (moved c (After m) t) (sent_some (workspace_of t m) c t))
+    by_test true = ids_same t (moved c (After m) t) refl refl
+    by_test false = ids_sent_some (workspace_of t m) c t
 
 ids_unmark_one : (c : ConId) (n : Option (List ℕ)) (t : TreeValue) → IdsRise t (unmark_one c n t)
 ids_unmark_one c None t = ids_same t (with_marks c [] t) refl refl
@@ -113,6 +127,20 @@ ids_gone None t = ids_refl t
 ids_gone (Some (goals.Node n)) t = ids_focusing_some (leaf t n) t
 ids_gone (Some (goals.Output o)) t = as_same t (output_focused o t) (output_same o t)
 
+ids_toward : (d : Dir) (c : ConId) (t : TreeValue) → IdsRise t (focus_dir_tree c d t)
+ids_toward d c t = by_test (is_of kinds.Floating t c)
+  where
+    by_test : (b : Bool) → IdsRise t (cond b (focus_round_tree c d t) (gone_to (goal_to d c t) t))
+    by_test true = ids_round c d t
+    by_test false = ids_gone (goal_to d c t) t
+
+ids_move : (d : Dir) (c : ConId) (px : ℕ) (t : TreeValue) → IdsRise t (move_dir_tree c d px t)
+ids_move d c px t = by_test (is_tiled_con t c)
+  where
+    by_test : (b : Bool) → IdsRise t (cond b (step_tree d c (beside d c t) t) (shift_tree c d px t))
+    by_test true = ids_step d c (beside d c t) t
+    by_test false = ids_shifted c d px t
+
 ids_output_some : (o : Option ConId) (t : TreeValue) → IdsRise t (output_some o t)
 ids_output_some None t = ids_refl t
 ids_output_some (Some o) t = ids_output_focused o t
@@ -126,23 +154,44 @@ ids_to_named None w t = ids_refl t
 ids_to_named (Some o) None t = ids_refl t
 ids_to_named (Some o) (Some w) t = ids_space_goes (parent t w) w o t
 
+ids_floating : (c : ConId) (arg : OnOff) (t : TreeValue) → IdsRise t (floating_tree c arg t)
+ids_floating c arg t = by_test (is_on arg (is_of kinds.Floating t c))
+  where
+    by_test : (b : Bool) → IdsRise t (cond b (float_tree c t) (sink_tree c t))
+    by_test true = ids_floated c (workspace_of t c) t
+    by_test false = ids_sunk c (workspace_of t c) t
+
 pub ids_row : (homes : List (List ℕ × List ℕ)) (how : How) (command : Command) (c : ConId) (t : TreeValue) → IdsRise t (row_tree homes how command c t)
 ids_row homes how (commands.Split arg) c t = ids_split c _ t
 ids_row homes how (commands.SetLayout arg) c t = ids_laid c _ t
 ids_row homes how (commands.CycleLayout cycle) c t = ids_laid c _ t
 ids_row homes how commands.Focus c t = ids_focusing c t
-ids_row homes how (commands.FocusDir d) c t = ids_gone _ t
+ids_row homes how (commands.FocusDir d) c t = ids_toward d c t
 ids_row homes how commands.FocusParent c t = ids_raised_some _ t
 ids_row homes how commands.FocusChild c t = ids_raised_some _ t
-ids_row homes how (commands.MoveDir d px) c t = ids_step d c (beside d c t) t
+ids_row homes how (commands.MoveDir d px) c t = ids_move d c px t
 ids_row homes how (commands.MoveToMark name) c t = ids_moved_after c _ t
 ids_row homes how (commands.Swap arg) c t = ids_exchanged c _ t
 ids_row homes how (commands.Mark add toggle name) c t = ids_mark c name add toggle t
-ids_row homes how (commands.Unmark name) c t = ids_unmark (unmark_subject how c) name t
+ids_row homes how (commands.Unmark name) c t = ids_unmark (matched_subject how c) name t
 ids_row homes how (commands.FocusOutput arg) c t = ids_output_some (output_at c arg t) t
 ids_row homes how (commands.MoveToOutput arg) c t = ids_to_output (output_at c arg t) c t
 ids_row homes how (commands.MoveToWorkspace target) c t = ids_goal_sent (goal_of target t) c homes t
 ids_row homes how (commands.MoveWorkspace arg) c t = ids_to_named (output_at c arg t) (workspace_of t c) t
+ids_row homes how (commands.FocusKind kind) c t = ids_kind _ t
+ids_row homes how (commands.Floating arg) c t = ids_floating c arg t
+ids_row homes how (commands.Fullscreen arg) c t = ids_fullscreen c _ t
+ids_row homes how (commands.Sticky arg) c t = ids_stuck _ c t
+ids_row homes how (commands.MovePosition x y) c t = ids_placed c x y t
+ids_row homes how commands.MoveCenter c t = ids_placed c _ _ t
+ids_row homes how commands.MoveToScratchpad c t = ids_hidden c t
+ids_row homes how commands.ScratchpadShow c t = ids_scratchpad (matched_subject how c) t
+ids_row homes how (commands.Resize grow side px ppt) c t = ids_resized c grow side px ppt t
+ids_row homes how (commands.ResizeSet w h) c t = ids_resize_set c w h t
+ids_row homes how (commands.SetBorder border) c t = ids_bordered c border t
+ids_row homes how commands.CycleBorder c t = ids_cycled c t
+ids_row homes how (commands.Gaps outer all op px) c t = ids_gapped c outer all op px t
+ids_row homes how (commands.TitleFormat format) c t = ids_formatted c format t
 ids_row homes how other c t = ids_refl t
 
 -- ---- subjects, commands and groups
@@ -188,7 +237,7 @@ ids_groups homes subject (g ∷ gs) o =
     ids_trans o.tree (group_done homes subject g o).tree (groups_done homes subject (g ∷ gs) o).tree (ids_commands homes (targets g.criteria subject o.tree) g.commands o) (ids_groups homes subject gs (group_done homes subject g o))
 
 pub ids_outcome : (homes : List (List ℕ × List ℕ)) (verdict : Verdict) (subject : Option ConId) (t : TreeValue) → IdsRise t (outcome homes verdict subject t).tree
-ids_outcome homes verdict subject t = ids_groups homes subject (groups_of verdict) (record { tree = t; replies = []; exit = false })
+ids_outcome homes verdict subject t = ids_groups homes subject (groups_of verdict) (record { tree = t; replies = []; exit = false; kills = [] })
 
 -- a tree that a text leaves
 pub ids_left : (homes : List (List ℕ × List ℕ)) (verdict : Verdict) (subject : Option ConId) (t new : TreeValue) → new ≡ (outcome homes verdict subject t).tree → IdsRise t new

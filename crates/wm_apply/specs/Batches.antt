@@ -1,6 +1,7 @@
 -- What the groups of a text do to a tree, one after another, and what they are answered.
 use Rattle.std.specs.Prelude.{ℕ, Bool, false, ◌||◌, List, [], ◌∷◌, ◌++◌, Option, None, Some, refl}
 use Rattle.std.specs.Coded.{Coded, code_by, coded×, coded_list, coded_bool}
+use Rattle.wm_base.specs.contracts.ids.ConId as con_id
 use Rattle.wm_base.specs.declared.ids.ConId.{ConId}
 use Rattle.wm_criteria.specs.declared.verdict.Verdict.{Verdict}
 use Rattle.wm_criteria.specs.declared.verdict.Verdict.TheVariants.{Ready, Bad, PatternRefused}
@@ -13,13 +14,15 @@ use Rattle.wm_apply.specs.contracts.applied.CommandReply as reply
 use Rattle.wm_apply.specs.declared.applied.CommandReply.{CommandReply}
 use Rattle.wm_apply.specs.declared.targets.Targets.{Targets}
 use Rattle.wm_apply.specs.declared.targets.Targets.TheVariants.{Matched, Handed, Focused}
-use Rattle.wm_apply.specs.Commands.{command_reply, command_tree, is_exit}
+use Rattle.wm_apply.specs.Commands.{command_kills, command_reply, command_tree, is_exit}
 
 -- what commands have done so far
 pub record Outcome : Type 0 where
   pub tree : TreeValue
   pub replies : List CommandReply
   pub exit : Bool
+  -- the windows asked to close, in order
+  pub kills : List ConId
 
 abbrev pub alone : Option ConId → Targets
 alone None = Focused
@@ -36,6 +39,7 @@ command_done homes targets command o = record {
   tree = command_tree homes targets command o.tree;
   replies = o.replies ++ command_reply homes targets command o.tree ∷ [];
   exit = o.exit || is_exit command;
+  kills = o.kills ++ command_kills targets command o.tree;
 }
 
 abbrev pub commands_done : List (List ℕ × List ℕ) → Targets → List Command → Outcome → Outcome
@@ -57,13 +61,13 @@ groups_of (PatternRefused n) = []
 
 -- what a text that reads does to a tree
 abbrev pub outcome : List (List ℕ × List ℕ) → Verdict → Option ConId → TreeValue → Outcome
-outcome homes verdict subject t = groups_done homes subject (groups_of verdict) (record { tree = t; replies = []; exit = false })
+outcome homes verdict subject t = groups_done homes subject (groups_of verdict) (record { tree = t; replies = []; exit = false; kills = [] })
 
 -- ---- how the logic stores it
 
 abbrev pub outcome_code : Coded Outcome
 outcome_code =
-    code_by (TreeValue × (List CommandReply × Bool))
-    (coded× tree_code (coded× (coded_list reply.the_row.coded) coded_bool))
-    (λ o. (o.tree, (o.replies, o.exit)))
-    (λ p. record { tree = p.0; replies = p.1.0; exit = p.1.1 }) (λ _. refl)
+    code_by (TreeValue × (List CommandReply × (Bool × List ConId)))
+    (coded× tree_code (coded× (coded_list reply.the_row.coded) (coded× coded_bool (coded_list con_id.the_row.coded))))
+    (λ o. (o.tree, (o.replies, (o.exit, o.kills))))
+    (λ p. record { tree = p.0; replies = p.1.0; exit = p.1.1.0; kills = p.1.1.1 }) (λ _. refl)

@@ -13,6 +13,7 @@ use Rattle.wm_apply.specs.declared.rows.How.{How}
 use Rattle.wm_apply.specs.declared.rows.How.TheVariants as how
 use Rattle.wm_apply.specs.declared.targets.Targets.{Targets}
 use Rattle.wm_apply.specs.declared.targets.Targets.TheVariants.{Matched, Handed, Focused}
+use Rattle.wm_apply.specs.Kills.{asked_each, asked_of, is_kill}
 use Rattle.wm_apply.specs.Rows.{whole_refusal, whole_tree}
 use Rattle.wm_apply.specs.Subjects.{each_error, each_tree, error_of, is_there, reply_of, whole_done}
 
@@ -36,6 +37,21 @@ is_built (commands.FocusOutput arg) = true
 is_built (commands.MoveToOutput arg) = true
 is_built (commands.MoveToWorkspace target) = true
 is_built (commands.MoveWorkspace arg) = true
+is_built (commands.FocusKind kind) = true
+is_built (commands.Floating arg) = true
+is_built (commands.Fullscreen arg) = true
+is_built (commands.Sticky arg) = true
+is_built (commands.MovePosition x y) = true
+is_built commands.MoveCenter = true
+is_built commands.MoveToScratchpad = true
+is_built commands.ScratchpadShow = true
+is_built (commands.Resize grow side px ppt) = true
+is_built (commands.ResizeSet w h) = true
+is_built (commands.SetBorder border) = true
+is_built commands.CycleBorder = true
+is_built (commands.Gaps outer all op px) = true
+is_built (commands.TitleFormat format) = true
+is_built commands.Kill = true
 is_built (commands.Workspace target) = true
 is_built (commands.Rename was name) = true
 is_built commands.Nop = true
@@ -121,3 +137,12 @@ command_tree homes targets command t = course_tree homes (course targets command
 -- the reply to the command
 abbrev pub command_reply : List (List ℕ × List ℕ) → Targets → Command → TreeValue → CommandReply
 command_reply homes targets command t = course_reply homes (course targets command t) command t
+
+abbrev pub kills_on : Targets → TreeValue → List ConId
+kills_on (Matched cs) t = asked_each cs t
+kills_on (Handed c) t = asked_of (subject c t) t
+kills_on Focused t = asked_of (focused t) t
+
+-- the windows that the command asks to close
+abbrev pub command_kills : Targets → Command → TreeValue → List ConId
+command_kills targets command t = if is_kill command then kills_on targets t else []

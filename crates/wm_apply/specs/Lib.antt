@@ -1,5 +1,7 @@
 pub mod Batches
 pub mod Commands
+pub mod FloatRows
+pub mod Kills
 pub mod OutputRows
 pub mod Rows
 pub mod Subjects

@@ -7,13 +7,23 @@ use Rattle.wm_base.specs.declared.errors.Refusal.TheVariants.{NoTarget}
 use Rattle.wm_base.specs.declared.ids.ConId.{ConId}
 use Rattle.wm_grammar.specs.declared.command.Command.{Command}
 use Rattle.wm_grammar.specs.declared.command.Command.TheVariants as commands
+use Rattle.wm_floats.specs.Placing.{centre_refusal, centre_tree, place_at_refusal, place_at_tree}
+use Rattle.wm_floats.specs.Scratchpad.{show_scratchpad_refusal, show_scratchpad_tree, to_scratchpad_refusal, to_scratchpad_tree}
+use Rattle.wm_floats.specs.Windows.{window_refusal}
 use Rattle.wm_focus.specs.Direction.{focus_dir_refusal, focus_dir_tree}
 use Rattle.wm_focus.specs.Marks.{mark_refusal, mark_tree, unmark_refusal, unmark_tree}
 use Rattle.wm_focus.specs.Moves.{move_dir_refusal, move_dir_tree}
 use Rattle.wm_focus.specs.Parents.{focus_child_refusal, focus_child_tree, focus_parent_refusal, focus_parent_tree}
 use Rattle.wm_focus.specs.Splits.{cycle_layout_refusal, cycle_layout_tree, set_layout_refusal, set_layout_tree, split_refusal, split_tree}
 use Rattle.wm_focus.specs.Swaps.{move_to_mark_refusal, move_to_mark_tree, swap_refusal, swap_tree}
+use Rattle.wm_apply.specs.FloatRows.{floating_refusal, floating_tree, focus_of_kind_refusal, focus_of_kind_tree, fullscreen_set, sticky_tree}
+use Rattle.wm_apply.specs.Kills.{kill_refusal}
 use Rattle.wm_apply.specs.OutputRows.{focus_output_refusal, focus_output_tree, move_space_refusal, move_space_tree, move_to_output_refusal, move_to_output_tree}
+use Rattle.wm_sizes.specs.Borders.{cycle_border_refusal, cycle_border_tree, set_border_refusal, set_border_tree}
+use Rattle.wm_sizes.specs.Floating.{resize_set_refusal, resize_set_tree}
+use Rattle.wm_sizes.specs.Gaps.{set_gaps_refusal, set_gaps_tree}
+use Rattle.wm_sizes.specs.Resizing.{resize_refusal, resize_tree}
+use Rattle.wm_sizes.specs.Titles.{title_format_refusal, title_format_tree}
 use Rattle.wm_spaces.specs.Sending.{send_to_refusal, send_to_tree}
 use Rattle.wm_spaces.specs.Renaming.{rename_refusal, rename_tree}
 use Rattle.wm_spaces.specs.Shows.{show_refusal, show_tree}
@@ -28,11 +38,12 @@ focus_refusal Matched = None
 focus_refusal Handed = None
 focus_refusal Focused = Some (NoTarget errors.NoCriteria)
 
--- `unmark` is for the subject where criteria stand, else for all containers
-abbrev pub unmark_subject : How → ConId → Option ConId
-unmark_subject Matched c = Some c
-unmark_subject Handed c = None
-unmark_subject Focused c = None
+-- `unmark` and `scratchpad show` are for the subject where criteria stand, else for all containers, or for the window whose
+-- turn it is
+abbrev pub matched_subject : How → ConId → Option ConId
+matched_subject Matched c = Some c
+matched_subject Handed c = None
+matched_subject Focused c = None
 
 -- why a command that runs once, on the tree as a whole, is refused
 abbrev pub whole_refusal : Command → TreeValue → Option Refusal
@@ -59,11 +70,26 @@ row_refusal homes how (commands.MoveDir d px) c t = move_dir_refusal c d px t
 row_refusal homes how (commands.MoveToMark name) c t = move_to_mark_refusal c name t
 row_refusal homes how (commands.Swap arg) c t = swap_refusal c arg t
 row_refusal homes how (commands.Mark add toggle name) c t = mark_refusal c name add toggle t
-row_refusal homes how (commands.Unmark name) c t = unmark_refusal (unmark_subject how c) name t
+row_refusal homes how (commands.Unmark name) c t = unmark_refusal (matched_subject how c) name t
 row_refusal homes how (commands.FocusOutput arg) c t = focus_output_refusal c arg t
 row_refusal homes how (commands.MoveToOutput arg) c t = move_to_output_refusal c arg t
 row_refusal homes how (commands.MoveToWorkspace target) c t = send_to_refusal c target homes t
 row_refusal homes how (commands.MoveWorkspace arg) c t = move_space_refusal c arg t
+row_refusal homes how (commands.FocusKind kind) c t = focus_of_kind_refusal c kind t
+row_refusal homes how (commands.Floating arg) c t = floating_refusal c arg t
+row_refusal homes how (commands.Fullscreen arg) c t = window_refusal c t
+row_refusal homes how (commands.Sticky arg) c t = window_refusal c t
+row_refusal homes how (commands.MovePosition x y) c t = place_at_refusal c x y t
+row_refusal homes how commands.MoveCenter c t = centre_refusal c t
+row_refusal homes how commands.MoveToScratchpad c t = to_scratchpad_refusal c t
+row_refusal homes how commands.ScratchpadShow c t = show_scratchpad_refusal (matched_subject how c) t
+row_refusal homes how (commands.Resize grow side px ppt) c t = resize_refusal c grow side px ppt t
+row_refusal homes how (commands.ResizeSet w h) c t = resize_set_refusal c w h t
+row_refusal homes how (commands.SetBorder border) c t = set_border_refusal c border t
+row_refusal homes how commands.CycleBorder c t = cycle_border_refusal c t
+row_refusal homes how (commands.Gaps outer all op px) c t = set_gaps_refusal c t
+row_refusal homes how (commands.TitleFormat format) c t = title_format_refusal c t
+row_refusal homes how commands.Kill c t = kill_refusal c t
 row_refusal homes how other c t = Some (NoTarget errors.NotBuilt)
 
 -- the tree that the command leaves, where it is not refused on the subject c
@@ -79,9 +105,23 @@ row_tree homes how (commands.MoveDir d px) c t = move_dir_tree c d px t
 row_tree homes how (commands.MoveToMark name) c t = move_to_mark_tree c name t
 row_tree homes how (commands.Swap arg) c t = swap_tree c arg t
 row_tree homes how (commands.Mark add toggle name) c t = mark_tree c name add toggle t
-row_tree homes how (commands.Unmark name) c t = unmark_tree (unmark_subject how c) name t
+row_tree homes how (commands.Unmark name) c t = unmark_tree (matched_subject how c) name t
 row_tree homes how (commands.FocusOutput arg) c t = focus_output_tree c arg t
 row_tree homes how (commands.MoveToOutput arg) c t = move_to_output_tree c arg t
 row_tree homes how (commands.MoveToWorkspace target) c t = send_to_tree c target homes t
 row_tree homes how (commands.MoveWorkspace arg) c t = move_space_tree c arg t
+row_tree homes how (commands.FocusKind kind) c t = focus_of_kind_tree c kind t
+row_tree homes how (commands.Floating arg) c t = floating_tree c arg t
+row_tree homes how (commands.Fullscreen arg) c t = fullscreen_set c arg t
+row_tree homes how (commands.Sticky arg) c t = sticky_tree c arg t
+row_tree homes how (commands.MovePosition x y) c t = place_at_tree c x y t
+row_tree homes how commands.MoveCenter c t = centre_tree c t
+row_tree homes how commands.MoveToScratchpad c t = to_scratchpad_tree c t
+row_tree homes how commands.ScratchpadShow c t = show_scratchpad_tree (matched_subject how c) t
+row_tree homes how (commands.Resize grow side px ppt) c t = resize_tree c grow side px ppt t
+row_tree homes how (commands.ResizeSet w h) c t = resize_set_tree c w h t
+row_tree homes how (commands.SetBorder border) c t = set_border_tree c border t
+row_tree homes how commands.CycleBorder c t = cycle_border_tree c t
+row_tree homes how (commands.Gaps outer all op px) c t = set_gaps_tree c outer all op px t
+row_tree homes how (commands.TitleFormat format) c t = title_format_tree c format t
 row_tree homes how other c t = t

@@ -1,5 +1,5 @@
 //! The groups of a text, one after another.
-ghost use Rattle.std.specs.Prelude.{◌≡◌, [], None, false, IfOk, IsTrue, OnOk, OnErr};
+ghost use Rattle.std.specs.Prelude.{◌≡◌, None, IfOk, IsTrue, OnOk, OnErr};
 ghost use Rattle.wm_apply.specs.Batches.{Outcome, command_done, commands_done, group_done, groups_done, groups_of, outcome, targets};
 ghost use Rattle.wm_criteria.specs.Patterns.{keys_of};
 ghost use Rattle.wm_criteria.specs.Prepared.{is_built};
@@ -8,7 +8,7 @@ ghost use Rattle.wm_tree.specs.Ids.{IdsRise};
 ghost use Rattle.wm_tree.specs.Sound.{IsSound};
 
 use crate::applied::{Applied, CommandReply};
-use crate::commands::{is_exit, run_command};
+use crate::commands::{gather_kills, is_exit, run_command};
 use crate::targets::Targets;
 use std::alloc::Global;
 use std::marker::Model;
@@ -24,6 +24,7 @@ struct Running {
     tree: Tree,
     replies: Vec<CommandReply>,
     exit: bool,
+    kills: Vec<ConId>,
 }
 
 impl Model for Running {
@@ -34,7 +35,7 @@ impl Model for Running {
 
     ghost coded = { outcome_code };
 
-    ghost view = { λ r. record { tree = r.tree; replies = r.replies.items; exit = r.exit } };
+    ghost view = { λ r. record { tree = r.tree; replies = r.replies.items; exit = r.exit; kills = r.kills.items } };
 }
 
 impl Running {
@@ -50,6 +51,7 @@ impl Running {
         ensures done { OnOk result (self.new ≡ command_done homes.now targets.now command.now self.old) }
         ensures sound { OnOk result (IsSound self.new.tree) }
     {
+        gather_kills(&self.tree, targets, command, &mut self.kills)?;
         let reply = run_command(alloc, &mut self.tree, homes, targets, command)?;
         self.replies.push(reply)?;
         self.exit = self.exit || is_exit(command);
@@ -142,7 +144,8 @@ pub fn run(
     ensures tree { IfOk result (λ r. r.0 ≡ (outcome env.now.homes p.now.verdict subject t.now).tree) }
     ensures replies { IfOk result (λ r. r.1.replies ≡ (outcome env.now.homes p.now.verdict subject t.now).replies) }
     ensures exit { IfOk result (λ r. r.1.exit ≡ (outcome env.now.homes p.now.verdict subject t.now).exit) }
-    ensures others { IfOk result (λ r. (r.1.mode ≡ None) × (r.1.kills ≡ [])) }
+    ensures kills { IfOk result (λ r. r.1.kills ≡ (outcome env.now.homes p.now.verdict subject t.now).kills) }
+    ensures mode { IfOk result (λ r. r.1.mode ≡ None) }
     ensures sound { IfOk result (λ r. IsSound r.0) }
     ensures ids { IfOk result (λ r. IdsRise t.now r.0) }
 {
@@ -151,7 +154,7 @@ pub fn run(
         replies: List::of(ran.replies),
         mode: None,
         exit: ran.exit,
-        kills: List::of(Vec::new(alloc)),
+        kills: List::of(ran.kills),
     };
     Ok((ran.tree, applied))
 }
@@ -173,6 +176,7 @@ fn run_groups(
         tree: t.copy()?,
         replies: Vec::new(alloc),
         exit: false,
+        kills: Vec::new(alloc),
     };
     if let Verdict::Ready(batch) = &p.verdict {
         ran.groups(alloc, homes, p, batch.groups.items(), subject)?;
@@ -193,7 +197,8 @@ pub fn apply(
     ensures tree { OnOk result (t.new ≡ (outcome env.now.homes p.now.verdict subject t.old).tree) }
     ensures replies { IfOk result (λ a. a.replies ≡ (outcome env.now.homes p.now.verdict subject t.old).replies) }
     ensures exit { IfOk result (λ a. a.exit ≡ (outcome env.now.homes p.now.verdict subject t.old).exit) }
-    ensures others { IfOk result (λ a. (a.mode ≡ None) × (a.kills ≡ [])) }
+    ensures kills { IfOk result (λ a. a.kills ≡ (outcome env.now.homes p.now.verdict subject t.old).kills) }
+    ensures mode { IfOk result (λ a. a.mode ≡ None) }
     ensures err { OnErr result (t.new ≡ t.old) }
     ensures sound { IsSound t.new }
     ensures ids { OnOk result (IdsRise t.old t.new) }

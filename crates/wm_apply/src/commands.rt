@@ -1,14 +1,15 @@
 //! One command of a group.
-ghost use Rattle.std.specs.Prelude.{◌≡◌, length, IfOk, OnOk};
-ghost use Rattle.wm_apply.specs.Commands.{command_reply, command_tree, is_built, is_exit, is_whole, course_reply, course_tree, is_mark, matched_course, runs_once, still_there, subject, targets_course, whole};
+ghost use Rattle.std.specs.Prelude.{◌≡◌, ◌++◌, length, IfOk, OnOk};
+ghost use Rattle.wm_apply.specs.Commands.{command_kills, command_reply, command_tree, is_built, is_exit, is_whole, course_reply, course_tree, is_mark, matched_course, runs_once, still_there, subject, targets_course, whole};
 ghost use Rattle.wm_apply.specs.declared.targets.Targets.TheVariants as targets;
 ghost use Rattle.wm_tree.specs.Sound.{IsSound};
 
 use crate::applied::CommandReply;
+use crate::kills::{ask, ask_each, is_kill};
 use crate::rows::{How, run_whole};
 use crate::subjects::{run_each, text_of};
 use crate::targets::Targets;
-use std::alloc::Global;
+use std::alloc::{AllocError, Global};
 use wm_base::{ConId, ErrorText, NoMemory, Text};
 use wm_grammar::Command;
 use wm_showing::is_subject;
@@ -25,7 +26,12 @@ fn is_built(command: &Command) -> bool
         Command::Mark { .. } | Command::Unmark(_) => true,
         Command::FocusOutput(_) | Command::MoveToOutput(_) | Command::MoveToWorkspace(_) => true,
         Command::MoveWorkspace(_) => true,
-        Command::Workspace(_) | Command::Rename(..) => true,
+        Command::FocusKind(_) | Command::Floating(_) | Command::Fullscreen(_) => true,
+        Command::Sticky(_) | Command::MovePosition(..) | Command::MoveCenter => true,
+        Command::MoveToScratchpad | Command::ScratchpadShow => true,
+        Command::Resize { .. } | Command::ResizeSet(..) | Command::Gaps { .. } => true,
+        Command::SetBorder(_) | Command::CycleBorder | Command::TitleFormat(_) => true,
+        Command::Workspace(_) | Command::Rename(..) | Command::Kill => true,
         Command::Nop | Command::Idle | Command::Exit => true,
         _ => false,
     }
@@ -182,4 +188,23 @@ fn run_focused(
 {
     let con = t.focused();
     run_each(alloc, t, homes, How::Focused, command, &[con])
+}
+
+/// Adds the windows that the command asks to close.
+pub fn gather_kills(
+    t: &Tree,
+    targets: &Targets,
+    command: &Command,
+    found: &mut Vec<ConId>,
+) -> Result<(), AllocError>
+    ensures { OnOk result (found.new.items ≡ found.old.items ++ command_kills targets.now command.now t.now) }
+{
+    if !is_kill(command) {
+        return Ok(());
+    }
+    match targets {
+        Targets::Matched(cons) => ask_each(t, cons.items(), found),
+        Targets::Handed(con) => ask(t, subject(t, *con), found),
+        Targets::Focused => ask(t, t.focused(), found),
+    }
 }

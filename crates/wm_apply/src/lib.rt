@@ -4,6 +4,8 @@
 mod applied;
 mod batches;
 mod commands;
+mod floats;
+mod kills;
 mod outputs;
 mod rows;
 mod subjects;

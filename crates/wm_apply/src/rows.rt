@@ -1,19 +1,23 @@
 //! One command on one subject, or on the tree as a whole: a case for each command that is built.
 ghost use Rattle.std.specs.Prelude.{◌≡◌, None, OnOk, OnErr, IfErr};
-ghost use Rattle.wm_apply.specs.Rows.{focus_refusal, row_refusal, row_tree, unmark_subject, whole_refusal, whole_tree};
+ghost use Rattle.wm_apply.specs.Rows.{focus_refusal, row_refusal, row_tree, matched_subject, whole_refusal, whole_tree};
 ghost use Rattle.wm_showing.specs.Refusing.{IsCause};
 ghost use Rattle.wm_showing.specs.Showing.{focusing};
 ghost use Rattle.wm_showing.specs.Subject.{IsSubject};
 ghost use Rattle.wm_tree.specs.Sound.{IsSound};
 
+use crate::floats::{focus_of_kind, set_floating, set_fullscreen, set_sticky};
+use crate::kills::kill;
 use crate::outputs::{focus_named, move_space_to_named, send_to_named};
 use std::alloc::Global;
 use wm_base::{ConId, ErrorText, NoMemory, Refusal, Text};
+use wm_floats::{centre, place_at, show_scratchpad, to_scratchpad};
 use wm_focus::{
     cycle_layout, focus_child, focus_dir, focus_parent, mark, move_dir, move_to_mark, set_layout,
     split, swap, unmark,
 };
 use wm_grammar::Command;
+use wm_sizes::{cycle_border, resize, resize_set, set_border, set_gaps, title_format};
 use wm_spaces::{rename, send_to, show};
 use wm_tree::Tree;
 
@@ -53,11 +57,31 @@ pub fn run_row(
         Command::MoveToMark(name) => move_to_mark(t, con, name),
         Command::Swap(arg) => swap(t, con, arg),
         Command::Mark { add, toggle, name } => mark(t, con, name, *add, *toggle),
-        Command::Unmark(name) => unmark(t, how.unmark_subject(con), name.as_ref()),
+        Command::Unmark(name) => unmark(t, how.matched_subject(con), name.as_ref()),
         Command::FocusOutput(arg) => focus_named(t, con, arg),
         Command::MoveToOutput(arg) => send_to_named(t, con, arg),
         Command::MoveToWorkspace(target) => send_to(t, con, target, homes),
         Command::MoveWorkspace(arg) => move_space_to_named(alloc, t, con, arg),
+        Command::FocusKind(kind) => focus_of_kind(t, con, *kind),
+        Command::Floating(arg) => set_floating(t, con, *arg),
+        Command::Fullscreen(arg) => set_fullscreen(t, con, *arg),
+        Command::Sticky(arg) => set_sticky(t, con, *arg),
+        Command::MovePosition(x, y) => place_at(t, con, *x, *y),
+        Command::MoveCenter => centre(t, con),
+        Command::MoveToScratchpad => to_scratchpad(t, con),
+        Command::ScratchpadShow => show_scratchpad(t, how.matched_subject(con)),
+        Command::Resize {
+            grow,
+            side,
+            px,
+            ppt,
+        } => resize(t, con, *grow, *side, *px, *ppt),
+        Command::ResizeSet(w, h) => resize_set(t, con, *w, *h),
+        Command::SetBorder(border) => set_border(t, con, *border),
+        Command::CycleBorder => cycle_border(t, con),
+        Command::Gaps { outer, all, op, px } => set_gaps(t, con, *outer, *all, *op, *px),
+        Command::TitleFormat(format) => title_format(t, con, format),
+        Command::Kill => kill(t, con),
         _ => Err(Refusal::NoTarget(ErrorText::NotBuilt)),
     }
 }
@@ -97,9 +121,10 @@ fn focus(t: &mut Tree, how: How, con: ConId) -> Result<(), Refusal>
 }
 
 impl How {
-    /// From which container `unmark` takes marks; none for all.
-    fn unmark_subject(self, con: ConId) -> Option<ConId>
-        ensures { result ≡ unmark_subject self con }
+    /// The subject where criteria matched it. Without criteria `unmark` is for all containers, and `scratchpad show` for
+    /// the window whose turn it is.
+    fn matched_subject(self, con: ConId) -> Option<ConId>
+        ensures { result ≡ matched_subject self con }
     {
         match self {
             How::Matched => Some(con),

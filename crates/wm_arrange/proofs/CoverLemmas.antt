@@ -44,7 +44,7 @@ use Rattle.wm_arrange.proofs.StripLemmas.{and_false, no_gaps, no_place, no_strip
 -- ---- counting
 
 module _ (leaf : ConId → Bool) (x y : ℤ) where
-  covered_append : (ps qs : List Placed) → covered leaf x y (ps ++ qs) ≡ covered leaf x y ps + covered leaf x y qs
+  pub covered_append : (ps qs : List Placed) → covered leaf x y (ps ++ qs) ≡ covered leaf x y ps + covered leaf x y qs
   covered_append [] qs = omega arith
   covered_append (p ∷ ps) qs = omega (arith, covered_append ps qs)
 
@@ -67,14 +67,14 @@ module _ (leaf : ConId → Bool) (x y : ℤ) where
   empty_by false true r p q h = let none : r.h ≡ 0 = eqb-true r.h 0 q in rw (none, no_place, and_false) refl
   empty_by false false r p q h = cc
 
-  empty_area : (r : Rect) → (eqb r.w 0 || eqb r.h 0) ≡ true → has_pixel x y r ≡ false
+  pub empty_area : (r : Rect) → (eqb r.w 0 || eqb r.h 0) ≡ true → has_pixel x y r ≡ false
   empty_area r h = empty_by (eqb r.w 0) (eqb r.h 0) r refl refl h
 
   area_by : (b : Bool) (id : ConId) (r : Rect) → (eqb r.w 0 || eqb r.h 0) ≡ b → covered leaf x y (cond b [] (record { con = id; part = parts.Area; rect = r } ∷ [])) ≡ one_if (leaf id && has_pixel x y r)
   area_by true id r e = rw (empty_area r e, and_false) refl
   area_by false id r e = omega arith
 
-  an_area : (id : ConId) (r : Rect) → covered leaf x y (placed id parts.Area r) ≡ one_if (leaf id && has_pixel x y r)
+  pub an_area : (id : ConId) (r : Rect) → covered leaf x y (placed id parts.Area r) ≡ one_if (leaf id && has_pixel x y r)
   an_area id r = area_by (eqb r.w 0 || eqb r.h 0) id r refl
 
   own_none : (s : Seen) (own : Bool) (part : Part) (kids : Forest) (border : Border) (area : Rect) → covered leaf x y (own_title s own part kids border area) ≡ 0
@@ -100,7 +100,7 @@ module _ (leaf : ConId → Bool) (x y : ℤ) where
   module _ (s : Seen) (own : Bool) (part : Part) (kids : Forest) (r : Rect) (children : Layout → List Placed)
       (split_covers : (layout : Layout) → is_split layout ≡ true → is_end kids ≡ false → AreSplits kids → covered leaf x y (children layout) ≡ one_if (has_pixel x y r))
     where
-      con_covers : (c : ConPart) (kind : ConKind) → leaf part.id ≡ is_leaf_con kind → SplitsCon kind kids (AreSplits kids)
+      pub con_covers : (c : ConPart) (kind : ConKind) → leaf part.id ≡ is_leaf_con kind → SplitsCon kind kids (AreSplits kids)
           → one_if (leaf part.id && has_pixel x y r) + covered leaf x y (con_parts s own part c kind kids r children) ≡ one_if (has_pixel x y r)
       con_covers c (Split layout last) tells splits = let inside = split_covers layout splits.0 splits.1 splits.2 in rw tells (omega (arith, inside))
       con_covers c (Window props owner natural) tells splits =
@@ -109,7 +109,7 @@ module _ (leaf : ConId → Bool) (x y : ℤ) where
           rw tells (omega (arith, bordered_none s own part kids border r rect (within_border border rect)))
       con_covers c (Placeholder props swallows) tells splits = rw tells (omega (arith, own_none s own part kids c.state.border r))
 
-      node_covers : (kind : NodeKind) (room : ℕ) → IsNode containers true room part.id kind part.marks kids → leaf part.id ≡ is_leaf kind → SplitsNode kind kids (AreSplits kids)
+      pub node_covers : (kind : NodeKind) (room : ℕ) → IsNode containers true room part.id kind part.marks kids → leaf part.id ≡ is_leaf kind → SplitsNode kind kids (AreSplits kids)
           → one_if (leaf part.id && has_pixel x y r) + covered leaf x y (node_parts s own part kind kids r children) ≡ one_if (has_pixel x y r)
       node_covers (Root c) room node tells splits = absurd node
       node_covers (Output o) room node tells splits = absurd node
@@ -141,7 +141,7 @@ share_some room id (Space w) marks kids node = absurd node
 share_some room id (Con c) marks kids node = node.1.0
 
 -- a row with a child has a share
-shares_some : (room : ℕ) (kids : Forest) → IsSoundRow containers true room kids → is_end kids ≡ false → 1 ≤ share_sum kids
+pub shares_some : (room : ℕ) (kids : Forest) → IsSoundRow containers true room kids → is_end kids ≡ false → 1 ≤ share_sum kids
 shares_some room end sound some = cc
 shares_some room (con part kids floats rest) sound some = omega (arith, share_some room part.id part.kind part.marks kids sound.0)
 
@@ -154,7 +154,7 @@ full_strip axis r n some =
 
 module _ (leaf : ConId → Bool) (x y : ℤ) (s : Seen) (inner : s.inner ≡ 0) where
   -- the children of a container cover its area, where they cover strip by strip
-  kids_cover : (kids : Forest) (r : Rect) (layout : Layout) → is_split layout ≡ true → 1 ≤ share_sum kids
+  pub kids_cover : (kids : Forest) (r : Rect) (layout : Layout) → is_split layout ≡ true → 1 ≤ share_sum kids
       → ((axis : Axis) → covered leaf x y (parts_from s (Beside axis r (share_sum kids)) true 0 kids) ≡ one_if (has_pixel x y (strip axis r (side_of axis r * 0 / share_sum kids) (side_of axis r * (0 + share_sum kids) / share_sum kids))))
       → covered leaf x y (kids_parts s kids r layout) ≡ one_if (has_pixel x y r)
   kids_cover kids r SplitH split some strips =
@@ -168,7 +168,7 @@ module _ (leaf : ConId → Bool) (x y : ℤ) (s : Seen) (inner : s.inner ≡ 0) 
   no_inner axis r first last = ap (λ n. inset r (gaps axis n first last)) inner ∙ no_gaps axis r first last
 
   -- a row covers the strip from where its first child begins to where its last one ends
-  row_covers : (axis : Axis) (area : Rect) (total : ℕ) (first : Bool) (before room : ℕ) (row : Forest) → IsSoundRow containers true room row → AreSplits row → Tells leaf row
+  pub row_covers : (axis : Axis) (area : Rect) (total : ℕ) (first : Bool) (before room : ℕ) (row : Forest) → IsSoundRow containers true room row → AreSplits row → Tells leaf row
       → covered leaf x y (parts_from s (Beside axis area total) first before row) ≡ one_if (has_pixel x y (strip axis area (side_of axis area * before / total) (side_of axis area * (before + share_sum row) / total)))
   row_covers axis area total first before room end sound splits tells =
       let same_end : before + 0 ≡ before = omega arith in

@@ -22,11 +22,11 @@ absent_by : (b : Bool) (part : Part) (kids floats rest : Forest) (c : ConId) →
 absent_by true part kids floats rest c e f g h = let bad : 1 + tally c kids + tally c floats + tally c rest ≡ 0 = rw e at h in absurd (omega (arith, bad))
 absent_by false part kids floats rest c e f g h = rw (e, f (omega (arith, h)), g (omega (arith, h))) refl
 
-leaf-absent : (f : Forest) (c : ConId) → tally c f ≡ 0 → leaf_in f c ≡ false
+pub leaf-absent : (f : Forest) (c : ConId) → tally c f ≡ 0 → leaf_in f c ≡ false
 leaf-absent end c h = refl
 leaf-absent (con part kids floats rest) c h = absent_by (same part.id c) part kids floats rest c refl (leaf-absent kids c) (leaf-absent rest c) h
 
-here_once : (part : Part) (kids floats rest : Forest) → tally part.id (con part kids floats rest) ≡ 1 + tally part.id kids + tally part.id floats + tally part.id rest
+pub here_once : (part : Part) (kids floats rest : Forest) → tally part.id (con part kids floats rest) ≡ 1 + tally part.id kids + tally part.id floats + tally part.id rest
 here_once part kids floats rest = rw (same_self part.id part.id refl) refl
 
 tells_more : (P Q : ConId → Bool) (f : Forest) → ((v : ConId) → 1 ≤ tally v f → P v ≡ Q v) → Tells P f → Tells Q f

@@ -1,4 +1,7 @@
+pub mod AbsentLemmas
+pub mod BareLemmas
 pub mod CoverLemmas
+pub mod CoverTreeLemmas
 pub mod CutLemmas
 pub mod FillLemmas
 pub mod LeafLemmas
@@ -7,4 +10,7 @@ pub mod RowLemmas
 pub mod SameLemmas
 pub mod ShareLemmas
 pub mod StripLemmas
+pub mod TiledLemmas
+pub mod ToldLemmas
+pub mod ToldTreeLemmas
 pub mod TreeLemmas

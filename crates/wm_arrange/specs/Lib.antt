@@ -3,6 +3,7 @@ pub mod Areas
 pub mod Arranged
 pub mod Borders
 pub mod Cover
+pub mod CoverTree
 pub mod Gaps
 pub mod Lots
 pub mod Parts

@@ -23,7 +23,7 @@ mod texts;
 mod titles;
 
 pub use arranging::arrange;
-pub use covering::areas_cover_once;
+pub use covering::{areas_cover_once, arranged_areas_cover_once};
 pub use cutting::cut;
 pub use finding::area_of;
 pub use parts::{Arrangement, Placed, PlacedPart};

@@ -1,8 +1,7 @@
--- The contents of an arrangement are windows of its tree, so buffers that agree there paint one frame.
-use Rattle.std.proofs.Common.{◌≡◌, ℕ, ◌+◌, ◌≤◌, eqb, Bool, true, false, cond, ◌||◌, List, [], ◌∷◌, ◌++◌, Option, Some, None, option_and_then, refl, ap, ap₂, arith}
-use Rattle.std.proofs.lemmas.Bool.{eq-eqb}
+-- The contents of an arrangement are windows of its tree.
+use Rattle.std.proofs.Common.{◌≡◌, ℕ, ◌+◌, ◌≤◌, eqb, Bool, true, false, cond, ◌&&◌, ◌||◌, List, [], ◌∷◌, ◌++◌, Option, Some, None, is_some, option_and_then, refl, ap, sym, subst, ◌∙◌, arith}
+use Rattle.std.proofs.lemmas.Bool.{and_parts, eq-eqb}
 use Rattle.wm_base.specs.declared.geometry.Rect.{Rect}
-use Rattle.wm_base.specs.declared.ids.Buffer.{Buffer}
 use Rattle.wm_base.specs.declared.ids.ConId.{ConId}
 use Rattle.wm_base.specs.declared.plan.Border.{Border}
 use Rattle.wm_base.specs.declared.plan.Border.TheVariants as borders
@@ -16,10 +15,9 @@ use Rattle.wm_tree.specs.declared.part.NodeKind.TheVariants.{Root, Output, Space
 use Rattle.wm_tree.specs.declared.part.OutputPart.{OutputPart}
 use Rattle.wm_tree.specs.declared.part.Part.{Part}
 use Rattle.wm_tree.specs.declared.part.SpacePart.{SpacePart}
-use Rattle.wm_tree.specs.Counts.{row_length}
+use Rattle.wm_tree.specs.Counts.{count, row_length}
 use Rattle.wm_tree.specs.Forest.{Forest, end, con}
 use Rattle.wm_tree.specs.Look.{first_kids, same, node_in, output_kind, space_kind}
-use Rattle.wm_tree.specs.Sound.{IsSound, ranked, ranks}
 use Rattle.wm_tree.specs.TreeValue.{TreeValue, focused}
 use Rattle.wm_arrange.specs.declared.parts.Placed.{Placed}
 use Rattle.wm_arrange.specs.declared.parts.PlacedPart.{PlacedPart}
@@ -27,14 +25,17 @@ use Rattle.wm_arrange.specs.declared.parts.PlacedPart.TheVariants.{Back, Area, T
 use Rattle.wm_arrange.specs.declared.parts.PlacedPart.TheVariants as parts
 use Rattle.wm_arrange.specs.Areas.{near_area, some_area}
 use Rattle.wm_arrange.specs.Arranged.{Standing, standing, has_own_title, slot, con_parts, node_parts, shown_parts, row_parts, kids_parts, rect_of, floats_parts, is_fullscreen, or_else, fullscreen_in, tiled_parts, on_space, space_parts, first_space, output_parts, outputs_parts, arranged}
-use Rattle.wm_arrange.specs.Borders.{below_title, border_part, bordered, width, window_parts, within_border}
+use Rattle.wm_arrange.specs.Borders.{below_title, border_part, bordered, width, within_border}
 use Rattle.wm_arrange.specs.Gaps.{ground}
 use Rattle.wm_arrange.specs.Parts.{placed}
 use Rattle.wm_arrange.specs.Scene.{Seen, ink, seen_in}
-use Rattle.wm_arrange.specs.Titles.{kids_titles, line, lower, own_title, tab, title_part, titles, upper}
+use Rattle.wm_arrange.specs.Titles.{kids_titles, line, own_title, tab, title_part, titles, upper}
 use Rattle.wm_arrange.specs.TitleText.{title_text}
-use Rattle.wm_core.specs.DeskValue.{IsNotGone}
-use Rattle.wm_core.specs.Frame.{what_of, quad_of, quads}
+use Rattle.wm_arrange.specs.Arranged as shown
+use Rattle.wm_arrange.specs.Sizes.{content_size, is_content}
+use Rattle.wm_focus.specs.Swaps.{is_window_kind}
+use Rattle.wm_opens.specs.Opens.{window_at, windows, windows_at}
+use Rattle.wm_tree.proofs.RecencyLemmas.{same_is}
 
 -- the fact holds of a content
 abbrev OfContent : PlacedPart → Type 0 → Type 0
@@ -71,25 +72,26 @@ placed_step P false p h = (h, tt)
 all_placed : (P : ConId → Type 0) (id : ConId) (part : PlacedPart) (rect : Rect) → OfContent part (P id) → AllContents P (placed id part rect)
 all_placed P id part rect h = placed_step P (eqb rect.w 0 || eqb rect.h 0) (record { con = id; part = part; rect = rect }) h
 
--- v is a workspace or container of the forest
-abbrev Ranked : Forest → ConId → Type 0
-Ranked f v = 1 ≤ ranked v f
+-- v is a window of the forest
+abbrev Holds : Forest → ConId → Type 0
+Holds f v = 1 ≤ count (window_at v) f
 
 rank_step : (b : Bool) (n k l r : ℕ) → b ≡ true → n ≡ 1 → 1 ≤ cond b n 0 + k + l + r
 rank_step true n k l r h e = omega (arith, e)
 rank_step false n k l r h e = cc
 
--- a container of a row, and those below it and behind it, are in the row
-here : (part : Part) (kids floats rest : Forest) → ranks part.kind ≡ 1 → Ranked (con part kids floats rest) part.id
-here part kids floats rest h = rank_step (same part.id part.id) (ranks part.kind) (ranked part.id kids) (ranked part.id floats) (ranked part.id rest) (eq-eqb part.id.0 part.id.0 refl) h
+-- a window of a row, and those below it and behind it, are in the row
+here : (part : Part) (kids floats rest : Forest) → windows part.kind ≡ 1 → Holds (con part kids floats rest) part.id
+here part kids floats rest h =
+    rank_step (same part.id part.id) (windows part.kind) (count (window_at part.id) kids) (count (window_at part.id) floats) (count (window_at part.id) rest) (eq-eqb part.id.0 part.id.0 refl) h
 
-in_kids : (part : Part) (kids floats rest : Forest) (v : ConId) → Ranked kids v → Ranked (con part kids floats rest) v
+in_kids : (part : Part) (kids floats rest : Forest) (v : ConId) → Holds kids v → Holds (con part kids floats rest) v
 in_kids part kids floats rest v h = omega (arith, h)
 
-in_floats : (part : Part) (kids floats rest : Forest) (v : ConId) → Ranked floats v → Ranked (con part kids floats rest) v
+in_floats : (part : Part) (kids floats rest : Forest) (v : ConId) → Holds floats v → Holds (con part kids floats rest) v
 in_floats part kids floats rest v h = omega (arith, h)
 
-in_rest : (part : Part) (kids floats rest : Forest) (v : ConId) → Ranked rest v → Ranked (con part kids floats rest) v
+in_rest : (part : Part) (kids floats rest : Forest) (v : ConId) → Holds rest v → Holds (con part kids floats rest) v
 in_rest part kids floats rest v h = omega (arith, h)
 
 -- ---- titles and borders have no content
@@ -128,52 +130,52 @@ module _ (P : ConId → Type 0) (s : Seen) where
       either_all P (eqb content.w 0 || eqb content.h 0) [] (own_title s own part kids border area ++ (frame ++ inside)) tt
       (all_append P (own_title s own part kids border area) (frame ++ inside) (own_all own part kids border area) (all_append P frame inside (border_all part border rect) (all_placed P part.id Content content p)))
 
-  con_all : (own : Bool) (part : Part) (c : ConPart) (kind : ConKind) (kids : Forest) (area : Rect) (children : Layout → List Placed) → P part.id → ((layout : Layout) → AllContents P (children layout))
+  con_all : (own : Bool) (part : Part) (c : ConPart) (kind : ConKind) (kids : Forest) (area : Rect) (children : Layout → List Placed) → (is_window_kind kind ≡ true → P part.id) → ((layout : Layout) → AllContents P (children layout))
       → AllContents P (con_parts s own part c kind kids area children)
   con_all own part c (Split layout last) kids area children p below = below layout
   con_all own part c (Window props owner natural) kids area children p below =
       let rect = below_title own c.state.border area in
-      bordered_all own part kids c.state.border area rect (within_border c.state.border rect) p
+      bordered_all own part kids c.state.border area rect (within_border c.state.border rect) (p refl)
   con_all own part c (Placeholder props swallows) kids area children p below = own_all own part kids c.state.border area
 
-  node_all : (own : Bool) (part : Part) (kind : NodeKind) (kids : Forest) (area : Rect) (children : Layout → List Placed) → (ranks kind ≡ 1 → P part.id) → ((layout : Layout) → AllContents P (children layout))
+  node_all : (own : Bool) (part : Part) (kind : NodeKind) (kids : Forest) (area : Rect) (children : Layout → List Placed) → (windows kind ≡ 1 → P part.id) → ((layout : Layout) → AllContents P (children layout))
       → AllContents P (node_parts s own part kind kids area children)
   node_all own part (Root c) kids area children p below = tt
   node_all own part (Output o) kids area children p below = tt
   node_all own part (Space w) kids area children p below = tt
-  node_all own part (Con c) kids area children p below = con_all own part c c.kind kids area children (p refl) below
+  node_all own part (Con c) kids area children p below = con_all own part c c.kind kids area children (λ e. p (ap (λ b. cond b 1 0) e)) below
 
-  shown_all : (own : Bool) (part : Part) (kids : Forest) (children : Rect → Layout → List Placed) (slot : Option Rect) → (ranks part.kind ≡ 1 → P part.id) → ((area : Rect) (layout : Layout) → AllContents P (children area layout))
+  shown_all : (own : Bool) (part : Part) (kids : Forest) (children : Rect → Layout → List Placed) (slot : Option Rect) → (windows part.kind ≡ 1 → P part.id) → ((area : Rect) (layout : Layout) → AllContents P (children area layout))
       → AllContents P (shown_parts s own part kids children slot)
   shown_all own part kids children None p below = tt
   shown_all own part kids children (Some area) p below =
       all_append P (placed part.id Area area) (node_parts s own part part.kind kids area (children area)) (all_placed P part.id Area area tt) (node_all own part part.kind kids area (children area) p (below area))
 
-row_all : (s : Seen) (st : Standing) (i : ℕ) (row : Forest) → AllContents (Ranked row) (row_parts s st i row)
+row_all : (s : Seen) (st : Standing) (i : ℕ) (row : Forest) → AllContents (Holds row) (row_parts s st i row)
 row_all s st i end = tt
 row_all s st i (con part kids floats rest) =
     let row = con part kids floats rest in
     let below : Rect → Layout → List Placed = λ area layout. kids_titles s layout area kids ++ row_parts s (standing s.recency layout area kids) 0 kids in
     let here_at = slot s.inner st i part.id rest in
-    all_append (Ranked row) (shown_parts s (has_own_title st) part kids below here_at) (row_parts s st (i + 1) rest)
-    (shown_all (Ranked row) s (has_own_title st) part kids below here_at (here part kids floats rest)
-    (λ area layout. all_append (Ranked row) (kids_titles s layout area kids) (row_parts s (standing s.recency layout area kids) 0 kids) (kids_titles_all (Ranked row) s layout area kids)
-    (all_weaker (Ranked kids) (Ranked row) (row_parts s (standing s.recency layout area kids) 0 kids) (in_kids part kids floats rest) (row_all s (standing s.recency layout area kids) 0 kids))))
-    (all_weaker (Ranked rest) (Ranked row) (row_parts s st (i + 1) rest) (in_rest part kids floats rest) (row_all s st (i + 1) rest))
+    all_append (Holds row) (shown_parts s (has_own_title st) part kids below here_at) (row_parts s st (i + 1) rest)
+    (shown_all (Holds row) s (has_own_title st) part kids below here_at (here part kids floats rest)
+    (λ area layout. all_append (Holds row) (kids_titles s layout area kids) (row_parts s (standing s.recency layout area kids) 0 kids) (kids_titles_all (Holds row) s layout area kids)
+    (all_weaker (Holds kids) (Holds row) (row_parts s (standing s.recency layout area kids) 0 kids) (in_kids part kids floats rest) (row_all s (standing s.recency layout area kids) 0 kids))))
+    (all_weaker (Holds rest) (Holds row) (row_parts s st (i + 1) rest) (in_rest part kids floats rest) (row_all s st (i + 1) rest))
 
-kids_all : (s : Seen) (kids : Forest) (area : Rect) (layout : Layout) → AllContents (Ranked kids) (kids_parts s kids area layout)
+kids_all : (s : Seen) (kids : Forest) (area : Rect) (layout : Layout) → AllContents (Holds kids) (kids_parts s kids area layout)
 kids_all s kids area layout =
-    all_append (Ranked kids) (kids_titles s layout area kids) (row_parts s (standing s.recency layout area kids) 0 kids) (kids_titles_all (Ranked kids) s layout area kids) (row_all s (standing s.recency layout area kids) 0 kids)
+    all_append (Holds kids) (kids_titles s layout area kids) (row_parts s (standing s.recency layout area kids) 0 kids) (kids_titles_all (Holds kids) s layout area kids) (row_all s (standing s.recency layout area kids) 0 kids)
 
-floats_all : (s : Seen) (row : Forest) → AllContents (Ranked row) (floats_parts s row)
+floats_all : (s : Seen) (row : Forest) → AllContents (Holds row) (floats_parts s row)
 floats_all s end = tt
 floats_all s (con part kids floats rest) =
     let row = con part kids floats rest in
     let below : Rect → Layout → List Placed = λ area layout. [] in
     let here_at = option_and_then near_area (rect_of part.kind) in
-    all_append (Ranked row) (shown_parts s true part kids below here_at) (floats_parts s rest)
-    (shown_all (Ranked row) s true part kids below here_at (here part kids floats rest) (λ area layout. tt))
-    (all_weaker (Ranked rest) (Ranked row) (floats_parts s rest) (in_rest part kids floats rest) (floats_all s rest))
+    all_append (Holds row) (shown_parts s true part kids below here_at) (floats_parts s rest)
+    (shown_all (Holds row) s true part kids below here_at (here part kids floats rest) (λ area layout. tt))
+    (all_weaker (Holds rest) (Holds row) (floats_parts s rest) (in_rest part kids floats rest) (floats_all s rest))
 
 -- the fact holds of the one that was found
 abbrev OfFound : (ConId → Type 0) → Option ConId → Type 0
@@ -192,89 +194,100 @@ found_by : (P : ConId → Type 0) (b : Bool) (id : ConId) (a c d : Option ConId)
 found_by P true id a c d p q r s = p refl
 found_by P false id a c d p q r s = or_found P a (or_else c d) q (or_found P c d r s)
 
--- a fullscreen window is a container
-fullscreen_rank : (kind : NodeKind) → is_fullscreen kind ≡ true → ranks kind ≡ 1
+one_kind : (kind : ConKind) → shown.is_window_kind kind ≡ is_window_kind kind
+one_kind (Split layout last) = refl
+one_kind (Window props owner natural) = refl
+one_kind (Placeholder props swallows) = refl
+
+-- a fullscreen window is a window
+fullscreen_rank : (kind : NodeKind) → is_fullscreen kind ≡ true → windows kind ≡ 1
 fullscreen_rank (Root c) h = cc
 fullscreen_rank (Output o) h = cc
 fullscreen_rank (Space s) h = cc
-fullscreen_rank (Con c) h = refl
+fullscreen_rank (Con c) h = ap (λ b. cond b 1 0) (sym (one_kind c.kind) ∙ (and_parts c.state.fullscreen (shown.is_window_kind c.kind) h).1)
 
-fullscreen_all : (row : Forest) → OfFound (Ranked row) (fullscreen_in row)
+fullscreen_all : (row : Forest) → OfFound (Holds row) (fullscreen_in row)
 fullscreen_all end = tt
 fullscreen_all (con part kids floats rest) =
     let row = con part kids floats rest in
-    found_by (Ranked row) (is_fullscreen part.kind) part.id (fullscreen_in kids) (fullscreen_in floats) (fullscreen_in rest) (λ e. here part kids floats rest (fullscreen_rank part.kind e))
-    (found_weaker (Ranked kids) (Ranked row) (fullscreen_in kids) (in_kids part kids floats rest) (fullscreen_all kids))
-    (found_weaker (Ranked floats) (Ranked row) (fullscreen_in floats) (in_floats part kids floats rest) (fullscreen_all floats))
-    (found_weaker (Ranked rest) (Ranked row) (fullscreen_in rest) (in_rest part kids floats rest) (fullscreen_all rest))
+    found_by (Holds row) (is_fullscreen part.kind) part.id (fullscreen_in kids) (fullscreen_in floats) (fullscreen_in rest) (λ e. here part kids floats rest (fullscreen_rank part.kind e))
+    (found_weaker (Holds kids) (Holds row) (fullscreen_in kids) (in_kids part kids floats rest) (fullscreen_all kids))
+    (found_weaker (Holds floats) (Holds row) (fullscreen_in floats) (in_floats part kids floats rest) (fullscreen_all floats))
+    (found_weaker (Holds rest) (Holds row) (fullscreen_in rest) (in_rest part kids floats rest) (fullscreen_all rest))
 
-tiled_all : (P : ConId → Type 0) (s : Seen) (id : ConId) (space : SpacePart) (kids : Forest) (area : Option Rect) → ((v : ConId) → Ranked kids v → P v) → AllContents P (tiled_parts s id space kids area)
+tiled_all : (P : ConId → Type 0) (s : Seen) (id : ConId) (space : SpacePart) (kids : Forest) (area : Option Rect) → ((v : ConId) → Holds kids v → P v) → AllContents P (tiled_parts s id space kids area)
 tiled_all P s id space kids None f = tt
 tiled_all P s id space kids (Some area) f =
-    all_append P (placed id Area area) (kids_parts s kids area space.layout) (all_placed P id Area area tt) (all_weaker (Ranked kids) P (kids_parts s kids area space.layout) f (kids_all s kids area space.layout))
+    all_append P (placed id Area area) (kids_parts s kids area space.layout) (all_placed P id Area area tt) (all_weaker (Holds kids) P (kids_parts s kids area space.layout) f (kids_all s kids area space.layout))
 
 on_space_all : (P : ConId → Type 0) (s : Seen) (output : OutputPart) (id : ConId) (space : SpacePart) (kids floats : Forest) (found : Option ConId)
-    → OfFound P found → ((v : ConId) → Ranked kids v → P v) → ((v : ConId) → Ranked floats v → P v) → AllContents P (on_space s output id space kids floats found)
+    → OfFound P found → ((v : ConId) → Holds kids v → P v) → ((v : ConId) → Holds floats v → P v) → AllContents P (on_space s output id space kids floats found)
 on_space_all P s output id space kids floats None p f g =
     let area = some_area (ground output.rect output.reserved space.outer space.inner) in
-    all_append P (tiled_parts s id space kids area) (floats_parts s floats) (tiled_all P s id space kids area f) (all_weaker (Ranked floats) P (floats_parts s floats) g (floats_all s floats))
+    all_append P (tiled_parts s id space kids area) (floats_parts s floats) (tiled_all P s id space kids area f) (all_weaker (Holds floats) P (floats_parts s floats) g (floats_all s floats))
 on_space_all P s output id space kids floats (Some c) p f g = all_placed P c Content output.rect p
 
 space_all : (P : ConId → Type 0) (t : TreeValue) (c : ConId) (output : OutputPart) (id : ConId) (space : Option SpacePart) (kids floats : Forest)
-    → ((v : ConId) → Ranked kids v → P v) → ((v : ConId) → Ranked floats v → P v) → AllContents P (space_parts t c output id space kids floats)
+    → ((v : ConId) → Holds kids v → P v) → ((v : ConId) → Holds floats v → P v) → AllContents P (space_parts t c output id space kids floats)
 space_all P t c output id None kids floats f g = tt
 space_all P t c output id (Some space) kids floats f g =
     let found = or_else (fullscreen_in kids) (fullscreen_in floats) in
     let s = seen_in t c space.inner in
     all_append P (placed id Back output.rect) (on_space s output id space kids floats found) (all_placed P id Back output.rect tt)
     (on_space_all P s output id space kids floats found
-    (or_found P (fullscreen_in kids) (fullscreen_in floats) (found_weaker (Ranked kids) P (fullscreen_in kids) f (fullscreen_all kids)) (found_weaker (Ranked floats) P (fullscreen_in floats) g (fullscreen_all floats)))
+    (or_found P (fullscreen_in kids) (fullscreen_in floats) (found_weaker (Holds kids) P (fullscreen_in kids) f (fullscreen_all kids)) (found_weaker (Holds floats) P (fullscreen_in floats) g (fullscreen_all floats)))
     f g)
 
-first_all : (t : TreeValue) (c : ConId) (output : OutputPart) (row : Forest) → AllContents (Ranked row) (first_space t c output row)
+first_all : (t : TreeValue) (c : ConId) (output : OutputPart) (row : Forest) → AllContents (Holds row) (first_space t c output row)
 first_all t c output end = tt
 first_all t c output (con part kids floats rest) =
-    space_all (Ranked (con part kids floats rest)) t c output part.id (space_kind part.kind) kids floats (in_kids part kids floats rest) (in_floats part kids floats rest)
+    space_all (Holds (con part kids floats rest)) t c output part.id (space_kind part.kind) kids floats (in_kids part kids floats rest) (in_floats part kids floats rest)
 
-node_step : (b : Bool) (x y z : Forest) (v : ConId) → (Ranked x v → Ranked z v) → (Ranked y v → Ranked z v) → Ranked (cond b x y) v → Ranked z v
+node_step : (b : Bool) (x y z : Forest) (v : ConId) → (Holds x v → Holds z v) → (Holds y v → Holds z v) → Holds (cond b x y) v → Holds z v
 node_step true x y z v f g h = f h
 node_step false x y z v f g h = g h
 
-in_row : (id : ConId) (f : Forest) (v : ConId) → Ranked (node_in id f) v → Ranked f v
+in_row : (id : ConId) (f : Forest) (v : ConId) → Holds (node_in id f) v → Holds f v
 in_row id end v h = h
 in_row id (con part kids floats rest) v h =
     node_step (same part.id id) (con part kids floats rest) (node_in id rest) (con part kids floats rest) v (λ x. x) (λ x. in_rest part kids floats rest v (in_row id rest v x)) h
 
-output_all : (t : TreeValue) (c : ConId) (output : Option OutputPart) (spaces : Forest) → AllContents (Ranked spaces) (output_parts t c output spaces)
+output_all : (t : TreeValue) (c : ConId) (output : Option OutputPart) (spaces : Forest) → AllContents (Holds spaces) (output_parts t c output spaces)
 output_all t c None spaces = tt
 output_all t c (Some o) spaces =
-    all_weaker (Ranked (node_in o.shown spaces)) (Ranked spaces) (first_space t c o (node_in o.shown spaces)) (in_row o.shown spaces) (first_all t c o (node_in o.shown spaces))
+    all_weaker (Holds (node_in o.shown spaces)) (Holds spaces) (first_space t c o (node_in o.shown spaces)) (in_row o.shown spaces) (first_all t c o (node_in o.shown spaces))
 
-outputs_all : (t : TreeValue) (c : ConId) (f : Forest) → AllContents (Ranked f) (outputs_parts t c f)
+outputs_all : (t : TreeValue) (c : ConId) (f : Forest) → AllContents (Holds f) (outputs_parts t c f)
 outputs_all t c end = tt
 outputs_all t c (con part kids floats rest) =
     let row = con part kids floats rest in
     let first = output_parts t c (output_kind part.kind) kids in
-    all_append (Ranked row) first (outputs_parts t c rest)
-    (all_weaker (Ranked kids) (Ranked row) first (in_kids part kids floats rest) (output_all t c (output_kind part.kind) kids))
-    (all_weaker (Ranked rest) (Ranked row) (outputs_parts t c rest) (in_rest part kids floats rest) (outputs_all t c rest))
+    all_append (Holds row) first (outputs_parts t c rest)
+    (all_weaker (Holds kids) (Holds row) first (in_kids part kids floats rest) (output_all t c (output_kind part.kind) kids))
+    (all_weaker (Holds rest) (Holds row) (outputs_parts t c rest) (in_rest part kids floats rest) (outputs_all t c rest))
 
-below_first : (v : ConId) (f : Forest) → Ranked (first_kids f) v → Ranked f v
+below_first : (v : ConId) (f : Forest) → Holds (first_kids f) v → Holds f v
 below_first v end h = h
 below_first v (con part kids floats rest) h = in_kids part kids floats rest v h
 
--- each window with a content is not gone
-pub contents_known : (t : TreeValue) → IsSound t → AllContents (IsNotGone t) (arranged t)
-contents_known t s = all_weaker (Ranked (first_kids t.nodes)) (IsNotGone t) (arranged t) (λ v h below. omega (arith, s.known v, below_first v t.nodes h)) (outputs_all t (focused t) (first_kids t.nodes))
+-- each content is of a window
+pub contents_held : (t : TreeValue) → AllContents (λ v. 1 ≤ windows_at v t) (arranged t)
+contents_held t = all_weaker (Holds (first_kids t.nodes)) (λ v. 1 ≤ windows_at v t) (arranged t) (λ v h. below_first v t.nodes h) (outputs_all t (focused t) (first_kids t.nodes))
 
-what_same : (part : PlacedPart) (a b : Option Buffer) → OfContent part (a ≡ b) → what_of part a ≡ what_of part b
-what_same Back a b h = refl
-what_same Area a b h = refl
-what_same (Title ink text) a b h = refl
-what_same (parts.Border ink) a b h = refl
-what_same Content a b h = ap (what_of Content) h
+of_content : (part : PlacedPart) (P : Type 0) → is_content part ≡ true → OfContent part P → P
+of_content Back P e h = cc
+of_content Area P e h = cc
+of_content (Title ink text) P e h = cc
+of_content (parts.Border ink) P e h = cc
+of_content Content P e h = h
 
--- buffers that agree on the contents make the same quads
-pub quads_same : (f g : ConId → Option Buffer) (parts : List Placed) → AllContents (λ v. f v ≡ g v) parts → quads f parts ≡ quads g parts
-quads_same f g [] h = refl
-quads_same f g (p ∷ parts) h = ap₂ (λ x y. quad_of p x ++ y) (what_same p.part (f p.con) (g p.con) h.0) (quads_same f g parts h.1)
+-- what holds of all contents holds of a window that has a size among them
+pub content_held : (P : ConId → Type 0) (v : ConId) (parts : List Placed) → AllContents P parts → is_some (content_size v parts) ≡ true → P v
+content_held P v [] h e = cc
+content_held P v (p ∷ parts) h e = step (same p.con v && is_content p.part) refl (content_held P v parts h.1) e
+  where
+    step : (b : Bool) → (same p.con v && is_content p.part) ≡ b → (is_some (content_size v parts) ≡ true → P v) → is_some (cond b (Some (record { w = p.rect.w; h = p.rect.h })) (content_size v parts)) ≡ true → P v
+    step true both others e =
+        let tests = and_parts (same p.con v) (is_content p.part) both in
+        subst P (same_is p.con v tests.0) (of_content p.part (P p.con) tests.1 h.0)
+    step false both others e = others e

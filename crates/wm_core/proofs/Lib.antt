@@ -1,7 +1,12 @@
+pub mod BackLemmas
+pub mod BeginningLemmas
 pub mod ContentLemmas
+pub mod FollowLemmas
 pub mod GoneLemmas
+pub mod LawLemmas
 pub mod LookLemmas
+pub mod OpenLemmas
 pub mod OpeningLemmas
-pub mod ScheduleLemmas
+pub mod ScreenLemmas
 pub mod StandsLemmas
 pub mod StepLemmas

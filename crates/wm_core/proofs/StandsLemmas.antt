@@ -1,157 +1,199 @@
 -- A desk that stood for a history stands for it with one more entry.
-use Rattle.std.proofs.Common.{◌≡◌, ℕ, ◌+◌, ◌≤◌, ◌<◌, Bool, true, false, cond, eqb, List, [], ◌∷◌, Option, Some, None, refl, ap, ap₂, add-one, sym, subst, ◌∙◌, arith}
-use Rattle.std.proofs.lemmas.Bool.{eqb-true}
-use Rattle.std.proofs.lemmas.Bool.Decides.{nat_tests}
-use Rattle.std.specs.Ordering.{nat_cmp}
-use Rattle.std.specs.BTreeMap.{is_at}
+use Rattle.std.proofs.Common.{◌≡◌, ℕ, suc, ◌+◌, ◌≤◌, Bool, true, false, cond, not, ◌&&◌, ◌||◌, List, [], ◌∷◌, length, Option, Some, None, is_some, refl, ap, ap₂, sym, subst, ◌++◌, ◌∙◌, arith}
+use Rattle.std.specs.List.{list_any}
 use Rattle.wm_base.specs.declared.ids.Buffer.{Buffer}
 use Rattle.wm_base.specs.declared.ids.ConId.{ConId}
-use Rattle.wm_tree.specs.Forest.{Forest}
 use Rattle.wm_tree.specs.Look.{same}
-use Rattle.wm_tree.specs.Sound.{IsSound, times}
-use Rattle.wm_tree.specs.Ids.{IdsRise}
-use Rattle.wm_tree.specs.TreeValue.{TreeValue}
+use Rattle.wm_tree.specs.Sound.{IsSound}
+use Rattle.wm_tree.specs.TreeValue.{TreeValue, id, opening_outputs, root}
 use Rattle.wm_layouts.specs.declared.plan.Plan.{Plan}
 use Rattle.wm_arrange.specs.declared.parts.Placed.{Placed}
 use Rattle.wm_arrange.specs.Arranged.{arranged}
-use Rattle.wm_arrange.specs.Same.{same_parts}
-use Rattle.wm_arrange.proofs.SameLemmas.{parts-decide}
-use Rattle.wm_paint.specs.declared.frame.Frame.{Frame}
-use Rattle.wm_paint.specs.declared.frame.Quad.{Quad}
-use Rattle.wm_core.specs.DeskValue.{DeskValue, IsNotGone, Stands, buffer_in, next_desk}
-use Rattle.wm_core.specs.Frame.{shown, buffer_after, frame, frame_at, quads}
-use Rattle.wm_core.specs.History.{Entry, opening_of, tree, tree_after}
-use Rattle.wm_core.specs.Schedule.{Turn, arrangement, turn}
-use Rattle.wm_core.proofs.ContentLemmas.{contents_known, quads_same, all_weaker, AllContents}
-use Rattle.wm_core.proofs.ScheduleLemmas.{turn_stays, none_begins, one_begins, then_none, done_is}
+use Rattle.wm_arrange.specs.Sizes.{content_size}
+use Rattle.wm_txn.specs.History as commits
+use Rattle.wm_txn.specs.History.{is_fresh, is_open, maps, open_after, was_open}
+use Rattle.wm_txn.specs.Machine.{TxnValue, asked_of}
+use Rattle.wm_txn.specs.Stands as transactions
+use Rattle.wm_txn.proofs.StandingLemmas.{still_stands}
+use Rattle.wm_opens.specs.Opens.{is_window_of, window_at, windows_at}
+use Rattle.wm_core.specs.DeskValue.{DeskValue, Follows, Stands, kill_after, kill_in}
+use Rattle.wm_core.specs.Frame.{quad_of, quads, what_of}
+use Rattle.wm_core.specs.History.{Beside, Entry, beside, closed, entries, first, kill_of, left, nothing, opening_of, said, tree, tree_after}
+use Rattle.wm_core.proofs.ContentLemmas.{content_held, contents_held}
+use Rattle.wm_core.proofs.FollowLemmas.{opens}
+use Rattle.wm_core.proofs.LookLemmas.{wants_same}
+use Rattle.wm_core.proofs.OpenLemmas.{counted_is_found, found_is_counted}
+use Rattle.wm_core.proofs.ScreenLemmas.{last_sound}
+use Rattle.wm_core.specs.Look.{wants}
+use Rattle.wm_core.specs.Windows.{owned_in_order}
+use Rattle.wm_core.specs.declared.state.Want.{Want}
+use Rattle.wm_txn.proofs.ReadingLemmas.{asked_is}
+use Rattle.wm_txn.specs.Commits.{asked}
+use Rattle.wm_txn.specs.Heard.{heard}
+use Rattle.wm_txn.specs.Windows.{find}
+use Rattle.wm_tree.specs.Counts.{count}
+use Rattle.wm_base.specs.declared.geometry.Size.{Size}
+use Rattle.wm_base.specs.declared.plan.OutputPlan.{OutputPlan}
 
--- the desk after a step, by whether the arrangement is the last one
-abbrev desk_by : Bool → TreeValue → List (ℕ × Buffer) → DeskValue → DeskValue
-desk_by same t buffers d = record {
-  plan = d.plan;
-  steps = d.steps + 1;
-  tree = t;
-  buffers = buffers;
-  number = cond same d.number (d.number + 1);
-  prefix = cond same d.prefix (d.steps + 1);
-  parts = cond same d.parts (arranged t);
-}
+pub entries_length : (d : DeskValue) (history : List Entry) → length (entries (opening_of d.plan) history) ≡ length history
+entries_length d [] = refl
+entries_length d (entry ∷ history) = ap suc (entries_length d history)
 
-abbrev turn_at : ℕ → List Placed → Turn
-turn_at prefix parts = record { prefix = prefix; parts = parts }
+abbrev stops_by : Beside → Bool
+stops_by b = b.stops
 
-module _ (d : DeskValue) (history : List Entry) (entry : Entry) (t : TreeValue) (buffers : List (ℕ × Buffer)) (s : Stands d history) (early : d.prefix ≤ d.steps)
-    (after : t ≡ tree_after d.plan.env.homes d.tree entry.who entry.act)
-    (given : (v : ConId) → IsNotGone t v → buffer_in buffers v ≡ buffer_after d.tree entry.act v (shown (opening_of d.plan) history v))
-  where
-    next_tree : t ≡ tree (opening_of d.plan) (entry ∷ history)
-    next_tree = after ∙ ap (λ z. tree_after d.plan.env.homes z entry.who entry.act) s.tree_is
+abbrev asked_by : Beside → List ConId
+asked_by b = b.asked
 
-    next_parts : arranged t ≡ arrangement (opening_of d.plan) (entry ∷ history)
-    next_parts = ap arranged next_tree
+module _ (d : DeskValue) (history : List Entry) (s : Stands d history) where
+  abbrev o : commits.Opening
+  o = first (opening_of d.plan)
 
-    next_buffers : (v : ConId) → IsNotGone t v → buffer_in buffers v ≡ shown (opening_of d.plan) (entry ∷ history) v
-    next_buffers v h = given v h ∙ ap (λ z. buffer_after z entry.act v (shown (opening_of d.plan) history v)) s.tree_is
+  abbrev h : List commits.Entry
+  h = entries (opening_of d.plan) history
 
-    by_same : (b : Bool) → same_parts (arranged t) d.parts ≡ b → Stands (desk_by b t buffers d) (entry ∷ history)
-    by_same true e =
-        let test : same_parts (arrangement (opening_of d.plan) (entry ∷ history)) d.parts ≡ true = rw (← next_parts) e in
-        record {
-          counted = omega (arith, s.counted);
-          tree_is = next_tree;
-          ended = turn_stays (opening_of d.plan) history entry d.number _ s.ended;
-          last = none_begins (opening_of d.plan) history entry d.number _ s.ended s.last test;
-          newest = (parts-decide _ _).0 test;
-          buffers = next_buffers;
-        }
-    by_same false e =
-        let test : same_parts (arrangement (opening_of d.plan) (entry ∷ history)) d.parts ≡ false = rw (← next_parts) e in
-        let begun = one_begins (opening_of d.plan) history entry d.number _ s.ended s.last (omega (arith, s.counted)) test in
-        record {
-          counted = omega (arith, s.counted);
-          tree_is = next_tree;
-          ended = rw add-one (begun ∙ ap₂ (λ n p. Some (turn_at n p)) (omega (arith, s.counted)) (sym next_parts));
-          last = rw add-one (then_none (opening_of d.plan) history entry d.number begun);
-          newest = sym next_parts;
-          buffers = next_buffers;
-        }
+  -- as many entries came as steps were taken
+  pub place : length h ≡ d.steps
+  place = entries_length d history ∙ sym s.counted
 
-    -- the step leaves the desk standing for the history with the entry
-    pub stands_next : Stands (next_desk t buffers d) (entry ∷ history)
-    stands_next = by_same (same_parts (arranged t) d.parts) refl
+  -- a step that says this to the transactions, leaves this tree, and stops the desk or not
+  module _ (entry : Entry) (e : commits.Entry) (t : TreeValue) (txn : TxnValue) (stops : Bool) (ids : List ConId) (kills : List (ℕ × ℕ)) (says : said d.plan.env.homes d.tree entry.who entry.act ≡ e)
+      (after : t ≡ tree_after d.plan.env.homes d.tree entry.who entry.act) (does : beside d.plan.env.homes d.tree entry.act ≡ record { stops = stops; asked = ids })
+      (noted : (v : ConId) → kill_in kills v ≡ kill_after ids (d.steps + 1) v (kill_in d.kills v))
+      (stands : transactions.Stands o (e ∷ h) txn) (same_open : (v : ConId) → open_after e v (is_window_of d.tree v) ≡ is_window_of t v)
+      (new : (v : ConId) → t.next_id ≤ v.0 → maps v e ≡ false) (next : d.tree.next_id ≤ t.next_id) (sound_next : IsSound t)
+    where
+      abbrev there : TreeValue
+      there = tree (opening_of d.plan) history
 
--- a step that changes neither tree nor buffers is counted
-pub stands_counted : (d : DeskValue) (history : List Entry) (entry : Entry) → Stands d history → d.prefix ≤ d.steps → d.tree ≡ tree_after d.plan.env.homes d.tree entry.who entry.act
-    → ((v : ConId) (b : Option Buffer) → buffer_after d.tree entry.act v b ≡ b) → Stands (record d { steps = d.steps + 1 }) (entry ∷ history)
-stands_counted d history entry s early same_tree same_buffers =
-    let Standing : Bool → Type 0 = λ b. Stands (desk_by b d.tree d.buffers d) (entry ∷ history) in
-    let same : same_parts (arranged d.tree) d.parts ≡ true = (parts-decide _ _).1 (ap arranged s.tree_is ∙ s.newest) in
-    subst Standing same (stands_next d history entry d.tree d.buffers s early same_tree (λ v h. s.buffers v h ∙ sym (same_buffers v (shown (opening_of d.plan) history v))))
+      says_there : e ≡ said d.plan.env.homes there entry.who entry.act
+      says_there = sym says ∙ ap (λ z. said d.plan.env.homes z entry.who entry.act) s.tree_is
 
--- a desk at the opening of its plan stands for the history without entries
-pub stands_start : (plan : Plan) (t : TreeValue) (buffers : List (ℕ × Buffer)) (parts : List Placed) → t ≡ (opening_of plan).opened → buffers ≡ [] → parts ≡ arranged t
-    → Stands (record { plan = plan; steps = 0; tree = t; buffers = buffers; number = 0; prefix = 0; parts = parts }) []
-stands_start plan t buffers parts opened none laid =
-    let start : TreeValue = (opening_of plan).opened in
-    let here : arranged start ≡ parts = ap arranged (sym opened) ∙ sym laid in
-    let alike : same_parts (arranged start) (arranged start) ≡ true = (parts-decide (arranged start) (arranged start)).1 refl in
-    record {
-      counted = refl;
-      tree_is = opened;
-      ended = ap (λ p. Some (turn_at 0 p)) here;
-      last = rw alike refl;
-      newest = here;
-      buffers = λ v h. ap (λ m. buffer_in m v) none;
+      entries_there : e ∷ h ≡ entries (opening_of d.plan) (entry ∷ history)
+      entries_there = ap (λ z. z ∷ h) says_there
+
+      given : (v : ConId) → t.next_id ≤ v.0 → (maps v e || was_open o v h) ≡ false
+      given v above = ap₂ (λ a b. a || b) (new v above) (s.given v (omega arith))
+
+      does_there : record { stops = stops; asked = ids } ≡ beside d.plan.env.homes there entry.act
+      does_there = sym does ∙ ap (λ z. beside d.plan.env.homes z entry.act) s.tree_is
+
+      kill_there : (v : ConId) → kill_in kills v ≡ kill_after (beside d.plan.env.homes there entry.act).asked (length history + 1) v (kill_of (opening_of d.plan) history v)
+      kill_there v =
+          noted v
+          ∙ (ap (λ b. kill_after (asked_by b) (d.steps + 1) v (kill_in d.kills v)) does_there
+          ∙ ap₂ (λ n k. kill_after (beside d.plan.env.homes there entry.act).asked (n + 1) v k) s.counted (s.kills_are v))
+
+      tree_there : t ≡ tree (opening_of d.plan) (entry ∷ history)
+      tree_there = after ∙ ap (λ z. tree_after d.plan.env.homes z entry.who entry.act) s.tree_is
+
+      pub stands_next : Stands (record { plan = d.plan; steps = d.steps + 1; tree = t; txn = txn; stopped = d.stopped || stops; kills = kills }) (entry ∷ history)
+      stands_next = record {
+        counted = omega (arith, s.counted);
+        tree_is = tree_there;
+        sounds = (subst IsSound tree_there sound_next, s.sounds);
+        stopped_is = ap₂ (λ a b. a || b) s.stopped_is (ap stops_by does_there);
+        kills_are = kill_there;
+        commits = subst (λ z. transactions.Stands o z txn) entries_there stands;
+        open_is = λ v. subst (λ z. is_open o v z ≡ is_window_of t v) entries_there (ap (open_after e v) (s.open_is v) ∙ same_open v);
+        given = λ v above. subst (λ z. was_open o v z ≡ false) entries_there (given v above);
+      }
+
+  or_false : (b : Bool) → (b || false) ≡ b
+  or_false true = refl
+  or_false false = refl
+
+  -- a step that tells the transactions something, and leaves the tree
+  pub stands_told : (entry : Entry) (e : commits.Entry) (txn : TxnValue) → said d.plan.env.homes d.tree entry.who entry.act ≡ e → d.tree ≡ tree_after d.plan.env.homes d.tree entry.who entry.act
+      → beside d.plan.env.homes d.tree entry.act ≡ nothing → ((v : ConId) (b : Bool) → open_after e v b ≡ b) → ((v : ConId) → maps v e ≡ false) → transactions.Stands o (e ∷ h) txn
+      → Stands (record { plan = d.plan; steps = d.steps + 1; tree = d.tree; txn = txn; stopped = d.stopped; kills = d.kills }) (entry ∷ history)
+  stands_told entry e txn says after does same_open new stands =
+      subst (λ b. Stands (record { plan = d.plan; steps = d.steps + 1; tree = d.tree; txn = txn; stopped = b; kills = d.kills }) (entry ∷ history)) (or_false d.stopped)
+      (stands_next entry e d.tree txn false [] d.kills says after does (λ v. refl) stands (λ v. same_open v (is_window_of d.tree v)) (λ v above. new v) (omega arith)
+      (subst IsSound (sym s.tree_is) (last_sound (opening_of d.plan) history s.sounds)))
+
+  -- a step that changes nothing is counted
+  pub stands_counted : (entry : Entry) → d.tree ≡ tree_after d.plan.env.homes d.tree entry.who entry.act → said d.plan.env.homes d.tree entry.who entry.act ≡ commits.Still → beside d.plan.env.homes d.tree entry.act ≡ nothing
+      → Stands (record { plan = d.plan; steps = d.steps + 1; tree = d.tree; txn = d.txn; stopped = d.stopped; kills = d.kills }) (entry ∷ history)
+  stands_counted entry after says does = stands_told entry commits.Still d.txn says after does (λ v b. refl) (λ v. refl) (still_stands o h d.txn s.commits)
+
+  -- ---- a step that leaves a tree
+
+  module _ (t : TreeValue) (fresh : Option (ConId × Buffer)) (sound : IsSound d.tree) (sound_new : IsSound t) (f : Follows d.tree t fresh) where
+    -- its arrangement may come
+    pub fits : transactions.IsFit o h (arranged t) fresh (closed d.tree t fresh)
+    fits = record {
+      new = λ v is. s.given v (f.fresh_id v is).0;
+      shows = λ v there.
+          ap (λ b. (is_fresh v fresh || b) && not (list_any (same v) (closed d.tree t fresh))) (s.open_is v)
+          ∙ (opens d.tree t fresh sound sound_new f v ∙ counted_is_found v t sound_new (content_held (λ w. 1 ≤ windows_at w t) v (arranged t) (contents_held t) there));
     }
 
-abbrev painted : ℕ → ℕ → List Quad → Frame
-painted number prefix quads = record { number = number; prefix = prefix; quads = quads }
+    not_fresh : (v : ConId) → t.next_id ≤ v.0 → (b : Bool) → is_fresh v fresh ≡ b → b ≡ false
+    not_fresh v above true e = absurd (omega (arith, (f.fresh_id v e).1))
+    not_fresh v above false e = refl
 
--- what a desk that stands for a history paints
-pub stands_frame : (d : DeskValue) (history : List Entry) → Stands d history → d.number ≤ d.steps → IsSound d.tree
-    → frame (opening_of d.plan) history ≡ record { number = d.number; prefix = d.prefix; quads = quads (buffer_in d.buffers) d.parts }
-stands_frame d history s within sound =
-    let start = opening_of d.plan in
-    let number = done_is start history d.number _ s.ended s.last (omega (arith, s.counted)) in
-    let parts : arranged d.tree ≡ d.parts = ap arranged s.tree_is ∙ s.newest in
-    let Agree : List Placed → Type 0 = λ z. AllContents (λ v. buffer_in d.buffers v ≡ shown start history v) z in
-    let agree = subst Agree parts (all_weaker (IsNotGone d.tree) (λ v. buffer_in d.buffers v ≡ shown start history v) (arranged d.tree) s.buffers (contents_known d.tree sound)) in
-    ap (λ n. frame_at n (shown start history) (turn start n history)) number
-    ∙ (ap (frame_at d.number (shown start history)) s.ended
-    ∙ ap (painted d.number d.prefix) (sym (quads_same (buffer_in d.buffers) (shown start history) d.parts agree)))
+    pub stands_left : (entry : Entry) (txn : TxnValue) (stops : Bool) (ids : List ConId) (kills : List (ℕ × ℕ)) → said d.plan.env.homes d.tree entry.who entry.act ≡ left d.tree t fresh → t ≡ tree_after d.plan.env.homes d.tree entry.who entry.act
+        → beside d.plan.env.homes d.tree entry.act ≡ record { stops = stops; asked = ids } → ((v : ConId) → kill_in kills v ≡ kill_after ids (d.steps + 1) v (kill_in d.kills v)) → transactions.Stands o (left d.tree t fresh ∷ h) txn
+        → Stands (record { plan = d.plan; steps = d.steps + 1; tree = t; txn = txn; stopped = d.stopped || stops; kills = kills }) (entry ∷ history)
+    stands_left entry txn stops ids kills says after does noted stands =
+        stands_next entry (left d.tree t fresh) t txn stops ids kills says after does noted stands (opens d.tree t fresh sound sound_new f) (λ v above. not_fresh v above (is_fresh v fresh) refl) f.next sound_new
 
--- ---- the buffers of the windows
+  -- ---- what is asked of windows
 
-test_same : (a b : ℕ) → is_at (nat_cmp a) b ≡ eqb a b
-test_same a b = grind (arith, nat_tests)
+  pub wants_seen : (who serial kill : ℕ) (windows : List ConId) (found : List Want) → windows ≡ owned_in_order who d.tree → found ≡ wants (λ v. asked_of (find v d.txn.windows)) (kill_in d.kills) serial kill windows
+      → found ≡ wants (λ v. asked o v (heard o h)) (kill_of (opening_of d.plan) history) serial kill (owned_in_order who (tree (opening_of d.plan) history))
+  wants_seen who serial kill windows found listed made =
+      made
+      ∙ (ap (wants (λ v. asked_of (find v d.txn.windows)) (kill_in d.kills) serial kill) (listed ∙ ap (owned_in_order who) s.tree_is)
+      ∙ wants_same (λ v. asked_of (find v d.txn.windows)) (λ v. asked o v (heard o h)) (kill_in d.kills) (kill_of (opening_of d.plan) history) serial kill (owned_in_order who (tree (opening_of d.plan) history))
+      (asked_is o (heard o h) d.txn s.commits) s.kills_are)
 
-by_id : (b : Bool) (x y z : Option Buffer) → (b ≡ false → y ≡ z) → cond b x y ≡ cond b x z
-by_id true x y z h = refl
-by_id false x y z h = h refl
+-- ---- the opening
 
--- a map that has one more buffer
-pub buffer_put : (old new : List (ℕ × Buffer)) (i v : ConId) (given : Buffer) (before : Option Buffer)
-    → buffer_in new v ≡ cond (is_at (nat_cmp i.0) v.0) (Some given) (buffer_in old v) → (same i v ≡ false → buffer_in old v ≡ before)
-    → buffer_in new v ≡ cond (same i v) (Some given) before
-buffer_put old new i v given before put kept =
-    put ∙ (ap (λ b. cond b (Some given) (buffer_in old v)) (test_same i.0 v.0) ∙ by_id (same i v) (Some given) (buffer_in old v) before kept)
+zero_by : (b : Bool) → cond {A = ℕ} b 0 0 ≡ 0
+zero_by true = refl
+zero_by false = refl
 
--- a map without the buffer of a window that is another
-pub buffer_kept : (old new : List (ℕ × Buffer)) (i v : ConId) → buffer_in new v ≡ cond (is_at (nat_cmp i.0) v.0) None (buffer_in old v) → same i v ≡ false → buffer_in new v ≡ buffer_in old v
-buffer_kept old new i v put other = put ∙ (ap (λ b. cond b None (buffer_in old v)) (test_same i.0 v.0 ∙ other))
+no_windows : (v : ConId) (k last inner outer : ℕ) (plans : List OutputPlan) → count (window_at v) (opening_outputs k last inner outer plans) ≡ 0
+no_windows v k last inner outer [] = refl
+no_windows v k last inner outer (plan ∷ plans) = omega (arith, zero_by (same (id (k + 1)) v), zero_by (same (id (last + k)) v), no_windows v (k + 1) last inner outer plans)
 
--- what is not gone after a change was not gone before
-pub still_known : (old new : TreeValue) (v : ConId) → IdsRise old new → IsNotGone new v → IsNotGone old v
-still_known old new v ids h below = omega (arith, ids.known v below, h (omega (arith, below, ids.next)))
+-- the opening of a plan has no windows
+opens_empty : (plan : Plan) (v : ConId) → windows_at v (opening_of plan).opened ≡ 0
+opens_empty plan v = omega (arith, zero_by (same root v), no_windows v 1 (1 + length plan.outputs) plan.inner plan.outer plan.outputs)
 
--- one that is not gone is not one that is
-pub other_than_gone : (t : TreeValue) (i v : ConId) → i.0 < t.next_id → times i t.recency ≡ 0 → IsNotGone t v → same i v ≡ false
-other_than_gone t i v given gone h = by_test (same i v) refl
-  where
-    by_test : (b : Bool) → same i v ≡ b → b ≡ false
-    by_test false e = refl
-    by_test true e =
-        let of : ℕ → ConId = λ n. record { 0 = n } in
-        let equal : i ≡ v = ap of (eqb-true i.0 v.0 e) in
-        let there : 1 ≤ times i t.recency = subst (λ z. z.0 < t.next_id → 1 ≤ times z t.recency) (sym equal) h given in
-        absurd (omega (arith, gone, there))
+none_by : (o : Option Size) → (is_some o ≡ true → ⊥) → o ≡ None
+none_by None h = refl
+none_by (Some size) h = absurd (h refl)
+
+-- nor does its arrangement have contents
+pub no_content : (plan : Plan) (t : TreeValue) (parts : List Placed) → t ≡ (opening_of plan).opened → parts ≡ arranged t → (v : ConId) → content_size v parts ≡ None
+no_content plan t parts opened laid v =
+    ap (content_size v) laid
+    ∙ none_by (content_size v (arranged t)) (λ some. let seen : 1 ≤ windows_at v t = content_held (λ w. 1 ≤ windows_at w t) v (arranged t) (contents_held t) some in omega (arith, ap (windows_at v) opened, opens_empty plan v))
+
+not_window : (t : TreeValue) (v : ConId) → IsSound t → windows_at v t ≡ 0 → (b : Bool) → is_window_of t v ≡ b → false ≡ b
+not_window t v sound none true e = absurd (omega (arith, found_is_counted v t sound e))
+not_window t v sound none false e = refl
+
+-- a desk at the opening of its plan stands for the history without entries
+pub stands_start : (plan : Plan) (t : TreeValue) (txn : TxnValue) (kills : List (ℕ × ℕ)) (parts : List Placed) → t ≡ (opening_of plan).opened → IsSound t → kills ≡ [] → parts ≡ arranged t → transactions.Stands (record { parts = parts; windows = [] }) [] txn
+    → Stands (record { plan = plan; steps = 0; tree = t; txn = txn; stopped = false; kills = kills }) []
+stands_start plan t txn kills parts opened sound none laid stands = record {
+  counted = refl;
+  tree_is = opened;
+  sounds = subst IsSound opened sound;
+  stopped_is = refl;
+  kills_are = λ v. ap (λ m. kill_in m v) none;
+  commits = subst (λ z. transactions.Stands (record { parts = z; windows = [] }) [] txn) (laid ∙ ap arranged opened) stands;
+  open_is = λ v. not_window t v sound (ap (windows_at v) opened ∙ opens_empty plan v) (is_window_of t v) refl;
+  given = λ v above. refl;
+}
+
+-- ---- frames
+
+-- buffers that agree make the same quads
+pub quads_same : (f g : ConId → Option Buffer) (parts : List Placed) → ((v : ConId) → f v ≡ g v) → quads f parts ≡ quads g parts
+quads_same f g [] h = refl
+quads_same f g (p ∷ parts) h = ap₂ (λ x y. quad_of p (what_of p.part x) ++ y) (h p.con) (quads_same f g parts h)

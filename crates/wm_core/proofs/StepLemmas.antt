@@ -9,7 +9,8 @@ use Rattle.wm_spaces.specs.Coming.{output_added_refusal, output_removed_refusal}
 use Rattle.wm_spaces.specs.Names.{output_named}
 use Rattle.wm_tree.specs.Outputs.{passed_by_output}
 use Rattle.wm_tree.specs.TreeValue.{TreeValue}
-use Rattle.wm_core.specs.History.{if_done}
+use Rattle.wm_core.specs.History.{if_done, left, left_if_done}
+use Rattle.wm_txn.specs.History.{Still}
 use Rattle.wm_core.specs.Outputs.{add_answer, added, remove_answer, removed, unless_full}
 use Rattle.wm_core.specs.declared.step.Answer.{Answer}
 use Rattle.wm_core.specs.declared.step.Answer.TheVariants as answers
@@ -62,3 +63,24 @@ pub not_removed : (name : List ℕ) (t copy : TreeValue) (e : Refusal) → copy 
 not_removed name t copy e same h =
     let refused : output_removed_refusal name t ≡ Some e = ap (output_removed_refusal name) (sym same) ∙ h in
     rw refused refl
+
+-- ---- what these steps say to the transactions
+
+pub says_added : (plan : OutputPlan) (t : TreeValue) → is_some (output_named plan.name t) ≡ false → is_fit_rect plan.rect ≡ true → passed_by_output t.nodes t.next_id ≡ None
+    → left_if_done (add_answer plan t) t (added plan t) ≡ left t (added plan t) None
+says_added plan t free fit h = ap (λ a. left_if_done a t (added plan t)) (add_is plan t None free fit h)
+
+pub says_not_added : (plan : OutputPlan) (t : TreeValue) (l : Limit) → is_some (output_named plan.name t) ≡ false → is_fit_rect plan.rect ≡ true → passed_by_output t.nodes t.next_id ≡ Some l
+    → left_if_done (add_answer plan t) t (added plan t) ≡ Still
+says_not_added plan t l free fit h = ap (λ a. left_if_done a t (added plan t)) (add_is plan t (Some l) free fit h)
+
+pub says_not_removed : (name : List ℕ) (t copy : TreeValue) (e : Refusal) → copy ≡ t → output_removed_refusal name copy ≡ Some e → left_if_done (remove_answer name t) t (removed name t) ≡ Still
+says_not_removed name t copy e same h =
+    let refused : output_removed_refusal name t ≡ Some e = ap (output_removed_refusal name) (sym same) ∙ h in
+    rw refused refl
+
+pub says_removed : (name : List ℕ) (t : TreeValue) → output_removed_refusal name t ≡ None → left_if_done (remove_answer name t) t (removed name t) ≡ left t (removed name t) None
+says_removed name t h = rw h refl
+
+pub is_removed : (name : List ℕ) (t : TreeValue) → output_removed_refusal name t ≡ None → removed name t ≡ if_done (remove_answer name t) (removed name t) t
+is_removed name t h = rw h refl

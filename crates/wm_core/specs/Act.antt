@@ -6,6 +6,8 @@ use Rattle.wm_base.specs.declared.ids.ConId.{ConId}
 use Rattle.wm_base.specs.declared.plan.OutputPlan.{OutputPlan}
 use Rattle.wm_base.specs.declared.properties.Props.{Props}
 use Rattle.wm_criteria.specs.declared.verdict.Verdict.{Verdict}
+use Rattle.wm_core.specs.declared.client.ClientStep.{ClientStep}
+use Rattle.wm_core.specs.declared.client.ClientStep.TheVariants as client
 use Rattle.wm_core.specs.declared.step.Step.{Step}
 use Rattle.wm_core.specs.declared.step.Step.TheVariants as step
 
@@ -20,7 +22,16 @@ pub data Act : Type 0 where
   OutputAdd : OutputPlan → Act
   OutputRemove : List ℕ → Act
   Reserve : List ℕ → Edges → Act
+  Ack : ConId → ℕ → Act
+  Give : ConId → Buffer → Act
+  Deadline : ℕ → Act
   Still : Act
+
+-- what the step of a client or a timer says to the history
+abbrev pub client_act : ClientStep → Act
+client_act (client.Ack con serial) = Ack con serial
+client_act (client.Buffer con buffer) = Give con buffer
+client_act (client.Deadline number) = Deadline number
 
 -- what the step says to the history
 abbrev pub act_of : Step → Act
@@ -33,4 +44,5 @@ act_of step.Gone = Gone
 act_of (step.OutputAdd plan) = OutputAdd plan
 act_of (step.OutputRemove name) = OutputRemove name
 act_of (step.Reserve name edges) = Reserve name edges
+act_of (step.Client step) = client_act step
 act_of other = Still

@@ -1,24 +1,24 @@
 -- The value of a desk, and the histories that it stands for.
-use Rattle.std.specs.Prelude.{◌≡◌, ◌<◌, ◌≤◌, ℕ, suc, ◌+◌, if◌then◌else◌, List, length, Option, None, Some, refl}
-use Rattle.std.specs.Coded.{Coded, code_by, coded×, coded_ℕ, coded_list}
-use Rattle.std.specs.Ordering.{nat_cmp}
+use Rattle.std.specs.Prelude.{◌≡◌, ◌<◌, ◌≤◌, ℕ, ◌+◌, true, false, if◌then◌else◌, Bool, List, [], ◌∷◌, length, Option, None, Some, refl}
+use Rattle.std.specs.Coded.{Coded, code_by, coded×, coded_ℕ, coded_bool, coded_list}
 use Rattle.std.specs.BTreeMap.{is_at}
+use Rattle.std.specs.List.{list_any}
 use Rattle.std.specs.Map.{lookup}
-use Rattle.wm_base.specs.contracts.ids.Buffer as buffer
+use Rattle.std.specs.Ordering.{nat_cmp}
+use Rattle.wm_tree.specs.Look.{same}
+use Rattle.wm_tree.specs.Sound.{IsSound}
 use Rattle.wm_base.specs.declared.ids.Buffer.{Buffer}
 use Rattle.wm_base.specs.declared.ids.ConId.{ConId}
-use Rattle.wm_tree.specs.Look.{same}
-use Rattle.wm_tree.specs.Sound.{times}
 use Rattle.wm_tree.specs.TreeValue.{TreeValue, tree_code}
-use Rattle.wm_arrange.specs.contracts.parts.Placed as placed
 use Rattle.wm_layouts.specs.contracts.plan.Plan as plan
-use Rattle.wm_arrange.specs.declared.parts.Placed.{Placed}
 use Rattle.wm_layouts.specs.declared.plan.Plan.{Plan}
-use Rattle.wm_arrange.specs.Arranged.{arranged}
-use Rattle.wm_arrange.specs.Same.{same_parts}
-use Rattle.wm_core.specs.Frame.{shown}
-use Rattle.wm_core.specs.History.{Entry, opening_of, tree}
-use Rattle.wm_core.specs.Schedule.{arrangement, turn}
+use Rattle.wm_txn.specs.History.{is_fresh, is_open, was_open}
+use Rattle.wm_txn.specs.Machine.{TxnValue, judge_ack, txn_code}
+use Rattle.wm_txn.specs.Stands as transactions
+use Rattle.wm_txn.specs.Windows.{find}
+use Rattle.wm_opens.specs.Opens.{is_window_of, windows_at}
+use Rattle.wm_core.specs.Windows.{window_count}
+use Rattle.wm_core.specs.History.{Entry, Judge, Start, entries, first, kill_of, opening_of, stopped, tree}
 
 pub record DeskValue : Type 0 where
   -- the opening plan
@@ -27,60 +27,62 @@ pub record DeskValue : Type 0 where
   pub steps : ℕ
   -- the tree after them
   pub tree : TreeValue
-  -- the buffers of the open windows, by id
-  pub buffers : List (ℕ × Buffer)
-  -- the last transaction that has ended: its number, how many steps had come when it began, and its arrangement
-  pub number : ℕ
-  pub prefix : ℕ
-  pub parts : List Placed
+  -- the transactions after them
+  pub txn : TxnValue
+  -- whether a command said that the desk is to stop
+  pub stopped : Bool
+  -- by the id of a window, the number of the last step that asked it to close
+  pub kills : List (ℕ × ℕ)
 
--- the buffer of the window v
-abbrev pub buffer_in : List (ℕ × Buffer) → ConId → Option Buffer
-buffer_in buffers v = lookup (is_at (nat_cmp v.0)) buffers
+abbrev pub kill_in : List (ℕ × ℕ) → ConId → Option ℕ
+kill_in kills v = lookup (is_at (nat_cmp v.0)) kills
 
--- the buffer of v after a step that opened this window with its buffer
-abbrev pub opened_with : Option (ConId × Buffer) → ConId → Option Buffer → Option Buffer
-opened_with None v before = before
-opened_with (Some window) v before = if same window.0 v then Some window.1 else before
+abbrev pub kills_or : Option (List (ℕ × ℕ)) → List (ℕ × ℕ) → List (ℕ × ℕ)
+kills_or None before = before
+kills_or (Some after) before = after
 
--- v is not gone: it is a workspace or container of the tree, or its id was not given yet
-abbrev pub IsNotGone : TreeValue → ConId → Type 0
-IsNotGone t v = v.0 < t.next_id → 1 ≤ times v t.recency
+-- what is kept of v after the step of this number asked these windows to close
+abbrev pub kill_after : List ConId → ℕ → ConId → Option ℕ → Option ℕ
+kill_after asked number v before = if list_any (same v) asked then Some number else before
+
+-- what the transactions answer to an acknowledgement
+abbrev pub judge_of : TxnValue → Judge
+judge_of txn v serial = judge_ack txn.number serial (find v txn.windows)
+
+-- the tree after each beginning of the history is sound
+abbrev pub AreSound : Start → List Entry → Type 0
+AreSound start [] = IsSound start.opened
+AreSound start (entry ∷ history) = IsSound (tree start (entry ∷ history)) × AreSound start history
 
 -- the desk stands for the history: it is what the history leaves
 pub record Stands (d : DeskValue) (history : List Entry) : Type 0 where
   pub counted : d.steps ≡ length history
   pub tree_is : d.tree ≡ tree (opening_of d.plan) history
-  pub ended : turn (opening_of d.plan) d.number history ≡ Some (record { prefix = d.prefix; parts = d.parts })
-  pub last : turn (opening_of d.plan) (suc d.number) history ≡ None
-  pub newest : arrangement (opening_of d.plan) history ≡ d.parts
-  pub buffers : (v : ConId) → IsNotGone d.tree v → buffer_in d.buffers v ≡ shown (opening_of d.plan) history v
+  pub sounds : AreSound (opening_of d.plan) history
+  pub stopped_is : d.stopped ≡ stopped (opening_of d.plan) history
+  pub kills_are : (v : ConId) → kill_in d.kills v ≡ kill_of (opening_of d.plan) history v
+  pub commits : transactions.Stands (first (opening_of d.plan)) (entries (opening_of d.plan) history) d.txn
+  -- the windows of the tree are those that are open, and none had an id that is still to be given
+  pub open_is : (v : ConId) → is_open (first (opening_of d.plan)) v (entries (opening_of d.plan) history) ≡ is_window_of d.tree v
+  pub given : (v : ConId) → d.tree.next_id ≤ v.0 → was_open (first (opening_of d.plan)) v (entries (opening_of d.plan) history) ≡ false
 
--- ---- one step
+abbrev pub one_if_some : Option (ConId × Buffer) → ℕ
+one_if_some None = 0
+one_if_some (Some window) = 1
 
--- the desk after a step that leaves this tree and these buffers: a transaction begins, and ends, where the arrangement differs
-abbrev pub next_desk : TreeValue → List (ℕ × Buffer) → DeskValue → DeskValue
-next_desk t buffers d =
-    let same = same_parts (arranged t) d.parts in
-    record {
-      plan = d.plan;
-      steps = d.steps + 1;
-      tree = t;
-      buffers = buffers;
-      number = if same then d.number else d.number + 1;
-      prefix = if same then d.prefix else d.steps + 1;
-      parts = if same then d.parts else arranged t;
-    }
-
--- the desk after a step that was refused
-abbrev pub counted : DeskValue → DeskValue
-counted d = record d { steps = d.steps + 1 }
+-- The new tree has no window that the old one had not but the fresh one, whose id was still to be given: of each id it has
+-- no more windows, and of all other ids together no more, but for the fresh one.
+pub record Follows (old new : TreeValue) (fresh : Option (ConId × Buffer)) : Type 0 where
+  pub next : old.next_id ≤ new.next_id
+  pub fresh_id : (v : ConId) → is_fresh v fresh ≡ true → (old.next_id ≤ v.0) × (v.0 < new.next_id)
+  pub fewer : (v : ConId) → is_fresh v fresh ≡ false → windows_at v new ≤ windows_at v old
+  pub others : (v : ConId) → window_count new + windows_at v old ≤ window_count old + windows_at v new + (if is_fresh v fresh then 0 else one_if_some fresh)
 
 -- ---- how the logic stores it
 
 abbrev pub desk_code : Coded DeskValue
 desk_code =
-    code_by ((Plan × (ℕ × TreeValue)) × (List (ℕ × Buffer) × (ℕ × (ℕ × List Placed))))
-    (coded× (coded× plan.the_row.coded (coded× coded_ℕ tree_code)) (coded× (coded_list (coded× coded_ℕ buffer.the_row.coded)) (coded× coded_ℕ (coded× coded_ℕ (coded_list placed.the_row.coded)))))
-    (λ d. ((d.plan, (d.steps, d.tree)), (d.buffers, (d.number, (d.prefix, d.parts)))))
-    (λ p. record { plan = p.0.0; steps = p.0.1.0; tree = p.0.1.1; buffers = p.1.0; number = p.1.1.0; prefix = p.1.1.1.0; parts = p.1.1.1.1 }) (λ _. refl)
+    code_by ((Plan × (ℕ × TreeValue)) × (TxnValue × (Bool × List (ℕ × ℕ))))
+    (coded× (coded× plan.the_row.coded (coded× coded_ℕ tree_code)) (coded× txn_code (coded× coded_bool (coded_list (coded× coded_ℕ coded_ℕ)))))
+    (λ d. ((d.plan, (d.steps, d.tree)), (d.txn, (d.stopped, d.kills))))
+    (λ p. record { plan = p.0.0; steps = p.0.1.0; tree = p.0.1.1; txn = p.1.0; stopped = p.1.1.0; kills = p.1.1.1 }) (λ _. refl)

@@ -2,8 +2,9 @@ pub mod Act
 pub mod DeskValue
 pub mod Frame
 pub mod History
+pub mod Laws
 pub mod Look
 pub mod Outputs
-pub mod Schedule
+pub mod Screen
 pub mod Sizes
 pub mod Windows

@@ -4,7 +4,7 @@ use Rattle.wm_base.specs.declared.geometry.Size.{Size}
 use Rattle.wm_criteria.specs.Prepared.{is_built}
 use Rattle.wm_layouts.specs.Plan.{IsFitEdges}
 use Rattle.wm_core.specs.declared.step.Step.{Step}
-use Rattle.wm_core.specs.declared.step.Step.TheVariants.{Run, Map, Close, Retitle, Urgent, Gone, OutputAdd, OutputRemove, Reserve}
+use Rattle.wm_core.specs.declared.step.Step.TheVariants.{Run, Map, Close, Retitle, Urgent, Gone, OutputAdd, OutputRemove, Reserve, Client}
 
 -- a buffer's sides are at most 16,384
 pub record IsFitSize (s : Size) : Type 0 where
@@ -23,4 +23,5 @@ IsFitStep Gone = Unit {0}
 IsFitStep (OutputAdd plan) = IsFitEdges plan.reserved
 IsFitStep (OutputRemove name) = Unit {0}
 IsFitStep (Reserve name edges) = IsFitEdges edges
+IsFitStep (Client step) = Unit {0}
 IsFitStep other = ⊥

@@ -1,10 +1,16 @@
 -- The windows of a caller, and the steps on them.
-use Rattle.std.specs.Prelude.{◌≡◌, ◌≢◌, ℕ, ◌==◌, Bool, true, false, if◌then◌else◌, List, [], ◌∷◌, ◌++◌, filter, Option, None, Some}
+use Rattle.std.specs.Prelude.{◌≡◌, ◌≢◌, ℕ, ◌+◌, ◌==◌, nat_lt, Bool, true, false, if◌then◌else◌, List, [], ◌∷◌, ◌++◌, filter, Option, None, Some, is_some}
+use Rattle.std.specs.BTreeMap.{is_at}
+use Rattle.std.specs.Map.{lookup}
+use Rattle.std.specs.Ordering.{nat_cmp}
 use Rattle.wm_base.specs.declared.ids.ConId.{ConId}
+use Rattle.wm_opens.specs.Opens.{windows}
 use Rattle.wm_tree.specs.declared.kind.KindEdit.TheVariants as edits
 use Rattle.wm_tree.specs.declared.part.ConKind.{ConKind}
 use Rattle.wm_tree.specs.declared.part.ConKind.TheVariants.{Split, Window, Placeholder}
 use Rattle.wm_tree.specs.declared.part.ConPart.{ConPart}
+use Rattle.wm_tree.specs.Counts.{count}
+use Rattle.wm_tree.specs.declared.part.Part.{Part}
 use Rattle.wm_tree.specs.Look.{con_kind, has, kind_of}
 use Rattle.wm_tree.specs.Recency.{lists, without_id}
 use Rattle.wm_tree.specs.TreeValue.{TreeValue}
@@ -26,6 +32,36 @@ is_window t who v = owned_by who (kind_of con_kind v t.nodes)
 -- the open windows of the caller, the most recent first
 abbrev pub owned : ℕ → TreeValue → List ConId
 owned who t = filter (is_window t who) t.recency
+
+-- v is one of the ids of a map
+abbrev pub holds : List (ℕ × Unit {0}) → ConId → Bool
+holds ids v = is_some (lookup (is_at (nat_cmp v.0)) ids)
+
+-- how many windows there are
+abbrev pub window_part : Part → ℕ
+window_part p = windows p.kind
+
+abbrev pub window_count : TreeValue → ℕ
+window_count t = count window_part t.nodes
+
+-- how many ids stand before the first that is greater
+abbrev pub rank_of : ConId → List ConId → ℕ
+rank_of v [] = 0
+rank_of v (w ∷ ids) = if nat_lt v.0 w.0 then 0 else rank_of v ids + 1
+
+-- the ids with v before the first that is greater
+abbrev pub put_id : ConId → List ConId → List ConId
+put_id v [] = v ∷ []
+put_id v (w ∷ ids) = if nat_lt v.0 w.0 then v ∷ w ∷ ids else w ∷ put_id v ids
+
+-- the ids with others put among them, one after the other
+abbrev pub put_ids : List ConId → List ConId → List ConId
+put_ids [] ids = ids
+put_ids (v ∷ vs) ids = put_ids vs (put_id v ids)
+
+-- the open windows of the caller by rising id
+abbrev pub owned_in_order : ℕ → TreeValue → List ConId
+owned_in_order who t = put_ids (owned who t) []
 
 -- the tree with another title of the window v
 abbrev pub retitled : ConId → List ℕ → TreeValue → TreeValue

@@ -1,26 +1,22 @@
 //! Painting an arrangement: what each of its parts shows.
 ghost use Rattle.std.specs.Prelude.{◌≡◌, IfOk};
-ghost use Rattle.wm_core.specs.DeskValue.{buffer_in};
 ghost use Rattle.wm_core.specs.Frame.{quads, what_of, window_of};
+ghost use Rattle.wm_txn.specs.Machine.{shown_of};
 
 use std::alloc::{AllocError, Global};
-use std::collections::BTreeMap;
 use wm_arrange::{Placed, PlacedPart};
 use wm_base::Buffer;
 use wm_paint::{Quad, What};
+use wm_txn::Txn;
 
-/// The quads of an arrangement, each window's content with its buffer.
-pub fn painted(
-    alloc: Global,
-    parts: &[Placed],
-    buffers: &BTreeMap<u32, Buffer>,
-) -> Result<Vec<Quad>, AllocError>
-    ensures { IfOk result (λ v. v.items ≡ quads (buffer_in buffers.now.entries) parts.now) }
+/// The quads of the arrangement that is done, each window's content with the buffer that it shows.
+pub fn painted(alloc: Global, txn: &Txn) -> Result<Vec<Quad>, AllocError>
+    ensures { IfOk result (λ v. v.items ≡ quads (λ v. shown_of v txn.now) txn.now.current.parts) }
 {
     let mut quads = Vec::new(alloc);
-    let mut rest = parts;
+    let mut rest = txn.current().parts.items();
     while let [placed, after @ ..] = rest {
-        if let Some(what) = shown_by(buffers, placed)? {
+        if let Some(what) = shown_by(txn, placed)? {
             quads.push(Quad {
                 con: placed.con,
                 rect: placed.rect,
@@ -33,8 +29,8 @@ pub fn painted(
 }
 
 /// What a part of an arrangement shows.
-fn shown_by(buffers: &BTreeMap<u32, Buffer>, placed: &Placed) -> Result<Option<What>, AllocError>
-    ensures { IfOk result (λ what. what ≡ what_of placed.now.part (buffer_in buffers.now.entries placed.now.con)) }
+fn shown_by(txn: &Txn, placed: &Placed) -> Result<Option<What>, AllocError>
+    ensures { IfOk result (λ what. what ≡ what_of placed.now.part (shown_of placed.now.con txn.now)) }
 {
     match &placed.part {
         PlacedPart::Back => Ok(Some(What::Back)),
@@ -44,7 +40,7 @@ fn shown_by(buffers: &BTreeMap<u32, Buffer>, placed: &Placed) -> Result<Option<W
             text: text.clone()?,
         })),
         PlacedPart::Border { ink } => Ok(Some(What::Border { ink: *ink })),
-        PlacedPart::Content => Ok(window_of(buffers.get(&placed.con.0).copied())),
+        PlacedPart::Content => Ok(window_of(txn.shown(placed.con))),
     }
 }
 

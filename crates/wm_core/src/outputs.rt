@@ -1,7 +1,7 @@
 //! Outputs that come and go, and the edges that bars reserve of them.
 ghost use Rattle.std.specs.Prelude.{◌≡◌, ◌+◌, ◌<◌, ◌^◌, ◌∷◌, IfOk, OnOk, OnErr};
 ghost use Rattle.wm_core.specs.Act.{OutputAdd, OutputRemove, Reserve};
-ghost use Rattle.wm_core.specs.DeskValue.{Stands};
+ghost use Rattle.wm_core.specs.DeskValue.{judge_of, Stands};
 ghost use Rattle.wm_core.specs.History.{answer_to, History};
 ghost use Rattle.wm_spaces.specs.Names.{output_named};
 
@@ -17,7 +17,7 @@ impl Desk {
     /// Adds an output, where its name is free, its rectangle within the limits, and there is room for it.
     pub(crate) fn add_output(&mut self, who: u32, plan: &OutputPlan) -> Result<Answer, NoMemory>
         requires few { self.old.steps < 2 ^ 48 }
-        ensures answer { IfOk result (λ a. a ≡ answer_to self.old.plan.env.homes self.old.tree who (OutputAdd plan.now)) }
+        ensures answer { IfOk result (λ a. a ≡ answer_to self.old.plan.env.homes (judge_of self.old.txn) self.old.tree who (OutputAdd plan.now)) }
         ensures stands { (history : History) → Stands self.old history →
             OnOk result (Stands self.new (record { who = who; act = OutputAdd plan.now } ∷ history)) }
         ensures plan { self.new.plan ≡ self.old.plan }
@@ -32,7 +32,7 @@ impl Desk {
         }
         let mut tree = self.tree.copy()?;
         match output_added(self.alloc, &mut tree, plan) {
-            Ok(()) => self.finish(tree, &[]),
+            Ok(()) => self.finish(tree),
             Err(Refusal::Full { limit }) => Ok(self.stay(Answer::Full(limit))),
             Err(Refusal::NoMemory) => Err(NoMemory),
             Err(Refusal::NameTaken) => unreachable!(),
@@ -43,7 +43,7 @@ impl Desk {
     /// Removes the output of this name, where it is not the only one.
     pub(crate) fn remove_output(&mut self, who: u32, name: &Text) -> Result<Answer, NoMemory>
         requires few { self.old.steps < 2 ^ 48 }
-        ensures answer { IfOk result (λ a. a ≡ answer_to self.old.plan.env.homes self.old.tree who (OutputRemove name.now)) }
+        ensures answer { IfOk result (λ a. a ≡ answer_to self.old.plan.env.homes (judge_of self.old.txn) self.old.tree who (OutputRemove name.now)) }
         ensures stands { (history : History) → Stands self.old history →
             OnOk result (Stands self.new (record { who = who; act = OutputRemove name.now } ∷ history)) }
         ensures plan { self.new.plan ≡ self.old.plan }
@@ -52,7 +52,7 @@ impl Desk {
     {
         let mut tree = self.tree.copy()?;
         match output_removed(&mut tree, name) {
-            Ok(()) => self.finish(tree, &[]),
+            Ok(()) => self.finish(tree),
             Err(Refusal::NoTarget(_)) => Ok(self.stay(Answer::NoTarget)),
             Err(Refusal::NoMemory) => Err(NoMemory),
             Err(Refusal::NameTaken | Refusal::Full { .. }) => unreachable!(),
@@ -67,7 +67,7 @@ impl Desk {
         edges: Edges,
     ) -> Result<Answer, NoMemory>
         requires few { self.old.steps < 2 ^ 48 }
-        ensures answer { IfOk result (λ a. a ≡ answer_to self.old.plan.env.homes self.old.tree who (Reserve name.now edges)) }
+        ensures answer { IfOk result (λ a. a ≡ answer_to self.old.plan.env.homes (judge_of self.old.txn) self.old.tree who (Reserve name.now edges)) }
         ensures stands { (history : History) → Stands self.old history →
             OnOk result (Stands self.new (record { who = who; act = Reserve name.now edges } ∷ history)) }
         ensures plan { self.new.plan ≡ self.old.plan }
@@ -79,7 +79,7 @@ impl Desk {
         };
         let mut tree = self.tree.copy()?;
         tree.set_reserved(output, edges);
-        self.finish(tree, &[])
+        self.finish(tree)
     }
 }
 

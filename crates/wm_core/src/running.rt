@@ -1,14 +1,12 @@
 //! Running texts of commands.
-ghost use Rattle.std.specs.Prelude.{◌≡◌, ◌+◌, ◌<◌, ◌^◌, [], ◌∷◌, map, None, Option, IfOk, IsTrue, OnOk, OnErr};
+ghost use Rattle.std.specs.Prelude.{◌≡◌, ◌+◌, ◌<◌, ◌^◌, [], ◌∷◌, map, false, None, IfOk, IsTrue, OnOk, OnErr};
 ghost use Rattle.wm_apply.specs.Batches.{outcome};
-ghost use Rattle.wm_base.specs.declared.ids.Buffer.{Buffer};
-ghost use Rattle.wm_base.specs.declared.ids.ConId.{ConId};
 ghost use Rattle.wm_core.specs.Act.{Run};
 ghost use Rattle.wm_core.specs.DeskValue.{Stands};
-ghost use Rattle.wm_core.specs.Frame.{buffer_after};
-ghost use Rattle.wm_core.specs.History.{reply_to, tree_after, verdict_replies, verdict_tree, Entry, History};
+ghost use Rattle.wm_core.specs.History.{beside, left, nothing, reply_to, said, tree_after, verdict_replies, verdict_tree, Entry, History};
 ghost use Rattle.wm_core.specs.declared.step.Answer.TheVariants.{Replies};
 ghost use Rattle.wm_criteria.specs.Prepared.{is_built};
+ghost use Rattle.wm_txn.specs.History as commits;
 
 use crate::desk::Desk;
 use crate::replies::replies_to;
@@ -44,7 +42,9 @@ impl Desk {
         ensures answer { IfOk result (λ a. a ≡ Replies (map reply_to (outcome self.old.plan.env.homes text.now.verdict None self.old.tree).replies)) }
         ensures stands { (history : History) → (entry : Entry) →
             verdict_tree self.old.plan.env.homes text.now.verdict self.old.tree ≡ tree_after self.old.plan.env.homes self.old.tree entry.who entry.act →
-            ((v : ConId) → (b : Option Buffer) → buffer_after self.old.tree entry.act v b ≡ b) →
+            said self.old.plan.env.homes self.old.tree entry.who entry.act ≡ left self.old.tree (verdict_tree self.old.plan.env.homes text.now.verdict self.old.tree) None →
+            beside self.old.plan.env.homes self.old.tree entry.act
+            ≡ record { stops = (outcome self.old.plan.env.homes text.now.verdict None self.old.tree).exit; asked = (outcome self.old.plan.env.homes text.now.verdict None self.old.tree).kills } →
             Stands self.old history → OnOk result (Stands self.new (entry ∷ history)) }
         ensures plan { self.new.plan ≡ self.old.plan }
         ensures count { OnOk result (self.new.steps ≡ self.old.steps + 1) }
@@ -52,7 +52,7 @@ impl Desk {
     {
         let (tree, applied) = run(self.alloc, &self.tree, &self.plan.env, text, None)?;
         let replies = replies_to(self.alloc, applied.replies.items())?;
-        self.commit(tree, None, &[])?;
+        self.commit(tree, None, applied.exit, applied.kills.items())?;
         Ok(Answer::Replies(List::of(replies)))
     }
 
@@ -62,7 +62,8 @@ impl Desk {
         ensures answer { IfOk result (λ a. a ≡ Replies (reply ∷ [])) }
         ensures stands { (history : History) → (entry : Entry) →
             self.old.tree ≡ tree_after self.old.plan.env.homes self.old.tree entry.who entry.act →
-            ((v : ConId) → (b : Option Buffer) → buffer_after self.old.tree entry.act v b ≡ b) →
+            said self.old.plan.env.homes self.old.tree entry.who entry.act ≡ commits.Still →
+            beside self.old.plan.env.homes self.old.tree entry.act ≡ nothing →
             Stands self.old history → OnOk result (Stands self.new (entry ∷ history)) }
         ensures plan { self.new.plan ≡ self.old.plan }
         ensures count { OnOk result (self.new.steps ≡ self.old.steps + 1) }

@@ -1,4 +1,5 @@
 //! Steps that callers take, and their answers.
+use crate::client::ClientStep;
 use wm_base::{Buffer, ConId, Edges, Limit, List, OutputPlan, Props, Str, Text};
 use wm_criteria::Prepared;
 use wm_json::Reply;
@@ -30,6 +31,8 @@ pub enum Step {
     },
     /// Closes all windows of the caller.
     Gone,
+    /// Acknowledges a configure or gives a buffer, or says that a time is over.
+    Client(ClientStep),
     /// Presses a chord, which runs the text of the current mode among these.
     Key {
         chord: Text,
@@ -73,6 +76,8 @@ pub enum Answer {
     NoView,
     /// A side of the buffer is 0.
     Empty,
+    /// The serial is not one that is due, or is not above the one that the window acknowledged last.
+    BadSerial { asked: u64, last: u64 },
     /// This limit would be passed.
     Full(Limit),
     /// An output has the name already.

@@ -2,7 +2,7 @@
 ghost use Rattle.std.specs.Prelude.{◌≡◌, ◌≢◌, ◌+◌, ◌<◌, ◌^◌, ◌∷◌, true, None, IfOk, OnOk, OnErr, filter, if◌then◌else◌};
 ghost use Rattle.std.specs.Bool.{OnTrue};
 ghost use Rattle.wm_core.specs.Act.{Close, Gone, Retitle, Urgent};
-ghost use Rattle.wm_core.specs.DeskValue.{Stands};
+ghost use Rattle.wm_core.specs.DeskValue.{judge_of, Stands};
 ghost use Rattle.wm_core.specs.History.{answer_to, History};
 ghost use Rattle.wm_core.specs.Windows.{AreContainers, is_owned, is_window, owned, with_urgent, without_urgent, without_windows};
 ghost use Rattle.wm_tree.specs.Look.{con_kind, has, kind_of};
@@ -19,7 +19,7 @@ impl Desk {
     /// Closes the caller's window.
     pub(crate) fn close(&mut self, who: u32, con: ConId) -> Result<Answer, NoMemory>
         requires few { self.old.steps < 2 ^ 48 }
-        ensures answer { IfOk result (λ a. a ≡ answer_to self.old.plan.env.homes self.old.tree who (Close con)) }
+        ensures answer { IfOk result (λ a. a ≡ answer_to self.old.plan.env.homes (judge_of self.old.txn) self.old.tree who (Close con)) }
         ensures stands { (history : History) → Stands self.old history →
             OnOk result (Stands self.new (record { who = who; act = Close con } ∷ history)) }
         ensures plan { self.new.plan ≡ self.old.plan }
@@ -31,13 +31,13 @@ impl Desk {
         }
         let mut tree = self.tree.copy()?;
         detach_all(&mut tree, &[con]);
-        self.finish(tree, &[con])
+        self.finish(tree)
     }
 
     /// Closes all windows of the caller.
     pub(crate) fn gone(&mut self, who: u32) -> Result<Answer, NoMemory>
         requires few { self.old.steps < 2 ^ 48 }
-        ensures answer { IfOk result (λ a. a ≡ answer_to self.old.plan.env.homes self.old.tree who (Gone)) }
+        ensures answer { IfOk result (λ a. a ≡ answer_to self.old.plan.env.homes (judge_of self.old.txn) self.old.tree who (Gone)) }
         ensures stands { (history : History) → Stands self.old history →
             OnOk result (Stands self.new (record { who = who; act = Gone } ∷ history)) }
         ensures plan { self.new.plan ≡ self.old.plan }
@@ -47,13 +47,13 @@ impl Desk {
         let windows = owned(self.alloc, &self.tree, who)?;
         let mut tree = self.tree.copy()?;
         detach_all(&mut tree, &windows);
-        self.finish(tree, &windows)
+        self.finish(tree)
     }
 
     /// Gives the caller's window another title.
     pub(crate) fn retitle(&mut self, who: u32, con: ConId, title: &Text) -> Result<Answer, NoMemory>
         requires few { self.old.steps < 2 ^ 48 }
-        ensures answer { IfOk result (λ a. a ≡ answer_to self.old.plan.env.homes self.old.tree who (Retitle con title.now)) }
+        ensures answer { IfOk result (λ a. a ≡ answer_to self.old.plan.env.homes (judge_of self.old.txn) self.old.tree who (Retitle con title.now)) }
         ensures stands { (history : History) → Stands self.old history →
             OnOk result (Stands self.new (record { who = who; act = Retitle con title.now } ∷ history)) }
         ensures plan { self.new.plan ≡ self.old.plan }
@@ -65,13 +65,13 @@ impl Desk {
         }
         let mut tree = self.tree.copy()?;
         tree.set_title(con, title.clone()?);
-        self.finish(tree, &[])
+        self.finish(tree)
     }
 
     /// Says whether the caller's window is urgent.
     pub(crate) fn urgent(&mut self, who: u32, con: ConId, on: bool) -> Result<Answer, NoMemory>
         requires few { self.old.steps < 2 ^ 48 }
-        ensures answer { IfOk result (λ a. a ≡ answer_to self.old.plan.env.homes self.old.tree who (Urgent con on)) }
+        ensures answer { IfOk result (λ a. a ≡ answer_to self.old.plan.env.homes (judge_of self.old.txn) self.old.tree who (Urgent con on)) }
         ensures stands { (history : History) → Stands self.old history →
             OnOk result (Stands self.new (record { who = who; act = Urgent con on } ∷ history)) }
         ensures plan { self.new.plan ≡ self.old.plan }
@@ -83,12 +83,12 @@ impl Desk {
         }
         let mut tree = self.tree.copy()?;
         set_urgent(&mut tree, con, on)?;
-        self.finish(tree, &[])
+        self.finish(tree)
     }
 }
 
 /// Whether this is an open window of the caller.
-fn is_window(tree: &Tree, who: u32, con: ConId) -> bool
+pub(crate) fn is_window(tree: &Tree, who: u32, con: ConId) -> bool
     ensures value { result ≡ is_window tree.now who con }
     ensures there { OnTrue result ((has con tree.now.nodes ≡ true) × (kind_of con_kind con tree.now.nodes ≢ None)) }
 {
@@ -109,7 +109,7 @@ fn is_owned(who: u32, kind: &ConKind) -> bool
 }
 
 /// The open windows of the caller, the most recent first.
-fn owned(alloc: Global, tree: &Tree, who: u32) -> Result<Vec<ConId>, AllocError>
+pub(crate) fn owned(alloc: Global, tree: &Tree, who: u32) -> Result<Vec<ConId>, AllocError>
     ensures { IfOk result (λ windows. windows.items ≡ owned who tree.now) }
 {
     let mut windows = Vec::new(alloc);

@@ -3,3 +3,5 @@ pub mod FullLemmas
 pub mod LeafLemmas
 pub mod MovedLemmas
 pub mod PlaceLemmas
+pub mod RiseLemmas
+pub mod RoundLemmas

@@ -66,6 +66,16 @@ fn full_in(row: Cursor<'_>, w: ConId, con: ConId) -> Option<ConId>
     full_in(row.rest(), w, con)
 }
 
+/// Whether no container of this one's workspace but it is fullscreen.
+pub fn fills_alone(t: &Tree, con: ConId) -> bool
+    ensures { result ≡ fills_alone con (workspace_of t.now con) t.now }
+{
+    match t.workspace_of(con) {
+        Some(w) => full_in(t.nodes(), w, con).is_none(),
+        None => true,
+    }
+}
+
 /// Takes fullscreen from the other containers of the workspace.
 fn clear_others(t: &mut Tree, con: ConId, w: ConId)
     requires { IsSound t.old }

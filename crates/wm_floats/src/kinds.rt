@@ -1,6 +1,7 @@
 //! The most recent tiled or floating container of a workspace.
 ghost use Rattle.std.specs.Prelude.{◌≡◌, None, Some, OnOk, OnErr, IfErr};
 ghost use Rattle.wm_floats.specs.Kinds.{first_of, focus_kind_refusal, focus_kind_tree, is_of, is_flagged_state, is_of_space, kind_by, latest};
+ghost use Rattle.wm_floats.specs.declared.kinds.Kind.TheVariants as kinds;
 ghost use Rattle.wm_floats.specs.Windows.{state_of};
 ghost use Rattle.wm_tree.specs.TreeValue.{workspace_of};
 ghost use Rattle.wm_showing.specs.Subject.{IsSubject};
@@ -39,6 +40,13 @@ fn is_of(t: &Tree, kind: Kind, con: ConId) -> bool
         Kind::Floating => t.container(con).is_some() && !t.is_tiled(con),
         Kind::Flagged => t.container(con).is_some() && !t.is_tiled(con) && is_flagged(t, con),
     }
+}
+
+/// Whether it is a container that is not tiled: a floating window, or one of the scratchpad.
+pub fn is_floating(t: &Tree, con: ConId) -> bool
+    ensures { result ≡ is_of kinds.Floating t.now con }
+{
+    is_of(t, Kind::Floating, con)
 }
 
 /// Whether it is a container of this kind in the workspace.

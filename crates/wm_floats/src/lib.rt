@@ -7,18 +7,22 @@ mod kinds;
 mod laws;
 mod places;
 mod placing;
+mod rounds;
 mod scratchpad;
 mod sticking;
 #[cfg(test)]
 mod tests;
 #[cfg(test)]
 mod tests_floating;
+#[cfg(test)]
+mod tests_rounds;
 mod windows;
 
 pub use floating::{float, sink};
-pub use full::fullscreen;
-pub use kinds::focus_kind;
+pub use full::{fills_alone, fullscreen};
+pub use kinds::{focus_kind, is_floating};
 pub use laws::floats_as_before;
 pub use placing::{centre, move_by, place_at};
+pub use rounds::{focus_round, shift};
 pub use scratchpad::{show_scratchpad, to_scratchpad};
 pub use sticking::stick;

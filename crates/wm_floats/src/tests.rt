@@ -79,7 +79,7 @@ fn window(alloc: Global) -> Result<NewCon, Fail> {
 }
 
 /// A window at the place.
-fn put(tree: &mut Tree, alloc: Global, at: Place) -> Result<(), Fail>
+pub fn put(tree: &mut Tree, alloc: Global, at: Place) -> Result<(), Fail>
     requires sound { IsSound tree.old }
     requires place { IsPlace at tree.old.nodes }
     ensures { IsSound tree.new }

@@ -1,9 +1,12 @@
 -- Focusing in a direction.
-use Rattle.std.specs.Prelude.{◌≡◌, Bool, true, ◌&&◌, not, if◌then◌else◌, Option, None, Some, is_none, option_and_then}
+use Rattle.std.specs.Prelude.{◌≡◌, true, if◌then◌else◌, Option, None, Some, is_none}
 use Rattle.wm_base.specs.declared.errors.ErrorText.TheVariants as texts
 use Rattle.wm_base.specs.declared.errors.Refusal.{Refusal}
 use Rattle.wm_base.specs.declared.geometry.Dir.{Dir}
 use Rattle.wm_base.specs.declared.ids.ConId.{ConId}
+use Rattle.wm_floats.specs.declared.kinds.Kind.TheVariants as kinds
+use Rattle.wm_floats.specs.Kinds.{is_of}
+use Rattle.wm_floats.specs.Rounds.{focus_round_refusal, focus_round_tree}
 use Rattle.wm_focus.specs.declared.direction.Goal.{Goal}
 use Rattle.wm_focus.specs.declared.direction.Goal.TheVariants as goals
 use Rattle.wm_focus.specs.declared.rungs.Aim.TheVariants.{Around, Beside}
@@ -11,9 +14,9 @@ use Rattle.wm_focus.specs.Rungs.{nearest}
 use Rattle.wm_showing.specs.Outputs.{output_from}
 use Rattle.wm_showing.specs.Refusing.{error_if}
 use Rattle.wm_showing.specs.Showing.{focusing, output_focused}
-use Rattle.wm_showing.specs.Subject.{is_container, is_hidden}
+use Rattle.wm_showing.specs.Subject.{is_hidden}
 use Rattle.wm_tree.specs.Look.{first_kids, in_row}
-use Rattle.wm_tree.specs.TreeValue.{TreeValue, is_tiled_con, leaf}
+use Rattle.wm_tree.specs.TreeValue.{TreeValue, leaf}
 
 abbrev pub round_goal : Option ConId → Option Goal
 round_goal None = None
@@ -39,15 +42,12 @@ IsListed None t = Unit {0}
 IsListed (Some (goals.Node n)) t = Unit {0}
 IsListed (Some (goals.Output o)) t = in_row o (first_kids t.nodes) ≡ true
 
--- a window that floats on a workspace
-abbrev pub is_floating : TreeValue → ConId → Bool
-is_floating t c = is_container t c && not (is_tiled_con t c)
-
--- one in the scratchpad has no workspace; what is done from a floating window is not built; and where there is nothing
--- to go to nothing is focused
+-- one in the scratchpad has no workspace; and where there is nothing to go to, or no other floating window, nothing is
+-- focused
 abbrev pub focus_dir_refusal : ConId → Dir → TreeValue → Option Refusal
 focus_dir_refusal c d t =
-    error_if (is_hidden t c) texts.NoWorkspace (error_if (is_floating t c) texts.NotBuilt (error_if (is_none (goal_of d c t)) texts.NoNeighbour None))
+    if is_of kinds.Floating t c then focus_round_refusal c d t
+    else error_if (is_hidden t c) texts.NoWorkspace (error_if (is_none (goal_of d c t)) texts.NoNeighbour None)
 
 -- the container is focused, where there is one
 abbrev pub focusing_some : Option ConId → TreeValue → TreeValue
@@ -60,5 +60,6 @@ gone_to None t = t
 gone_to (Some (goals.Node n)) t = focusing_some (leaf t n) t
 gone_to (Some (goals.Output o)) t = output_focused o t
 
+-- from a floating window the next one by id is focused
 abbrev pub focus_dir_tree : ConId → Dir → TreeValue → TreeValue
-focus_dir_tree c d t = gone_to (goal_of d c t) t
+focus_dir_tree c d t = if is_of kinds.Floating t c then focus_round_tree c d t else gone_to (goal_of d c t) t

@@ -1,10 +1,11 @@
 -- Moving a container in a direction.
-use Rattle.std.specs.Prelude.{◌≡◌, ℕ, Bool, true, false, not, if◌then◌else◌, Option, None, Some, option_and_then}
+use Rattle.std.specs.Prelude.{◌≡◌, ℕ, Bool, true, false, if◌then◌else◌, Option, None, Some, option_and_then}
 use Rattle.wm_base.specs.declared.errors.ErrorText.TheVariants as texts
 use Rattle.wm_base.specs.declared.errors.Refusal.{Refusal}
 use Rattle.wm_base.specs.declared.errors.Refusal.TheVariants.{NoTarget}
 use Rattle.wm_base.specs.declared.geometry.Dir.{Dir}
 use Rattle.wm_base.specs.declared.ids.ConId.{ConId}
+use Rattle.wm_floats.specs.Rounds.{shift_refusal, shift_tree}
 use Rattle.wm_focus.specs.declared.rungs.Aim.TheVariants.{Beside, Out}
 use Rattle.wm_showing.specs.Outputs.{output_from}
 use Rattle.wm_showing.specs.Refusing.{error_if, full_error}
@@ -103,12 +104,12 @@ abbrev pub step_refusal : Dir → ConId → Option ConId → TreeValue → Optio
 step_refusal d c None t = out_refusal d c (held_out d c t) t
 step_refusal d c (Some n) t = if is_split_con t n then full_error (passed_by_move c (entry d n t) t.nodes) else deep_error (is_too_deep c n t.nodes)
 
--- one in the scratchpad has no workspace, a workspace does not move, and what a floating window does is not built; no
--- limit is passed, and there is a neighbour, a node above or an output to go to
+-- one in the scratchpad has no workspace, and a workspace does not move; no limit is passed, and there is a neighbour, a
+-- node above or an output to go to; a floating window stays within the range of places
 abbrev pub move_dir_refusal : ConId → Dir → ℕ → TreeValue → Option Refusal
 move_dir_refusal c d px t =
     error_if (is_hidden t c) texts.NoWorkspace (error_if (is_space t c) texts.AtWorkspace
-    (error_if (not (is_tiled_con t c)) texts.NotBuilt (step_refusal d c (beside d c t) t)))
+    (if is_tiled_con t c then step_refusal d c (beside d c t) t else shift_refusal c d px t))
 
 -- at the near end of that workspace, whose output becomes the current one
 abbrev pub over_tree : Dir → ConId → Option ConId → TreeValue → TreeValue
@@ -124,6 +125,6 @@ step_tree d c None t = out_tree d c (held_out d c t) t
 step_tree d c (Some n) t = if is_split_con t n then moved c (entry d n t) t else turned c n t
 
 -- c changes places with a window or placeholder beside it, goes into a split beside it, out of its parent, or to the
--- output in that direction
+-- output in that direction; a floating window goes so many pixels
 abbrev pub move_dir_tree : ConId → Dir → ℕ → TreeValue → TreeValue
-move_dir_tree c d px t = step_tree d c (beside d c t) t
+move_dir_tree c d px t = if is_tiled_con t c then step_tree d c (beside d c t) t else shift_tree c d px t

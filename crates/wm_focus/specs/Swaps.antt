@@ -11,13 +11,14 @@ use Rattle.wm_showing.specs.Refusing.{error_if, full_error}
 use Rattle.wm_showing.specs.Subject.{is_hidden, is_space}
 use Rattle.wm_grammar.specs.declared.arguments.SwapArg.{SwapArg}
 use Rattle.wm_grammar.specs.declared.arguments.SwapArg.TheVariants as swaps
+use Rattle.wm_spaces.specs.Sending.{sent_some, sent_some_refusal}
 use Rattle.wm_tree.specs.declared.part.ConKind.{ConKind}
 use Rattle.wm_tree.specs.declared.part.ConKind.TheVariants.{Split, Window, Placeholder}
 use Rattle.wm_tree.specs.declared.part.ConPart.{ConPart}
 use Rattle.wm_tree.specs.declared.place.Place.TheVariants.{After}
 use Rattle.wm_tree.specs.Look.{con_kind, has, kind_of, only}
 use Rattle.wm_tree.specs.Move.{exchanged, is_too_deep, moved, passed_by_move}
-use Rattle.wm_tree.specs.TreeValue.{TreeValue, id, is_tiled_con}
+use Rattle.wm_tree.specs.TreeValue.{TreeValue, id, is_tiled_con, workspace_of}
 
 -- ---- whom the command names
 
@@ -76,22 +77,22 @@ swap_tree c arg t = exchanged_with c (partner arg t) t
 
 -- ---- moving
 
--- the marked one is not part of the other, is tiled, and there is room beside it
+-- the marked one is not part of the other, is tiled, and there is room beside it, or for a floating window in its workspace
 abbrev pub beside_refusal : ConId → Option ConId → TreeValue → Option Refusal
 beside_refusal c None t = Some (NoTarget texts.NoMark)
 beside_refusal c (Some m) t =
     error_if (has m (only c t.nodes)) texts.SameContainer (error_if (not (is_tiled_con t m)) texts.NotTiled
-    (error_if (not (is_tiled_con t c)) texts.NotBuilt (full_error (passed_by_move c (After m) t.nodes))))
+    (if is_tiled_con t c then full_error (passed_by_move c (After m) t.nodes) else sent_some_refusal (workspace_of t m) c t))
 
--- one in the scratchpad has no workspace, and a workspace moves beside none; what a floating window does is not built
+-- one in the scratchpad has no workspace, and a workspace moves beside none
 abbrev pub move_to_mark_refusal : ConId → List ℕ → TreeValue → Option Refusal
 move_to_mark_refusal c name t =
     error_if (is_hidden t c) texts.NoWorkspace (error_if (is_space t c) texts.AtWorkspace (beside_refusal c (holder_of name t) t))
 
 abbrev pub moved_after : ConId → Option ConId → TreeValue → TreeValue
 moved_after c None t = t
-moved_after c (Some m) t = moved c (After m) t
+moved_after c (Some m) t = if is_tiled_con t c then moved c (After m) t else sent_some (workspace_of t m) c t
 
--- the container is put after the marked one
+-- the container is put after the marked one; a floating window is sent to the workspace of that one
 abbrev pub move_to_mark_tree : ConId → List ℕ → TreeValue → TreeValue
 move_to_mark_tree c name t = moved_after c (holder_of name t) t

@@ -1,6 +1,6 @@
 //! Focusing in a direction.
 ghost use Rattle.std.specs.Prelude.{◌≡◌, true, None, Some, OnOk, OnErr, IfErr, IfOk};
-ghost use Rattle.wm_focus.specs.Direction.{IsListed, focus_dir_refusal, focus_dir_tree, focusing_some, goal_of, gone_to, is_floating};
+ghost use Rattle.wm_focus.specs.Direction.{IsListed, focus_dir_refusal, focus_dir_tree, focusing_some, goal_of, gone_to};
 ghost use Rattle.wm_showing.specs.Refusing.{IsCause};
 ghost use Rattle.wm_showing.specs.Subject.{IsSubject};
 ghost use Rattle.wm_tree.specs.Sound.{IsSound};
@@ -8,6 +8,7 @@ ghost use Rattle.wm_tree.specs.TreeValue.{leaf};
 
 use crate::rungs::{Aim, nearest};
 use wm_base::{ConId, Dir, ErrorText, NoMemory, Refusal};
+use wm_floats::{focus_round, is_floating};
 use wm_showing::{enter_output, focus, is_hidden, output_from};
 use wm_tree::Tree;
 
@@ -19,8 +20,8 @@ pub enum Goal {
 }
 
 /// Focuses the neighbour in a direction of the container or of the nearest node above it that has one there; else the
-/// output in that direction becomes the current one; else it goes round to the other end. What is done from a floating
-/// window is not built yet.
+/// output in that direction becomes the current one; else it goes round to the other end. From a floating window the
+/// next one by id is focused, or the one before it, round both ends.
 pub fn focus_dir(t: &mut Tree, from: ConId, d: Dir) -> Result<(), Refusal>
     requires { IsSubject t.old from }
     ensures tree { OnOk result (t.new ≡ focus_dir_tree from d t.old) }
@@ -29,11 +30,11 @@ pub fn focus_dir(t: &mut Tree, from: ConId, d: Dir) -> Result<(), Refusal>
     ensures cause { IfErr result (IsCause (focus_dir_refusal from d t.old)) }
     ensures sound { IsSound t.new }
 {
+    if is_floating(t, from) {
+        return focus_round(t, from, d);
+    }
     if is_hidden(t, from) {
         return Err(Refusal::NoTarget(ErrorText::NoWorkspace));
-    }
-    if is_floating(t, from) {
-        return Err(Refusal::NoTarget(ErrorText::NotBuilt));
     }
     let Some(goal) = find_goal(t, from, d) else {
         return Err(Refusal::NoTarget(ErrorText::NoNeighbour));
@@ -42,13 +43,6 @@ pub fn focus_dir(t: &mut Tree, from: ConId, d: Dir) -> Result<(), Refusal>
         Ok(()) => Ok(()),
         Err(NoMemory) => Err(Refusal::NoMemory),
     }
-}
-
-/// Whether it is a container that floats on a workspace, or is in the scratchpad.
-pub(crate) fn is_floating(t: &Tree, con: ConId) -> bool
-    ensures { result ≡ is_floating t.now con }
-{
-    t.container(con).is_some() && !t.is_tiled(con)
 }
 
 /// Where to go from the container.

@@ -12,14 +12,15 @@ ghost use Rattle.wm_tree.specs.TreeValue.{is_tiled_con};
 
 use crate::rungs::{Aim, aimed, is_forward, nearest, runs_con};
 use wm_base::{ConId, Dir, ErrorText, Refusal};
+use wm_floats::shift;
 use wm_showing::{
     enter, is_hidden, is_space, output_from, refused, remember, shown_on, space_name,
 };
 use wm_tree::{ConKind, Cursor, Place, Tree};
 
 /// Moves the container in a direction: past a window or placeholder beside it, into a split beside it, out of its
-/// parent, or to what the output in that direction shows. What the command does to a floating window, which it shifts
-/// by `px` pixels, is not built yet. It may leave a split without children, which settling removes.
+/// parent, or to what the output in that direction shows. A floating window is shifted by `px` pixels. It may leave a
+/// split without children, which settling removes.
 pub fn move_dir(t: &mut Tree, con: ConId, d: Dir, px: u32) -> Result<(), Refusal>
     requires { IsSubject t.old con }
     ensures tree { OnOk result (t.new ≡ move_dir_tree con d px t.old) }
@@ -35,7 +36,7 @@ pub fn move_dir(t: &mut Tree, con: ConId, d: Dir, px: u32) -> Result<(), Refusal
         return Err(Refusal::NoTarget(ErrorText::AtWorkspace));
     }
     if !t.is_tiled(con) {
-        return Err(Refusal::NoTarget(ErrorText::NotBuilt));
+        return shift(t, con, d, px);
     }
     match beside(t, con, d) {
         Some(next) => pass(t, con, next, d),

@@ -1,16 +1,19 @@
 //! Exchanging the places of two containers, and moving one after another.
-ghost use Rattle.std.specs.Prelude.{◌≡◌, ◌&&◌, ◌||◌, Some, None, OnOk, OnErr, IfErr, false, true};
+ghost use Rattle.std.specs.Prelude.{◌≡◌, ◌≢◌, ◌&&◌, ◌||◌, Some, None, OnOk, OnErr, IfErr, false, true};
 ghost use Rattle.wm_showing.specs.Refusing.{IsCause};
 ghost use Rattle.wm_showing.specs.Subject.{IsSubject};
 ghost use Rattle.wm_focus.specs.Swaps.{beside_refusal, exchange_refusal, exchanged_with, is_part, is_window_kind, moved_after, move_to_mark_refusal, move_to_mark_tree, partner, partner_text, swap_refusal, swap_tree};
-ghost use Rattle.wm_tree.specs.Look.{has, only};
+ghost use Rattle.wm_spaces.specs.Sending.{sent_some, sent_some_refusal};
+ghost use Rattle.wm_tree.specs.Look.{con_kind, has, kind_of, only};
 ghost use Rattle.wm_tree.specs.Sound.{IsSound};
+ghost use Rattle.wm_tree.specs.TreeValue.{workspace_of};
 
 use crate::marks::marked;
 use crate::within::is_within;
 use wm_base::{ConId, ErrorText, Refusal, Text};
 use wm_grammar::SwapArg;
 use wm_showing::{is_hidden, is_space, refused};
+use wm_spaces::send;
 use wm_tree::{ConKind, Place, Tree};
 
 /// The container that the command names.
@@ -91,8 +94,8 @@ fn exchange(t: &mut Tree, con: ConId, other: ConId) -> Result<(), Refusal>
     }
 }
 
-/// Puts the container after the one that has the mark. What the command does to a floating window is not built yet. It
-/// may leave a split without children, which settling removes.
+/// Puts the container after the one that has the mark; a floating window is sent to the workspace of that one. It may
+/// leave a split without children, which settling removes.
 pub fn move_to_mark(t: &mut Tree, con: ConId, name: &Text) -> Result<(), Refusal>
     requires { IsSubject t.old con }
     ensures tree { OnOk result (t.new ≡ move_to_mark_tree con name.now t.old) }
@@ -113,8 +116,10 @@ pub fn move_to_mark(t: &mut Tree, con: ConId, name: &Text) -> Result<(), Refusal
     }
 }
 
-/// Puts the container after another one.
+/// Puts the container after another one, or sends a floating window to its workspace.
 fn move_after(t: &mut Tree, con: ConId, other: ConId) -> Result<(), Refusal>
+    requires sound { IsSound t.old }
+    requires con { kind_of con_kind con t.old.nodes ≢ None }
     ensures tree { OnOk result (t.new ≡ moved_after con (Some other) t.old) }
     ensures fine { OnOk result (beside_refusal con (Some other) t.old ≡ None) }
     ensures err { OnErr result (t.new ≡ t.old) }
@@ -128,10 +133,26 @@ fn move_after(t: &mut Tree, con: ConId, other: ConId) -> Result<(), Refusal>
         return Err(Refusal::NoTarget(ErrorText::NotTiled));
     }
     if !t.is_tiled(con) {
-        return Err(Refusal::NoTarget(ErrorText::NotBuilt));
+        return send_beside(t, con, other);
     }
     match t.move_to(con, Place::After(other)) {
         Ok(()) => Ok(()),
         Err(error) => Err(refused(error)),
+    }
+}
+
+/// Sends the container to the workspace of another one.
+fn send_beside(t: &mut Tree, con: ConId, other: ConId) -> Result<(), Refusal>
+    requires sound { IsSound t.old }
+    requires con { kind_of con_kind con t.old.nodes ≢ None }
+    ensures tree { OnOk result (t.new ≡ sent_some (workspace_of t.old other) con t.old) }
+    ensures fine { OnOk result (sent_some_refusal (workspace_of t.old other) con t.old ≡ None) }
+    ensures err { OnErr result (t.new ≡ t.old) }
+    ensures cause { IfErr result (λ e. sent_some_refusal (workspace_of t.old other) con t.old ≡ Some e) }
+    ensures sound { IsSound t.new }
+{
+    match t.workspace_of(other) {
+        Some(w) => send(t, con, w),
+        None => Ok(()),
     }
 }

@@ -27,7 +27,7 @@ fn directions(rt: HostRuntime) -> Result<(), Fail> {
     for (from, d, text) in [
         (4, Dir::Up, ErrorText::NoNeighbour),
         (3, Dir::Left, ErrorText::NoNeighbour),
-        (12, Dir::Left, ErrorText::NotBuilt),
+        (12, Dir::Left, ErrorText::NoNeighbour),
         (13, Dir::Left, ErrorText::NoWorkspace),
     ] {
         expect_subject(&rt, &tree, from);

@@ -54,10 +54,10 @@ fn moves(rt: HostRuntime) -> Result<(), Fail> {
     assert_eq!(rt; go(&rt, &mut tree, 4, Dir::Right), Ok(()));
     assert_eq!(rt; go(&rt, &mut tree, 6, Dir::Left), Ok(()));
     expect_kids(&rt, &tree, &[(3, &[7]), (7, &[4, 11, 5, 9, 6])]);
+    assert_eq!(rt; go(&rt, &mut tree, 12, Dir::Left), Ok(()));
     for (con, d, text) in [
         (13, Dir::Left, ErrorText::NoWorkspace),
         (3, Dir::Left, ErrorText::AtWorkspace),
-        (12, Dir::Left, ErrorText::NotBuilt),
         (7, Dir::Left, ErrorText::NoNeighbour),
         (8, Dir::Down, ErrorText::NoNeighbour),
     ] {

@@ -74,13 +74,15 @@ fn moves_after_marks(rt: HostRuntime) -> Result<(), Fail> {
         (3, 5, ErrorText::AtWorkspace),
         (7, 8, ErrorText::SameContainer),
         (4, 12, ErrorText::NotTiled),
-        (12, 4, ErrorText::NotBuilt),
+        (12, 12, ErrorText::SameContainer),
+        (12, 13, ErrorText::NotTiled),
     ] {
         assert_eq!(rt;
             move_after(&rt, alloc, &mut tree, con, other)?,
             no_target(text)
         );
     }
+    assert_eq!(rt; move_after(&rt, alloc, &mut tree, 12, 4)?, Ok(()));
     assert_eq!(rt; move_after(&rt, alloc, &mut tree, 6, 8)?, Ok(()));
     assert_eq!(rt; move_after(&rt, alloc, &mut tree, 9, 4)?, Ok(()));
     expect_kids(

@@ -11,6 +11,7 @@ use Rattle.wm_focus.proofs.RungLemmas.{first_aimed-append, holder_is}
 use Rattle.wm_focus.proofs.SubjectLemmas.{tiled_is}
 use Rattle.wm_focus.proofs.MoveGoals.{chained}
 use Rattle.wm_focus.proofs.TurnLemmas.{heads, heads_only}
+use Rattle.wm_floats.specs.Rounds.{focus_round_tree}
 use Rattle.wm_focus.specs.declared.direction.Goal.TheVariants.{Node}
 use Rattle.wm_focus.specs.Direction.{first_goal, focus_dir_tree, focusing_some, goal_of, gone_to}
 use Rattle.wm_laws.specs.Focusing.{ChildKeeps, DifferInFocus, DirectionKeeps, ParentKeeps}
@@ -216,8 +217,8 @@ goal_tiled d c g t s h = step (nearest Beside d c t.nodes) (output_from d c t) (
   step None None None e f h = cc
 
 pub direction_keeps : DirectionKeeps
-direction_keeps c n x d t s h l same_shown =
-    let new : focus_dir_tree c d t ≡ with_raised x t = ap (λ g. gone_to g t) h ∙ (ap (λ o. focusing_some o t) l ∙ ap (with_raised x) same_shown) in
+direction_keeps c n x d t s own h l same_shown =
+    let new : focus_dir_tree c d t ≡ with_raised x t = ap (λ b. cond b (focus_round_tree c d t) (gone_to (goal_of d c t) t)) own ∙ ap (λ g. gone_to g t) h ∙ (ap (λ o. focusing_some o t) l ∙ ap (with_raised x) same_shown) in
     let stands = leaf_stands n x t s (goal_tiled d c n t s h) l in
     rw new (raise_differs x t s (inl stands))
 

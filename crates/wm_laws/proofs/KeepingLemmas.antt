@@ -1,15 +1,21 @@
 -- A command that leaves the order of recency as it was keeps each workspace and container.
 use Rattle.std.proofs.Common.{◌≡◌, ℕ, Bool, true, false, cond, List, Option, None, Some, Result, Ok, Err, OnOk, OnErr, refl, ap, sym, ◌∙◌}
 use Rattle.wm_base.specs.declared.errors.Refusal.{Refusal}
+use Rattle.std.specs.Option.{option_map}
 use Rattle.wm_base.specs.declared.geometry.Dir.{Dir}
+use Rattle.wm_base.specs.declared.geometry.Rect.{Rect}
 use Rattle.wm_base.specs.declared.ids.ConId.{ConId}
+use Rattle.wm_floats.specs.Rounds.{shift_tree, shifted_x, shifted_y}
+use Rattle.wm_floats.specs.Windows.{rect_set, restated, state_of}
 use Rattle.wm_grammar.specs.declared.arguments.SwapArg.{SwapArg}
 use Rattle.wm_tree.specs.Look.{same}
+use Rattle.wm_tree.specs.declared.part.ConState.{ConState}
+use Rattle.wm_tree.specs.declared.place.Place.TheVariants.{After}
 use Rattle.wm_tree.specs.declared.kind.KindEdit.TheVariants as edits
 use Rattle.wm_tree.specs.Move.{apart, moved}
 use Rattle.wm_tree.specs.Outputs.{heir, left_to}
 use Rattle.wm_tree.specs.Sound.{IsSound, ranked, times}
-use Rattle.wm_tree.specs.TreeValue.{TreeValue, current, root, shown}
+use Rattle.wm_tree.specs.TreeValue.{TreeValue, current, is_tiled_con, root, shown, workspace_of}
 use Rattle.wm_tree.specs.Words.{edited}
 use Rattle.wm_focus.specs.Moves.{beside, entry, held_out, is_split_con, move_dir_tree, near_end, out_tree, over_tree, space_over, step_tree, turned}
 use Rattle.wm_showing.specs.Outputs.{output_of}
@@ -17,7 +23,7 @@ use Rattle.wm_showing.proofs.RiseLemmas.{output_same}
 use Rattle.wm_showing.specs.Showing.{current_some, entered, output_focused, shown_on, space_name}
 use Rattle.wm_spaces.specs.Coming.{left_output, output_gone, output_gone_some, output_removed_tree}
 use Rattle.wm_spaces.specs.Names.{output_named}
-use Rattle.wm_spaces.specs.Sending.{send_to_output_tree, sent_place, sent_some}
+use Rattle.wm_spaces.specs.Sending.{rect_of, send_to_output_tree, sent_place, sent_some}
 use Rattle.wm_focus.specs.Marks.{holder_of}
 use Rattle.wm_focus.specs.Swaps.{exchanged_with, move_to_mark_tree, moved_after, partner, swap_tree}
 
@@ -47,9 +53,35 @@ step_recency d c (Some n) t = by_kind (is_split_con t n)
     by_kind true = refl
     by_kind false = refl
 
+sent_recency : (c : ConId) (w : Option ConId) (t : TreeValue) → (sent_some w c t).recency ≡ t.recency
+sent_recency c None t = refl
+sent_recency c (Some w) t = by_test (apart t c w)
+  where
+    by_test : (b : Bool) → (cond b (moved c (sent_place c w t) t) t).recency ≡ t.recency
+    by_test true = refl
+    by_test false = refl
+
+rect_recency : (r : Rect) (c : ConId) (t : TreeValue) → (rect_set r c t).recency ≡ t.recency
+rect_recency r c t = by_state (state_of c t)
+  where
+    by_state : (s : Option ConState) → (restated c (option_map (λ (s : ConState). record s { rect = Some r }) s) t).recency ≡ t.recency
+    by_state None = refl
+    by_state (Some s) = refl
+
+move_recency : (d : Dir) (c : ConId) (px : ℕ) (t : TreeValue) → (move_dir_tree c d px t).recency ≡ t.recency
+move_recency d c px t = by_test (is_tiled_con t c)
+  where
+    by_test : (b : Bool) → (cond b (step_tree d c (beside d c t) t) (shift_tree c d px t)).recency ≡ t.recency
+    by_test true = step_recency d c (beside d c t) t
+    by_test false = rect_recency (record { x = shifted_x d px (rect_of c t); y = shifted_y d px (rect_of c t); w = (rect_of c t).w; h = (rect_of c t).h }) c t
+
 after_recency : (c : ConId) (m : Option ConId) (t : TreeValue) → (moved_after c m t).recency ≡ t.recency
 after_recency c None t = refl
-after_recency c (Some m) t = refl
+after_recency c (Some m) t = by_test (is_tiled_con t c)
+  where
+    by_test : (b : Bool) → (cond b (moved c (After m) t) (sent_some (workspace_of t m) c t)).recency ≡ t.recency
+    by_test true = refl
+    by_test false = sent_recency c (workspace_of t m) t
 
 with_recency : (c : ConId) (o : Option ConId) (t : TreeValue) → (exchanged_with c o t).recency ≡ t.recency
 with_recency c None t = refl
@@ -66,7 +98,7 @@ kept old new s r same i = sym (r.known i) ∙ (ap (times i) same ∙ s.known i)
 
 pub moved_keeps : (result : Result (Unit {0}) Refusal) (c : ConId) (d : Dir) (px : ℕ) (old new : TreeValue) → IsSound old → IsSound new
     → OnOk result (new ≡ move_dir_tree c d px old) → OnErr result (new ≡ old) → (i : ConId) → ranked i new.nodes ≡ ranked i old.nodes
-moved_keeps result c d px old new s r done refused = kept old new s r (recency_by result old new (move_dir_tree c d px old) (step_recency d c (beside d c old) old) done refused)
+moved_keeps result c d px old new s r done refused = kept old new s r (recency_by result old new (move_dir_tree c d px old) (move_recency d c px old) done refused)
 
 pub marked_keeps : (result : Result (Unit {0}) Refusal) (c : ConId) (name : List ℕ) (old new : TreeValue) → IsSound old → IsSound new
     → OnOk result (new ≡ move_to_mark_tree c name old) → OnErr result (new ≡ old) → (i : ConId) → ranked i new.nodes ≡ ranked i old.nodes
@@ -75,14 +107,6 @@ marked_keeps result c name old new s r done refused = kept old new s r (recency_
 pub swapped_keeps : (result : Result (Unit {0}) Refusal) (c : ConId) (arg : SwapArg) (old new : TreeValue) → IsSound old → IsSound new
     → OnOk result (new ≡ swap_tree c arg old) → OnErr result (new ≡ old) → (i : ConId) → ranked i new.nodes ≡ ranked i old.nodes
 swapped_keeps result c arg old new s r done refused = kept old new s r (recency_by result old new (swap_tree c arg old) (with_recency c (partner arg old) old) done refused)
-
-sent_recency : (c : ConId) (w : Option ConId) (t : TreeValue) → (sent_some w c t).recency ≡ t.recency
-sent_recency c None t = refl
-sent_recency c (Some w) t = by_test (apart t c w)
-  where
-    by_test : (b : Bool) → (cond b (moved c (sent_place c w t) t) t).recency ≡ t.recency
-    by_test true = refl
-    by_test false = refl
 
 pub sent_keeps : (result : Result (Unit {0}) Refusal) (c o : ConId) (old new : TreeValue) → IsSound old → IsSound new
     → OnOk result (new ≡ send_to_output_tree c o old) → OnErr result (new ≡ old) → (i : ConId) → ranked i new.nodes ≡ ranked i old.nodes

@@ -1,5 +1,5 @@
 -- A container that moves towards one beside it and back, and two that change places twice.
-use Rattle.std.proofs.Common.{◌≡◌, ◌≢◌, ℕ, ◌≤◌, Bool, true, false, cond, not, ◌||◌, Option, None, Some, refl, ap, sym, ◌∙◌, subst, arith}
+use Rattle.std.proofs.Common.{◌≡◌, ◌≢◌, ℕ, ◌≤◌, Bool, true, false, cond, not, ◌&&◌, ◌||◌, Option, None, Some, refl, ap, sym, ◌∙◌, subst, arith}
 use Rattle.std.specs.Prelude.{is_some, option_and_then}
 use Rattle.wm_base.specs.declared.geometry.Dir.{Dir}
 use Rattle.wm_base.specs.declared.geometry.Dir.TheVariants.{Left, Right, Up, Down}
@@ -15,7 +15,7 @@ use Rattle.wm_focus.specs.Swaps.{con_named, exchanged_with, swap_tree}
 use Rattle.wm_focus.specs.declared.rungs.Aim.TheVariants.{Beside}
 use Rattle.wm_grammar.specs.declared.arguments.SwapArg.TheVariants as swaps
 use Rattle.wm_laws.proofs.PartMaps.{count-mapped, edited_mapped, mapped, mapped-mapped, mapped_all, only_mapped, spot_mapped, tuned}
-use Rattle.wm_focus.proofs.MoveGoals.{chained}
+use Rattle.wm_focus.proofs.MoveGoals.{chained, turn_fits}
 use Rattle.wm_focus.proofs.TurnLemmas.{heads, heads_only}
 use Rattle.wm_laws.proofs.TradeLemmas.{Leaves, came, came_back, came_con, came_share, first_id as first_own, leaves_traded, light, not_other, same_sym, second_id as second_own, share_kept, trade, trade_back, traded, was_a, was_b, was_same}
 use Rattle.wm_laws.specs.Turning.{MovesBack, SwapsBack, opposite}
@@ -37,8 +37,9 @@ use Rattle.wm_tree.specs.Kinds.{changed, kind_changed}
 use Rattle.wm_tree.specs.Look.{con_kind, first_floats, first_kids, first_part, has, in_row, kind_by, kind_of, only, rest_of, same}
 use Rattle.wm_tree.specs.Move.{apart as are_apart, exchanged, exchanged_nodes, same_space, share_by, share_in}
 use Rattle.wm_tree.specs.Sound.{IsNode, IsSoundRow, Level, below, containers, one_of, roots, tally}
+use Rattle.wm_tree.specs.Place.{is_tiled}
 use Rattle.wm_tree.specs.Spot.{room_below, spot_below, spot_in, spot_of, top}
-use Rattle.wm_tree.specs.TreeValue.{TreeValue, is_con_kind, parent, tiled_by, tiled_kids, workspace_of}
+use Rattle.wm_tree.specs.TreeValue.{TreeValue, is_con, is_con_kind, is_tiled_con, is_tiled_spot, parent, tiled_by, tiled_kids, workspace_of}
 
 -- ---- two children of a node stand alike
 
@@ -304,8 +305,16 @@ below_back d p c n pc pn (con part kids floats rest) two ic ib xc xn once first 
   step true e h = rw (own, runs_back d part.kind ∙ e) (neighbour_back c n pc pn two ic ib d kids (once_kids part kids floats rest once) h)
 
 -- a move towards one beside it
-moves_once : (c n : ConId) (d : Dir) (px : ℕ) (t : TreeValue) → beside d c t ≡ Some n → is_split_con t n ≡ false → move_dir_tree c d px t ≡ turned c n t
-moves_once c n d px t h split = rw (h, split) refl
+moves_once : (c n : ConId) (d : Dir) (px : ℕ) (t : TreeValue) → is_tiled_con t c ≡ true → beside d c t ≡ Some n → is_split_con t n ≡ false → move_dir_tree c d px t ≡ turned c n t
+moves_once c n d px t own h split = rw (own, h, split) refl
+
+both_true : (x y : Bool) → x ≡ true → y ≡ true → (x && y) ≡ true
+both_true true y e h = h
+both_true false y e h = cc
+
+tiled_spot : (o : Option Spot) → is_tiled o ≡ true → is_tiled_spot o ≡ true
+tiled_spot None h = cc
+tiled_spot (Some s) h = h
 
 pub moves_back : MovesBack
 moves_back c n d px t s own h split low_c low_n =
@@ -334,7 +343,7 @@ moves_back c n d px t s own h split low_c low_n =
     let alike = kids_alike p c n roots top false 0 f s.shaped s.once two.first two.second in
     let near : are_apart t c n ≡ false = rw alike.spaces (ap not (same_space_self (workspace_of t n))) in
     let t1 : TreeValue = record t { nodes = mapped swap f } in
-    let e1 : move_dir_tree c d px t ≡ t1 = moves_once c n d px t h split ∙ turn_trades c n pc pn t l near in
+    let e1 : move_dir_tree c d px t ≡ t1 = moves_once c n d px t own h split ∙ turn_trades c n pc pn t l near in
     let l1 = leaves_traded c n pc pn l.two ic ib pc pn f l l.first_con l.second_con in
     let airy = light c n pc pn f l.first_con l.second_con s.once (λ z. l.first) (λ z. l.second) in
     let spot_c : spot_in top c (mapped swap f) ≡ spot_in top n f = spot_mapped swap c n (was_b c n pc pn l.two ic ib) top f airy in
@@ -349,8 +358,11 @@ moves_back c n d px t s own h split low_c low_n =
     let h1 : beside (opposite d) c t1 ≡ Some n =
     ap (λ o. option_and_then (λ (q : ConId). neighbour_below (opposite d) c (only q t1.nodes)) o) parent_c
     ∙ (ap (neighbour_below (opposite d) c) only_p ∙ below_back d p c n pc pn (only p f) l.two ic ib not_c not_n (once_only p f s.once) (heads_only p f there_p) k.2) in
+    let fits = turn_fits d c n t s own h in
+    let own1 : is_tiled_con t1 c ≡ true =
+    both_true (is_con (first_part (only c t1.nodes))) (is_tiled_spot (spot_in top c t1.nodes)) (ap (λ g. is_con (first_part g)) l1.first ∙ l1.first_con) (ap is_tiled_spot spot_c ∙ tiled_spot (spot_in top n f) (fits.2.1 fits.1).1) in
     let split1 : is_split_con t1 n ≡ false = ap (λ g. is_split_part (kind_by con_kind (first_part g))) (l1.second ∙ sym l.second) ∙ split in
-    let e2 : move_dir_tree c (opposite d) px t1 ≡ record t { nodes = mapped swap (mapped swap f) } = moves_once c n (opposite d) px t1 h1 split1 ∙ turn_trades c n pc pn t1 l1 near1 in
+    let e2 : move_dir_tree c (opposite d) px t1 ≡ record t { nodes = mapped swap (mapped swap f) } = moves_once c n (opposite d) px t1 own1 h1 split1 ∙ turn_trades c n pc pn t1 l1 near1 in
     ap (move_dir_tree c (opposite d) px) e1 ∙ (e2 ∙ ap (λ z. record t { nodes = z }) (trade_back c n pc pn pc pn f l ic ib))
   where
     -- a leaf is not the holder of c

@@ -7,8 +7,8 @@ pub fn focusing_a_child_keeps_the_rest()
     ensures { ChildKeeps }
 {}
 
-/// Focusing a node in a direction changes nothing but recency, urgency and fullscreen of one workspace, where that is
-/// shown and focused already.
+/// Focusing a node in a direction, from what does not float, changes nothing but recency, urgency and fullscreen of one
+/// workspace, where that is shown and focused already.
 #[tactic(auto, using(crate::proofs::FocusingLemmas::direction_keeps))]
 pub fn focusing_in_a_direction_keeps_the_rest()
     ensures { DirectionKeeps }

@@ -1,11 +1,13 @@
 //! Laws of commands on one subject: what they keep, said over the definitions alone.
 #![tactic(auto)]
 
+mod floating;
 mod focusing;
 mod keeping;
 mod sending;
 mod turning;
 
+pub use floating::floating_again_gives_the_rectangle_back;
 pub use focusing::{
     focusing_a_child_keeps_the_rest, focusing_a_parent_keeps_the_rest,
     focusing_in_a_direction_keeps_the_rest,

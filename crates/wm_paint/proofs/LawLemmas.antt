@@ -1,5 +1,6 @@
 -- Laws of painting, over plain values.
-use Rattle.std.proofs.Common.{◌≡◌, ℕ, ◌*◌, ◌/◌, ◌%◌, ◌+◌, ◌<◌, ◌≤◌, false, [], ◌∷◌, length, get_or, refl, sym, ap, ◌∙◌, arith}
+use Rattle.std.proofs.Common.{◌≡◌, ℕ, zero, suc, ◌*◌, ◌/◌, ◌%◌, ◌+◌, ◌<◌, ◌≤◌, false, [], ◌∷◌, length, get_or, refl, sym, ap, ◌∙◌, arith}
+use Rattle.std.proofs.Math.Nat.{zero-mul}
 use Rattle.std.specs.Prelude.{Some}
 use Rattle.std.proofs.Math.Nat.{mod-add-div}
 use Rattle.std.proofs.lemmas.Bool.{and_from, and_parts}
@@ -51,12 +52,17 @@ pixel_of c k some lt =
     on c (x_at c.area k) (y_at c.area k) (k % c.area.w) (k / c.area.w) across down (omega (arith, ints)) (omega (arith, ints))
     ∙ ap (λ (i : ℕ). Some (get_or c.inks i black)) at
 
+-- what has a pixel is one pixel wide at least
+some_wide : (w h k : ℕ) → k < w * h → 1 ≤ w
+some_wide zero h k lt = omega (arith, zero-mul h)
+some_wide (suc w) h k lt = omega arith
+
 pub pixels_tell : PixelsTell
 pixels_tell a b whole_a whole_b e same =
     let size : length a.inks ≡ length b.inks = whole_a.1 ∙ (ap count e ∙ sym whole_b.1) in
     let inks : a.inks ≡ b.inks = ext_get_or black a.inks b.inks size (λ k lt.
-    let one : pixel a (x_at a.area k) (y_at a.area k) ≡ Some (get_or a.inks k black) = pixel_of a k whole_a.0.some_width (omega (arith, whole_a.1)) in
-    let two : pixel b (x_at b.area k) (y_at b.area k) ≡ Some (get_or b.inks k black) = pixel_of b k whole_b.0.some_width (omega (arith, whole_b.1, size)) in
+    let one : pixel a (x_at a.area k) (y_at a.area k) ≡ Some (get_or a.inks k black) = pixel_of a k (some_wide a.area.w a.area.h k (omega (arith, whole_a.1))) (omega (arith, whole_a.1)) in
+    let two : pixel b (x_at b.area k) (y_at b.area k) ≡ Some (get_or b.inks k black) = pixel_of b k (some_wide b.area.w b.area.h k (omega (arith, whole_b.1, size))) (omega (arith, whole_b.1, size)) in
     let moved : pixel b (x_at a.area k) (y_at a.area k) ≡ Some (get_or b.inks k black) = rw e two in
     some_same (sym one ∙ (same (x_at a.area k) (y_at a.area k) ∙ moved))) in
     ap (λ (area : Rect). canvas area a.inks) e ∙ ap (canvas b.area) inks

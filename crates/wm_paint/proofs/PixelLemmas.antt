@@ -2,7 +2,9 @@
 use Rattle.std.proofs.Common.{◌≡◌, ℕ, ◌+◌, ◌*◌, ◌<◌, ◌≤◌, true, false, ℤ, ◌-ℤ◌, refl, arith, get_or}
 use Rattle.std.specs.Prelude.{None, Some, unsigned_abs}
 use Rattle.std.proofs.lemmas.Nat.{mul-add-lt}
-use Rattle.wm_paint.specs.CanvasValue.{CanvasValue, pixel}
+use Rattle.std.proofs.Math.Nat.{mul-le-mul}
+use Rattle.wm_base.specs.declared.geometry.Rect.{Rect}
+use Rattle.wm_paint.specs.CanvasValue.{CanvasValue, IsArea, pixel}
 use Rattle.wm_paint.specs.Picture.{in_span, black}
 use Rattle.wm_paint.proofs.SpanLemmas.{and_no}
 
@@ -18,10 +20,14 @@ on c x y column row across down is_column is_row = rw (across, down, is_column, 
 -- there are enough pixels, and their number fits
 pub record IsPlace (row w column n : ℕ) : Type 0 where
   pub is_there : row * w + column < n
-  pub line : row * w < 33554432
-  pub small : row * w + column < 33554432
+  pub line : row * w < 268435456
+  pub small : row * w + column < 268435456
 
-pub place : (row w column h n : ℕ) → row < h → column < w → w * h ≤ 33554432 → n ≡ w * h → IsPlace row w column n
+pub place : (row w column h n : ℕ) → row < h → column < w → w * h ≤ 268435456 → n ≡ w * h → IsPlace row w column n
 place row w column h n r c few all =
     let there = mul-add-lt row w column h r c in
     record { is_there = omega (arith, there); line = omega (arith, there); small = omega (arith, there) }
+
+-- an area has at most so many pixels
+pub pixels_fit : (r : Rect) → IsArea r → r.w * r.h ≤ 268435456
+pixels_fit r a = mul-le-mul a.width a.height

@@ -13,17 +13,14 @@ pub record CanvasValue : Type 0 where
   pub area : Rect
   pub inks : List Ink
 
--- sides of 1 to 16,384 pixels, at most 33,554,432 pixels, and places from -131,072 to 131,071
+-- sides of at most 16,384 pixels, and places from -131,072 to 131,071
 pub record IsArea (r : Rect) : Type 0 where
   pub left : negsuc 131071 ≤ℤ r.x
   pub right : r.x ≤ℤ pos 131071
   pub top : negsuc 131071 ≤ℤ r.y
   pub bottom : r.y ≤ℤ pos 131071
-  pub some_width : 1 ≤ r.w
   pub width : r.w ≤ 16384
-  pub some_height : 1 ≤ r.h
   pub height : r.h ≤ 16384
-  pub pixels : r.w * r.h ≤ 33554432
 
 -- how many pixels an area has
 abbrev pub count : Rect → ℕ

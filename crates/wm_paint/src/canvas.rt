@@ -29,8 +29,7 @@ impl Canvas {
     ghost use Rattle.std.specs.Prelude.{◌≡◌, ℤ, IfOk, IsOk};
     ghost use Rattle.wm_paint.specs.CanvasValue.{IsArea, blank, drawn, picture, pixel, ppm};
 
-    /// A black canvas over an area. Sides are from 1 to 16,384 pixels, at most 33,554,432 pixels in all, and
-    /// places from -131,072 to 131,071.
+    /// A black canvas over an area. Sides are at most 16,384 pixels, and places from -131,072 to 131,071.
     pub fn new(alloc: Global, area: Rect) -> Result<Canvas, NoMemory>
         requires { IsArea area }
         ensures { IfOk result (λ canvas. canvas ≡ blank area) }

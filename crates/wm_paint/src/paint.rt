@@ -61,6 +61,9 @@ fn paint_rect(inks: &mut [Ink], area: Rect, rect: Rect, ink: Ink)
     requires all { length inks.old ≡ count area }
     ensures { IsRepainted area (after_fill rect ink) inks.old inks.new }
 {
+    if area.w == 0 {
+        return;
+    }
     let across = common(rect.x, rect.w, area.x, area.w);
     let down = common(rect.y, rect.h, area.y, area.h);
     fill_rows(inks, area.w as usize, across, down, ink);

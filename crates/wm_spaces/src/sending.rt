@@ -121,7 +121,7 @@ fn sent_place(t: &Tree, con: ConId, w: ConId) -> Place
 
 /// Sends a container to a workspace, if it is not there: a tiled one after the leaf, or last where nothing is tiled; a
 /// floating one last among the floating windows.
-pub(crate) fn send(t: &mut Tree, con: ConId, w: ConId) -> Result<(), Refusal>
+pub fn send(t: &mut Tree, con: ConId, w: ConId) -> Result<(), Refusal>
     requires sound { IsSound t.old }
     requires con { kind_of con_kind con t.old.nodes ≢ None }
     requires space { is_space t.old w ≡ true }

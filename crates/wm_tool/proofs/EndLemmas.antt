@@ -12,7 +12,7 @@ use Rattle.wm_tool.specs.declared.status.Refused.{Refused}
 use Rattle.wm_tool.specs.declared.status.Status.{Status}
 use Rattle.wm_tool.proofs.RunLemmas.{nothing_backed}
 
-nothing_taken : (t : Option (List ℕ)) (whole : List ℕ) → TakesPart t t whole
+pub nothing_taken : (t : Option (List ℕ)) (whole : List ℕ) → TakesPart t t whole
 nothing_taken None whole = tt
 nothing_taken (Some taken) whole = (0, record { within = omega arith; grown = ap (λ xs. Some xs) (sym (append-nil taken)) })
 

@@ -1,3 +1,5 @@
+pub mod DrawEnds
+pub mod DrawLemmas
 pub mod EndLemmas
 pub mod FieldLemmas
 pub mod FramesLemmas

@@ -8,9 +8,10 @@ use Rattle.std.proofs.lemmas.List.Elements.{All-push}
 use Rattle.std.proofs.lemmas.Slice.Eq.{bytes_eq-Decides}
 use Rattle.wm_base.specs.declared.plan.OutputPlan.{OutputPlan}
 use Rattle.wm_layouts.specs.Plan.{NamesDiffer, is_taken}
+use Rattle.wm_tool.specs.declared.line.Deed.{Deed}
+use Rattle.wm_tool.specs.declared.line.Deed.TheVariants.{Output}
 use Rattle.wm_tool.specs.declared.line.Line.{Line}
-use Rattle.wm_tool.specs.declared.line.Line.TheVariants.{Output}
-use Rattle.wm_tool.specs.Script.{has_begun, is_another, is_plan, may_follow, onto_outputs, outputs_in, IsFitLine, IsSoundScript}
+use Rattle.wm_tool.specs.Script.{deed_may_follow, has_begun, is_another, is_plan, may_follow, onto_outputs, outputs_in, IsFitLine, IsSoundScript}
 
 -- ---- tests
 
@@ -41,14 +42,14 @@ pub begun_more : (lines : List Line) (line : Line) → has_begun (lines ++ line 
 begun_more [] line = or_false (not (is_plan line))
 begun_more (l ∷ lines) line = ap (λ b. not (is_plan l) || b) (begun_more lines line) ∙ or_or (not (is_plan l)) (has_begun lines) (not (is_plan line))
 
-onto_more : (l : Line) (xs ys : List OutputPlan) → onto_outputs l (xs ++ ys) ≡ onto_outputs l xs ++ ys
+onto_more : (l : Deed) (xs ys : List OutputPlan) → onto_outputs l (xs ++ ys) ≡ onto_outputs l xs ++ ys
 onto_more (Output o) xs ys = refl
 onto_more other xs ys = refl
 
 -- the outputs with those of one more line
-pub outputs_more : (lines : List Line) (line : Line) → outputs_in (lines ++ line ∷ []) ≡ outputs_in lines ++ onto_outputs line []
+pub outputs_more : (lines : List Line) (line : Line) → outputs_in (lines ++ line ∷ []) ≡ outputs_in lines ++ onto_outputs line.deed []
 outputs_more [] line = refl
-outputs_more (l ∷ lines) line = ap (onto_outputs l) (outputs_more lines line) ∙ onto_more l (outputs_in lines) (onto_outputs line [])
+outputs_more (l ∷ lines) line = ap (onto_outputs l.deed) (outputs_more lines line) ∙ onto_more l.deed (outputs_in lines) (onto_outputs line.deed [])
 
 -- ---- names that differ
 
@@ -76,14 +77,14 @@ another_sound o os names new =
     let parts = both (nat_lt (length os) 8) (not (is_taken o.name os)) new in
     (omega (arith, length-append os (o ∷ []), ltb-true (length os) 8 parts.0), differ_more os o names (is_false (is_taken o.name os) parts.1))
 
-outputs_sound : (line : Line) (lines : List Line) → length (outputs_in lines) ≤ 8 → NamesDiffer (outputs_in lines) → may_follow lines line ≡ true
+outputs_sound : (line : Deed) (lines : List Line) → length (outputs_in lines) ≤ 8 → NamesDiffer (outputs_in lines) → deed_may_follow lines line ≡ true
     → (length (outputs_in lines ++ onto_outputs line []) ≤ 8) × NamesDiffer (outputs_in lines ++ onto_outputs line [])
 outputs_sound (Output o) lines few names may = another_sound o (outputs_in lines) names (both (not (has_begun lines)) (is_another o (outputs_in lines)) may).1
 outputs_sound other lines few names may = subst (λ os. (length os ≤ 8) × NamesDiffer os) (sym (append-nil (outputs_in lines))) (few, names)
 
 pub sound_more : (lines : List Line) (line : Line) → IsSoundScript lines → IsFitLine line → may_follow lines line ≡ true → IsSoundScript (lines ++ line ∷ [])
 sound_more lines line sound fit may =
-    let more = outputs_sound line lines sound.few sound.names may in
+    let more = outputs_sound line.deed lines sound.few sound.names may in
     record {
       fit = All-push IsFitLine lines line sound.fit fit;
       few = subst (λ os. length os ≤ 8) (sym (outputs_more lines line)) more.0;

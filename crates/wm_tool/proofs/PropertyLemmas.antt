@@ -2,8 +2,8 @@
 use Rattle.std.proofs.Common.{◌≡◌, ◌∙◌, ℕ, zero, suc, ◌-◌, ◌<◌, List, [], ◌∷◌, length, Option, Some, ap, sym, arith}
 use Rattle.wm_base.specs.declared.ids.Buffer.{Buffer}
 use Rattle.wm_tool.specs.declared.properties.Given.{Given}
-use Rattle.wm_tool.specs.declared.line.Line.{Line}
-use Rattle.wm_tool.specs.declared.line.Line.TheVariants.{Map}
+use Rattle.wm_tool.specs.declared.line.Deed.{Deed}
+use Rattle.wm_tool.specs.declared.line.Deed.TheVariants.{Map}
 use Rattle.wm_tool.specs.Fields.{buffer_at, or_none}
 use Rattle.wm_tool.specs.Properties.{none_given, properties_at, property_at, props_of}
 use Rattle.wm_tool.specs.Lines.{map_at}
@@ -17,7 +17,7 @@ properties_more (suc n) given next (c ∷ cs) rest few some e =
     let one : suc n - 1 ≡ n = omega arith in
     ap (λ k. properties_at k next rest) one ∙ sym (ap (λ z. or_none z (λ found. properties_at n found.0 found.1)) e)
 
-abbrev said : Buffer → Option Given → Option Line
+abbrev said : Buffer → Option Given → Option Deed
 said buffer given = or_none given (λ g. Some (Map (props_of g) buffer))
 
 -- a buffer and properties make a line

@@ -8,7 +8,7 @@ use Rattle.std.proofs.lemmas.Bool.Decides.{Decides-eqb}
 use Rattle.std.proofs.lemmas.List.{append-nil}
 use Rattle.std.proofs.lemmas.Grind.{flat_map-append}
 use Rattle.wm_defs.specs.Counts.{Rose}
-use Rattle.wm_core.specs.Schedule.{greatest}
+use Rattle.wm_txn.specs.Commits.{greatest}
 use Rattle.wm_criteria.specs.Building.{Tells}
 use Rattle.wm_criteria.specs.Patterns.{pattern_at, patterns_of, unless_plain}
 use Rattle.wm_criteria.specs.Verdict.{IsVerdict, OnRefusal, refused_patterns}

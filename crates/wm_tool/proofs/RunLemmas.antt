@@ -10,11 +10,12 @@ use Rattle.wm_core.specs.DeskValue.{DeskValue, Stands}
 use Rattle.wm_criteria.specs.Building.{Tells}
 use Rattle.wm_core.specs.History.{History, Start, answer, opening_of}
 use Rattle.wm_ports.specs.Told.{TakesAll, TakesPart}
+use Rattle.wm_tool.specs.declared.line.Deed.{Deed}
+use Rattle.wm_tool.specs.declared.line.Deed.TheVariants as deed
 use Rattle.wm_tool.specs.declared.line.Line.{Line}
-use Rattle.wm_tool.specs.declared.line.Line.TheVariants as line
 use Rattle.wm_tool.specs.declared.status.Refused.{Refused}
 use Rattle.wm_tool.specs.Ipc.{after_message, entry_by, framed, message_step, message_texts, payload, replied, replies_from, request_of, text_of_request, text_step}
-use Rattle.wm_tool.specs.Output.{act_in, after, after_deed, after_entry, answer_text, deed_of, deed_text, line_step, one_if_some, takes, Takes, entry_of, line_texts, out_from, run_entry, start, told}
+use Rattle.wm_tool.specs.Output.{act_in, after, after_effect, after_entry, answer_text, deed_step, effect_of, effect_text, line_step, one_if_some, takes, Takes, entry_of, line_texts, out_from, run_entry, start, told}
 use Rattle.wm_tool.specs.Refusals.{IsBacked, IsRising, refusal_at, verdict_of}
 use Rattle.wm_tool.specs.Running.{Backs, Grows, Holds, IsBackedTo, Leads, Plays, Runs, Stops, Writes, fresh}
 use Rattle.wm_core.specs.Act.{Act, Run, act_of}
@@ -79,7 +80,7 @@ fails_part (Some t) now new said piece rest whole taken makes takes =
     (part.1.grown ∙ ap (λ xs. Some xs) (append_assoc t said (take part.0 piece)))
     (split_piece said piece rest part.0 ∙ makes)
 
-made : (old now : Option (List ℕ)) (desk : DeskValue) (refused : List Refused) (piece : List ℕ) (tells : List Refused → History → List ℕ) (whole : List Refused → List ℕ)
+pub made : (old now : Option (List ℕ)) (desk : DeskValue) (refused : List Refused) (piece : List ℕ) (tells : List Refused → History → List ℕ) (whole : List Refused → List ℕ)
     → (r : Runs old now desk refused piece tells whole) → r.said ++ (piece ++ tells refused r.history) ≡ whole refused
 made old now desk refused piece tells whole r = subst (λ rs. r.said ++ (piece ++ tells rs r.history) ≡ whole rs) (append-nil refused) (r.makes [] tt)
 
@@ -215,21 +216,21 @@ module _ (old now : Option (List ℕ)) (desk : DeskValue) (before later_refused 
         }
 
 abbrev opening_with : TreeValue → List (List ℕ × List ℕ) → Start
-opening_with t homes = record { opened = t; homes = homes }
+opening_with t homes = record { opened = t; homes = homes; windows = [] }
 
 opens : (desk : DeskValue) → IsStandard desk.plan → start ≡ opening_of desk.plan
 opens desk plan = sym (ap₂ (λ t h. opening_with t h) (ap (λ outputs. opening outputs desk.plan.border desk.plan.inner desk.plan.outer) plan.outputs ∙ (ap (λ border. opening default_outputs border desk.plan.inner desk.plan.outer) plan.border ∙ ap₂ (λ inner outer. opening default_outputs Bare inner outer) plan.inner plan.outer)) plan.homes)
 
-run_same : (rs more : List Refused) (h : History) (text : List ℕ) → IsRising (suc (length h)) more → run_entry (rs ++ more) h text ≡ run_entry rs h text
-run_same rs more h text rising = rw (verdict_same (length h) rs more text rising) refl
+run_same : (who : ℕ) (rs more : List Refused) (h : History) (text : List ℕ) → IsRising (suc (length h)) more → run_entry who (rs ++ more) h text ≡ run_entry who rs h text
+run_same who rs more h text rising = rw (verdict_same (length h) rs more text rising) refl
 
 -- ---- a text that is run
 
 -- a text that was prepared at the place is the one that the history has
-pub run_entry_is : (place : ℕ) (history : History) (before after_refused : List Refused) (text : List ℕ) (p : Prepared) → refusal_at place before ≡ None → place ≡ length history → p.text ≡ text
-    → IsVerdict text p.verdict → after_refused ≡ before ++ fresh place p.verdict → entry_of (act_of (steps_of.Run p)) ≡ run_entry after_refused history text
-run_entry_is place history before after_refused text p none at same is grown =
-    ap₂ (λ t v. entry_of (Run t v)) same
+pub run_entry_is : (who place : ℕ) (history : History) (before after_refused : List Refused) (text : List ℕ) (p : Prepared) → refusal_at place before ≡ None → place ≡ length history → p.text ≡ text
+    → IsVerdict text p.verdict → after_refused ≡ before ++ fresh place p.verdict → entry_of who (act_of (steps_of.Run p)) ≡ run_entry who after_refused history text
+run_entry_is who place history before after_refused text p none at same is grown =
+    ap₂ (λ t v. entry_of who (Run t v)) same
     (sym (verdict_is place before text p.verdict none is) ∙ (ap (λ rs. verdict_of rs place text) (sym grown) ∙ ap (λ n. verdict_of after_refused n text) at))
 
 pub unchanged : (place : ℕ) (steps : List (Option (List ℕ))) (rs : List Refused) (c : ℕ) (t : Option (List (List ℕ))) → Backs place steps rs rs c c t t
@@ -245,33 +246,42 @@ ok_weaker (Err e) p weaker = tt
 
 -- ---- lines
 
-line_longer : (l : Line) (rs : List Refused) (h : History) → length (after l rs h) ≡ length h + length (line_step l)
-line_longer (line.Run text) rs h = omega arith
-line_longer line.Paint rs h = omega arith
-line_longer line.Marks rs h = omega arith
-line_longer other rs h = omega arith
+deed_longer : (who : ℕ) (d : Deed) (rs : List Refused) (h : History) → length (after_effect (effect_of who rs h d) h) ≡ length h + length (deed_step d)
+deed_longer who (deed.Run text) rs h = omega arith
+deed_longer who deed.Paint rs h = omega arith
+deed_longer who deed.Marks rs h = omega arith
+deed_longer who (deed.Wants serial kill) rs h = omega arith
+deed_longer who other rs h = omega arith
 
-line_same : (l : Line) (rs more : List Refused) (h : History) → IsRising (length (after l rs h)) more → deed_of (rs ++ more) h l ≡ deed_of rs h l
-line_same (line.Run text) rs more h rising = ap (λ e. Takes e) (run_same rs more h text rising)
-line_same line.Paint rs more h rising = refl
-line_same line.Marks rs more h rising = refl
-line_same other rs more h rising = refl
+pub line_longer : (l : Line) (rs : List Refused) (h : History) → length (after l rs h) ≡ length h + length (line_step l)
+line_longer l rs h = deed_longer l.who l.deed rs h
+
+deed_same : (who : ℕ) (d : Deed) (rs more : List Refused) (h : History) → IsRising (length (after_effect (effect_of who rs h d) h)) more → effect_of who (rs ++ more) h d ≡ effect_of who rs h d
+deed_same who (deed.Run text) rs more h rising = ap (λ e. Takes e) (run_same who rs more h text rising)
+deed_same who deed.Paint rs more h rising = refl
+deed_same who deed.Marks rs more h rising = refl
+deed_same who (deed.Wants serial kill) rs more h rising = refl
+deed_same who other rs more h rising = refl
+
+pub line_same : (l : Line) (rs more : List Refused) (h : History) → IsRising (length (after l rs h)) more → effect_of l.who (rs ++ more) h l.deed ≡ effect_of l.who rs h l.deed
+line_same l rs more h rising = deed_same l.who l.deed rs more h rising
 
 -- a line that takes a step and runs no text
-step_deed : (l : Line) (act : Act) → act_in l ≡ Some act → (rs : List Refused) (h : History) → deed_of rs h l ≡ Takes (entry_of act)
-step_deed (line.Run text) act e rs h = cc
-step_deed line.Paint act e rs h = cc
-step_deed line.Marks act e rs h = cc
-step_deed other act e rs h = ap takes e
+step_effect : (who : ℕ) (d : Deed) (act : Act) → act_in d ≡ Some act → (rs : List Refused) (h : History) → effect_of who rs h d ≡ Takes (entry_of who act)
+step_effect who (deed.Run text) act e rs h = cc
+step_effect who deed.Paint act e rs h = cc
+step_effect who deed.Marks act e rs h = cc
+step_effect who (deed.Wants serial kill) act e rs h = cc
+step_effect who other act e rs h = ap (takes who) e
 
-pub step_count : (l : Line) (act : Act) → act_in l ≡ Some act → line_step l ≡ None ∷ []
-step_count (line.Run text) act e = cc
+pub step_count : (d : Deed) (act : Act) → act_in d ≡ Some act → deed_step d ≡ None ∷ []
+step_count (deed.Run text) act e = cc
 step_count other act e = ap one_if_some e
 
-pub step_leads : (start : Start) (old new : DeskValue) (l : Line) (act : Act) (rs : List Refused) (before text : List ℕ) → act_in l ≡ Some act
-    → Leads old new (λ h. entry_of act ∷ h) (λ h. answer_text (answer start h (entry_of act))) before text → Leads old new (after l rs) (told start l rs) before text
+pub step_leads : (start : Start) (old new : DeskValue) (l : Line) (act : Act) (rs : List Refused) (before text : List ℕ) → act_in l.deed ≡ Some act
+    → Leads old new (λ h. entry_of l.who act ∷ h) (λ h. answer_text (answer start h (entry_of l.who act))) before text → Leads old new (after l rs) (told start l rs) before text
 step_leads start old new l act rs before text e leads =
-    λ history stands. subst (λ d. Stands new (after_deed d history) × (text ≡ before ++ deed_text start history d)) (sym (step_deed l act e rs history)) (leads history stands)
+    λ history stands. subst (λ d. Stands new (after_effect d history) × (text ≡ before ++ effect_text start history d)) (sym (step_effect l.who l.deed act e rs history)) (leads history stands)
 
 -- what is said of what is written from an opening tree, of the same tree
 pub from_start : (P : List ℕ → Type 0) (a b : Start) (lines : List Line) (refused : List Refused) → a ≡ b → P (out_from a lines refused []) → P (out_from b lines refused [])
@@ -281,9 +291,12 @@ pub none_left : (rest : List Line) → length rest < 1 → rest ≡ []
 none_left [] few = refl
 none_left (l ∷ rest) few = absurd (omega (arith, few))
 
+one_deed : (d : Deed) → length (deed_step d) ≤ 1
+one_deed (deed.Run text) = omega arith
+one_deed other = omega arith
+
 pub one_step : (l : Line) → length (line_step l) ≤ 1
-one_step (line.Run text) = omega arith
-one_step other = omega arith
+one_step l = one_deed l.deed
 
 pub rest_is : (g d : Line) (rest : List Line) → 1 ≤ length rest → g ≡ get_or rest 0 d → rest ≡ g ∷ take (length rest - 1) (drop 1 rest)
 rest_is g d [] some is = absurd (omega arith)
@@ -312,7 +325,7 @@ module _ (start : Start) (old now : Option (List ℕ)) (desk : DeskValue) (befor
         plays_step old now desk before after_refused piece (after g) (told start g) (out_from start (g ∷ others)) (out_from start others) whole texts (line_step g) (line_texts others) count c1 c2 told_first t1 t2
         (line_longer g) first_line grown backs
         next text (λ rs h. refl)
-        (λ rs more h rising. let same = line_same g rs more h rising in (ap (λ d. after_deed d h) same, ap (deed_text start h) same))
+        (λ rs more h rising. let same = line_same g rs more h rising in (ap (λ d. after_effect d h) same, ap (effect_text start h) same))
         (subst (λ tree. refusal_at desk.steps before ≡ None → Leads desk next (after g after_refused) (told tree g after_refused) piece text) (sym plan) leads)
         moved
 
@@ -328,7 +341,7 @@ one_text (Some text) = omega arith
 
 by_text_same : (o : Option (List ℕ)) (rs more : List Refused) (h : History) → IsRising (length (after_entry (entry_by rs h o) h)) more → entry_by (rs ++ more) h o ≡ entry_by rs h o
 by_text_same None rs more h rising = refl
-by_text_same (Some text) rs more h rising = ap (λ e. Some e) (run_same rs more h text rising)
+by_text_same (Some text) rs more h rising = ap (λ e. Some e) (run_same 0 rs more h text rising)
 
 module _ (old now : Option (List ℕ)) (desk : DeskValue) (before after_refused : List Refused) (piece : List ℕ) (whole : List Refused → List ℕ) (texts : List (Option (List ℕ)))
     (count c1 c2 : ℕ) (told_first t1 t2 : Option (List (List ℕ))) (m : Message) (queue others : List Message) (is : queue ≡ m ∷ others)

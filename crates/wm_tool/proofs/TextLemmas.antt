@@ -4,7 +4,7 @@ use Rattle.std.specs.Str.{is_utf8, IsUtf8}
 use Rattle.std.specs.Str.Lossy.{utf8_valid_len}
 use Rattle.std.proofs.lemmas.Bool.Decides.{leb_tells}
 use Rattle.std.proofs.lemmas.Str.{IsUtf8-from_is_utf8, is_utf8-from_IsUtf8}
-use Rattle.wm_tool.specs.declared.line.Line.TheVariants.{Run}
+use Rattle.wm_tool.specs.declared.line.Deed.TheVariants.{Run}
 use Rattle.wm_frames.specs.declared.message.Message.{Message}
 use Rattle.wm_tool.specs.Ipc.{ask, no_text, request_by, request_of}
 use Rattle.wm_tool.specs.Quoted.{short_text}

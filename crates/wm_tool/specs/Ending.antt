@@ -7,20 +7,22 @@ use Rattle.wm_ports.specs.Told.{ReadsCount, ReadsPart, TakesAll, TakesPart}
 use Rattle.wm_tool.specs.declared.replay.Stop.{Stop}
 use Rattle.wm_tool.specs.declared.replay.Stop.TheVariants as stops
 use Rattle.wm_tool.specs.declared.run.Command.{Command}
-use Rattle.wm_tool.specs.declared.run.Command.TheVariants.{Replay, Ipc}
+use Rattle.wm_tool.specs.declared.run.Command.TheVariants.{Replay, Ipc, Draw}
 use Rattle.wm_tool.specs.declared.run.FramesEnd.{FramesEnd}
 use Rattle.wm_tool.specs.declared.run.FramesEnd.TheVariants as end
 use Rattle.wm_tool.specs.declared.line.Line.{Line}
 use Rattle.wm_tool.specs.declared.status.Status.{Status}
 use Rattle.wm_tool.specs.declared.status.Status.TheVariants.{Done, BadWords, BadScript, BadFrames, Truncated, TooLarge, ReadFault, WriteFault, NoMemory}
 use Rattle.wm_tool.specs.declared.status.Refused.{Refused}
+use Rattle.wm_tool.specs.Drawing.{out_draw}
 use Rattle.wm_tool.specs.Ipc.{message_texts, out_ipc}
 use Rattle.wm_tool.specs.Output.{line_texts, lines_in, out}
 use Rattle.wm_tool.specs.Refusals.{IsBacked}
 use Rattle.wm_tool.specs.Script.{script}
 
 abbrev pub command_named : List ℕ → Option Command
-command_named word = if bytes_eq word (codes "replay") then Some Replay else (if bytes_eq word (codes "ipc") then Some Ipc else None)
+command_named word =
+    if bytes_eq word (codes "replay") then Some Replay else (if bytes_eq word (codes "ipc") then Some Ipc else (if bytes_eq word (codes "draw") then Some Draw else None))
 
 -- the command of the words, which is one word alone
 abbrev pub command : List (String Global) → Option Command
@@ -63,16 +65,19 @@ frames_status (end.Cut bytes) = Truncated bytes
 abbrev pub ends : Command → List ℕ → Status
 ends Replay bytes = script_ending (script bytes)
 ends Ipc bytes = frames_ending (ending bytes)
+ends Draw bytes = script_ending (script bytes)
 
 -- all that a run on these bytes writes, given which patterns were refused
 abbrev pub output : Command → List ℕ → List Refused → List ℕ
 output Replay bytes refused = out bytes refused
 output Ipc bytes refused = out_ipc bytes refused
+output Draw bytes refused = out_draw bytes refused
 
 -- the steps that a run on these bytes takes, each with the text that it runs, where it runs one
 abbrev pub texts_in : Command → List ℕ → List (Option (List ℕ))
 texts_in Replay bytes = line_texts (lines_in (script bytes))
 texts_in Ipc bytes = message_texts (messages bytes)
+texts_in Draw bytes = line_texts (lines_in (script bytes))
 
 -- the bytes are refused before anything is run
 abbrev pub IsRefused : Status → Type 0

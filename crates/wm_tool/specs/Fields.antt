@@ -37,6 +37,10 @@ number_at most text =
     if nat_le 1 (length digits) && nat_le (length digits) 20 && nat_le (decimal_value 0 digits) most
     then Some (decimal_value 0 digits, drop (length digits) text) else None
 
+-- a number of 64 bits
+abbrev pub serial_at : List ℕ → Option (ℕ × List ℕ)
+serial_at text = number_at 18446744073709551615 text
+
 -- a value with one more hexadecimal digit
 abbrev pub with_digit : ℕ → Option ℕ → Option ℕ
 with_digit value None = None

@@ -50,7 +50,7 @@ text_of_request unknown = None
 
 abbrev pub entry_by : List Refused → History → Option (List ℕ) → Option Entry
 entry_by refused history None = None
-entry_by refused history (Some text) = Some (run_entry refused history text)
+entry_by refused history (Some text) = Some (run_entry 0 refused history text)
 
 -- the step of a message after a history; only one that runs a text has a step
 abbrev pub message_entry : List Refused → History → Message → Option Entry

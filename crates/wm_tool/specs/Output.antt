@@ -1,6 +1,8 @@
 -- What the tool writes for a script.
 use Rattle.std.specs.Prelude.{ℕ, List, [], ◌∷◌, ◌++◌, length, Option, None, Some, Result, Ok, Err, codes}
 use Rattle.std.specs.Fmt.{decimal}
+use Rattle.std.specs.List.{flat_map}
+use Rattle.wm_base.specs.declared.geometry.Size.{Size}
 use Rattle.wm_base.specs.declared.plan.Border.{Border}
 use Rattle.wm_base.specs.declared.plan.Border.TheVariants.{Bare}
 use Rattle.wm_base.specs.declared.plan.OutputPlan.{OutputPlan}
@@ -16,13 +18,16 @@ use Rattle.wm_core.specs.declared.look.Query.{Query}
 use Rattle.wm_core.specs.declared.look.Query.TheVariants as query
 use Rattle.wm_core.specs.declared.look.View.{View}
 use Rattle.wm_core.specs.declared.look.View.TheVariants as view
+use Rattle.wm_core.specs.declared.state.Want.{Want}
+use Rattle.wm_core.specs.declared.state.Want.TheVariants as want
 use Rattle.wm_core.specs.Act.{Act}
 use Rattle.wm_core.specs.Act as acts
-use Rattle.wm_core.specs.History.{Entry, History, Start, answer, tree}
+use Rattle.wm_core.specs.History.{Entry, History, Start, answer}
 use Rattle.wm_layouts.specs.Plan.{default_outputs}
 use Rattle.wm_paint.specs.FrameText.{frame_text, new_line}
+use Rattle.wm_tool.specs.declared.line.Deed.{Deed}
+use Rattle.wm_tool.specs.declared.line.Deed.TheVariants as deed
 use Rattle.wm_tool.specs.declared.line.Line.{Line}
-use Rattle.wm_tool.specs.declared.line.Line.TheVariants as line
 use Rattle.wm_tool.specs.declared.status.Refused.{Refused}
 use Rattle.wm_tool.specs.Refusals.{verdict_of}
 use Rattle.wm_tool.specs.Script.{outputs_in, script}
@@ -34,6 +39,7 @@ answer_text (answers.Mapped id) = codes "ok " ++ (decimal id.0 ++ new_line)
 answer_text (answers.Replies replies) = replies_text replies ++ new_line
 answer_text answers.NoView = codes "no-view" ++ new_line
 answer_text answers.Empty = codes "empty" ++ new_line
+answer_text (answers.BadSerial asked last) = codes "bad-serial " ++ (decimal asked ++ (codes " " ++ (decimal last ++ new_line)))
 answer_text (answers.Full limit) = codes "full " ++ (word_of limit ++ new_line)
 answer_text answers.NameTaken = codes "name-taken" ++ new_line
 answer_text answers.NoTarget = codes "no-target" ++ new_line
@@ -41,7 +47,7 @@ answer_text answers.BadRect = codes "bad-rect" ++ new_line
 
 -- the opening of the standard plan, without homes
 abbrev pub start : Start
-start = record { opened = opening default_outputs Bare 0 0; homes = [] }
+start = record { opened = opening default_outputs Bare 0 0; homes = []; windows = [] }
 
 -- ---- the plan of a script
 
@@ -56,15 +62,15 @@ abbrev pub plain : Setting
 plain = record { border = Bare; inner = 0; outer = 0 }
 
 -- the setting after a line; only those of the plan change it
-abbrev pub set_by : Line → Setting → Setting
-set_by (line.Border b) s = record s { border = b }
-set_by (line.Inner n) s = record s { inner = n }
-set_by (line.Outer n) s = record s { outer = n }
+abbrev pub set_by : Deed → Setting → Setting
+set_by (deed.Border b) s = record s { border = b }
+set_by (deed.Inner n) s = record s { inner = n }
+set_by (deed.Outer n) s = record s { outer = n }
 set_by other s = s
 
 abbrev pub set_by_all : List Line → Setting → Setting
 set_by_all [] s = s
-set_by_all (l ∷ lines) s = set_by_all lines (set_by l s)
+set_by_all (l ∷ lines) s = set_by_all lines (set_by l.deed s)
 
 -- the outputs of a plan that is given these; the standard one where there is none
 abbrev pub outputs_or_default : List OutputPlan → List OutputPlan
@@ -72,7 +78,7 @@ outputs_or_default [] = default_outputs
 outputs_or_default (o ∷ outputs) = o ∷ outputs
 
 abbrev pub opening_set : List OutputPlan → Setting → Start
-opening_set outputs s = record { opened = opening outputs s.border s.inner s.outer; homes = [] }
+opening_set outputs s = record { opened = opening outputs s.border s.inner s.outer; homes = []; windows = [] }
 
 -- the opening of a script
 abbrev pub start_of : List Line → Start
@@ -80,72 +86,87 @@ start_of lines = opening_set (outputs_or_default (outputs_in lines)) (set_by_all
 
 -- ---- what lines do
 
--- a step of caller 0
-abbrev pub entry_of : Act → Entry
-entry_of act = record { who = 0; act = act }
+-- a step of the caller of this number
+abbrev pub entry_of : ℕ → Act → Entry
+entry_of who act = record { who = who; act = act }
 
--- the step of caller 0 that runs a text after a history, given which patterns were refused
-abbrev pub run_entry : List Refused → History → List ℕ → Entry
-run_entry refused history text = entry_of (acts.Run text (verdict_of refused (length history) text))
+-- the step of a caller that runs a text after a history, given which patterns were refused
+abbrev pub run_entry : ℕ → List Refused → History → List ℕ → Entry
+run_entry who refused history text = entry_of who (acts.Run text (verdict_of refused (length history) text))
 
 abbrev pub after_entry : Option Entry → History → History
 after_entry None history = history
 after_entry (Some entry) history = entry ∷ history
 
--- what a line does: nothing after the opening, or it takes a step, paints the frame, or looks at the tree
-pub data Deed : Type 0 where
-  Rests : Deed
-  Takes : Entry → Deed
-  Paints : Deed
-  Looks : Query → Deed
+-- what comes of a line: nothing after the opening, or it takes a step, paints the frame, or shows a caller something
+pub data Effect : Type 0 where
+  Rests : Effect
+  Takes : Entry → Effect
+  Paints : Effect
+  Looks : ℕ → Query → Effect
 
 -- the step of a line that takes one and runs no text
-abbrev pub act_in : Line → Option Act
-act_in (line.Map props buffer) = Some (acts.Map props buffer)
-act_in (line.Retitle con title) = Some (acts.Retitle con title)
-act_in (line.Urgent con on) = Some (acts.Urgent con on)
-act_in (line.Close con) = Some (acts.Close con)
-act_in line.Gone = Some acts.Gone
-act_in (line.OutputAdd plan) = Some (acts.OutputAdd plan)
-act_in (line.OutputRemove name) = Some (acts.OutputRemove name)
-act_in (line.Reserve name edges) = Some (acts.Reserve name edges)
+abbrev pub act_in : Deed → Option Act
+act_in (deed.Map props buffer) = Some (acts.Map props buffer)
+act_in (deed.Retitle con title) = Some (acts.Retitle con title)
+act_in (deed.Urgent con on) = Some (acts.Urgent con on)
+act_in (deed.Close con) = Some (acts.Close con)
+act_in deed.Gone = Some acts.Gone
+act_in (deed.Ack con serial) = Some (acts.Ack con serial)
+act_in (deed.Give con buffer) = Some (acts.Give con buffer)
+act_in (deed.Deadline number) = Some (acts.Deadline number)
+act_in (deed.OutputAdd plan) = Some (acts.OutputAdd plan)
+act_in (deed.OutputRemove name) = Some (acts.OutputRemove name)
+act_in (deed.Reserve name edges) = Some (acts.Reserve name edges)
 act_in other = None
 
-abbrev pub takes : Option Act → Deed
-takes None = Rests
-takes (Some act) = Takes (entry_of act)
+abbrev pub takes : ℕ → Option Act → Effect
+takes who None = Rests
+takes who (Some act) = Takes (entry_of who act)
 
--- what a line does after a history; those of the plan do nothing
-abbrev pub deed_of : List Refused → History → Line → Deed
-deed_of refused history (line.Run text) = Takes (run_entry refused history text)
-deed_of refused history line.Paint = Paints
-deed_of refused history line.Marks = Looks query.Marks
-deed_of refused history other = takes (act_in other)
+-- what comes of what a caller does after a history; nothing comes of the plan
+abbrev pub effect_of : ℕ → List Refused → History → Deed → Effect
+effect_of who refused history (deed.Run text) = Takes (run_entry who refused history text)
+effect_of who refused history deed.Paint = Paints
+effect_of who refused history deed.Marks = Looks who query.Marks
+effect_of who refused history (deed.Wants serial kill) = Looks who (query.Wants serial kill)
+effect_of who refused history other = takes who (act_in other)
 
-abbrev pub after_deed : Deed → History → History
-after_deed Rests history = history
-after_deed (Takes entry) history = entry ∷ history
-after_deed Paints history = history
-after_deed (Looks q) history = history
+abbrev pub after_effect : Effect → History → History
+after_effect Rests history = history
+after_effect (Takes entry) history = entry ∷ history
+after_effect Paints history = history
+after_effect (Looks who q) history = history
 
--- the line that tells a view
+-- a size as `400x300`
+abbrev pub size_text : Size → List ℕ
+size_text size = decimal size.w ++ (codes "x" ++ decimal size.h)
+
+-- the line of what is asked of a window
+abbrev pub want_text : Want → List ℕ
+want_text (want.Configure con serial size) = codes "configure " ++ (decimal con.0 ++ (codes " " ++ (decimal serial ++ (codes " " ++ (size_text size ++ new_line)))))
+want_text (want.Kill con number) = codes "kill " ++ (decimal con.0 ++ (codes " " ++ (decimal number ++ new_line)))
+
+-- the lines that tell a view; no line of a script looks at the state
 abbrev pub view_text : View → List ℕ
 view_text (view.Marks marks) = texts_text marks ++ new_line
+view_text (view.State state) = []
+view_text (view.Wants wants) = flat_map want_text wants ++ (codes "end" ++ new_line)
 
--- the answer of a step, the frame, or what caller 0 sees
-abbrev pub deed_text : Start → History → Deed → List ℕ
-deed_text start history Rests = []
-deed_text start history (Takes entry) = answer_text (answer start history entry)
-deed_text start history Paints = frame_text (frame start history)
-deed_text start history (Looks q) = view_text (look (tree start history) 0 q)
+-- the answer of a step, the frame, or what the caller sees
+abbrev pub effect_text : Start → History → Effect → List ℕ
+effect_text start history Rests = []
+effect_text start history (Takes entry) = answer_text (answer start history entry)
+effect_text start history Paints = frame_text (frame start history)
+effect_text start history (Looks who q) = view_text (look start history who q)
 
 -- the history after a line
 abbrev pub after : Line → List Refused → History → History
-after l refused history = after_deed (deed_of refused history l) history
+after l refused history = after_effect (effect_of l.who refused history l.deed) history
 
 -- what a line tells after a history
 abbrev pub told : Start → Line → List Refused → History → List ℕ
-told start l refused history = deed_text start history (deed_of refused history l)
+told start l refused history = effect_text start history (effect_of l.who refused history l.deed)
 
 -- what is written for the lines after a history from an opening tree, given which patterns were refused
 abbrev pub out_from : Start → List Line → List Refused → History → List ℕ
@@ -157,9 +178,12 @@ one_if_some None = []
 one_if_some (Some act) = None ∷ []
 
 -- the steps of lines, each with the text that it runs, where it runs one; a line has one step or none
+abbrev pub deed_step : Deed → List (Option (List ℕ))
+deed_step (deed.Run text) = Some text ∷ []
+deed_step other = one_if_some (act_in other)
+
 abbrev pub line_step : Line → List (Option (List ℕ))
-line_step (line.Run text) = Some text ∷ []
-line_step other = one_if_some (act_in other)
+line_step l = deed_step l.deed
 
 abbrev pub line_texts : List Line → List (Option (List ℕ))
 line_texts [] = []

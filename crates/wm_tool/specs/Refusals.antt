@@ -3,7 +3,7 @@ use Rattle.std.specs.Prelude.{ℕ, ◌+◌, ◌==◌, ◌≤◌, if◌then◌els
 use Rattle.std.specs.List.{flat_map, AllByRecursion}
 use Rattle.std.specs.Option.{option_to_list}
 use Rattle.wm_defs.specs.Counts.{LAST_COUNT}
-use Rattle.wm_core.specs.Schedule.{greatest}
+use Rattle.wm_txn.specs.Commits.{greatest}
 use Rattle.wm_criteria.specs.Building.{Tells}
 use Rattle.wm_criteria.specs.Patterns.{pattern_at, unless_plain}
 use Rattle.wm_criteria.specs.declared.verdict.Verdict.{Verdict}

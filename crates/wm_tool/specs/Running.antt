@@ -73,3 +73,7 @@ pub record Plays (old now : Option (List ℕ)) (desk : DeskValue) (refused : Lis
 -- a run that has stopped wrote a first part, and its refusals are backed
 abbrev pub Stops : Option (List ℕ) → Option (List ℕ) → (List Refused → List ℕ) → List Refused → List (Option (List ℕ)) → ℕ → ℕ → Option (List (List ℕ)) → Option (List (List ℕ)) → Type 0
 Stops old now whole refused texts count count_now told told_now = TakesPart old now (whole refused) × IsBacked texts refused count count_now told told_now
+
+-- what a run is at that tells nothing before its end
+abbrev pub Draws : DeskValue → List Refused → (List Refused → History → List ℕ) → (List Refused → List ℕ) → List (Option (List ℕ)) → List (Option (List ℕ)) → ℕ → ℕ → Option (List (List ℕ)) → Option (List (List ℕ)) → Type 0
+Draws desk refused tells whole texts ahead count count_now told told_now = Plays (Some []) (Some []) desk refused [] tells whole texts ahead count count_now told told_now

@@ -3,11 +3,12 @@ use Rattle.std.specs.Prelude.{◌≡◌, ℕ, ◌+◌, ◌==◌, ◌&&◌, ◌||
 use Rattle.wm_base.specs.declared.plan.OutputPlan.{OutputPlan}
 use Rattle.wm_core.specs.Sizes.{IsFitSize}
 use Rattle.wm_layouts.specs.Plan.{IsFitBorder, IsFitEdges, IsFitOutput, NamesDiffer, is_taken}
-use Rattle.wm_tool.specs.Lines.{line_of}
+use Rattle.wm_tool.specs.Lines.{is_plan_deed, line_of}
 use Rattle.wm_tool.specs.declared.script.ScriptRefusal.{ScriptRefusal}
 use Rattle.wm_tool.specs.declared.script.ScriptRefusal.TheVariants as refusals
+use Rattle.wm_tool.specs.declared.line.Deed.{Deed}
+use Rattle.wm_tool.specs.declared.line.Deed.TheVariants.{Output, Border, Inner, Outer, Map, OutputAdd, Reserve, Give, Run}
 use Rattle.wm_tool.specs.declared.line.Line.{Line}
-use Rattle.wm_tool.specs.declared.line.Line.TheVariants.{Output, Border, Inner, Outer, Map, OutputAdd, Reserve, Run}
 
 -- ---- lines
 
@@ -24,34 +25,34 @@ lines_of (c ∷ cs) = if c == 10 then [] ∷ lines_of cs else onto_first c (line
 
 -- a line of the plan
 abbrev pub is_plan : Line → Bool
-is_plan (Output o) = true
-is_plan (Border b) = true
-is_plan (Inner n) = true
-is_plan (Outer n) = true
-is_plan other = false
+is_plan line = is_plan_deed line.deed
 
 -- one of the lines is none of the plan
 abbrev pub has_begun : List Line → Bool
 has_begun [] = false
 has_begun (line ∷ lines) = not (is_plan line) || has_begun lines
 
-abbrev pub onto_outputs : Line → List OutputPlan → List OutputPlan
+abbrev pub onto_outputs : Deed → List OutputPlan → List OutputPlan
 onto_outputs (Output o) outputs = o ∷ outputs
 onto_outputs other outputs = outputs
 
 -- the outputs that lines give the plan
 abbrev pub outputs_in : List Line → List OutputPlan
 outputs_in [] = []
-outputs_in (line ∷ lines) = onto_outputs line (outputs_in lines)
+outputs_in (line ∷ lines) = onto_outputs line.deed (outputs_in lines)
 
 -- there are fewer than eight outputs, and none has the name of this one
 abbrev pub is_another : OutputPlan → List OutputPlan → Bool
 is_another o outputs = nat_lt (length outputs) 8 && not (is_taken o.name outputs)
 
--- the line may stand behind these: those of the plan come first, and outputs have names of their own and are at most eight
+-- what a line does may stand behind these: those of the plan come first, and outputs have names of their own and are at
+-- most eight
+abbrev pub deed_may_follow : List Line → Deed → Bool
+deed_may_follow before (Output o) = not (has_begun before) && is_another o (outputs_in before)
+deed_may_follow before deed = not (has_begun before && is_plan_deed deed)
+
 abbrev pub may_follow : List Line → Line → Bool
-may_follow before (Output o) = not (has_begun before) && is_another o (outputs_in before)
-may_follow before line = not (has_begun before && is_plan line)
+may_follow before line = deed_may_follow before line.deed
 
 -- what a line says behind these lines, where it may stand there
 abbrev pub in_order : List Line → Option Line → Option Line
@@ -75,16 +76,20 @@ abbrev pub script : List ℕ → Result (List Line) ℕ
 script bytes = script_from [] (lines_of bytes)
 
 -- a line's output, border, gap, buffer and edges are within the limits, and its text within the size of an input
+abbrev pub IsFitDeed : Deed → Type 0
+IsFitDeed (Output o) = IsFitOutput o
+IsFitDeed (Border b) = IsFitBorder b
+IsFitDeed (Inner n) = n ≤ 1000
+IsFitDeed (Outer n) = n ≤ 1000
+IsFitDeed (Map props buffer) = IsFitSize buffer.size
+IsFitDeed (Give con buffer) = IsFitSize buffer.size
+IsFitDeed (OutputAdd o) = IsFitEdges o.reserved
+IsFitDeed (Reserve name edges) = IsFitEdges edges
+IsFitDeed (Run text) = length text ≤ 16777216
+IsFitDeed other = Unit {0}
+
 abbrev pub IsFitLine : Line → Type 0
-IsFitLine (Output o) = IsFitOutput o
-IsFitLine (Border b) = IsFitBorder b
-IsFitLine (Inner n) = n ≤ 1000
-IsFitLine (Outer n) = n ≤ 1000
-IsFitLine (Map props buffer) = IsFitSize buffer.size
-IsFitLine (OutputAdd o) = IsFitEdges o.reserved
-IsFitLine (Reserve name edges) = IsFitEdges edges
-IsFitLine (Run text) = length text ≤ 16777216
-IsFitLine other = Unit {0}
+IsFitLine line = IsFitDeed line.deed
 
 -- lines are within the limits, and the outputs that they give the plan are at most eight, with names of their own
 pub record IsSoundScript (lines : List Line) : Type 0 where

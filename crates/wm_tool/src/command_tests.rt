@@ -1,4 +1,5 @@
 //! Runs of the tool over commands on nested containers: their replies, and the frames that they leave.
+use crate::client_tests::{is_painted, tells};
 use crate::line_tests::replayed;
 use std::alloc::Global;
 use std::test::Fail;
@@ -59,7 +60,7 @@ fn texts_on_three_windows(rt: HostRuntime) -> Result<(), Fail> {
             "",
         ),
         (
-            "[all] mark a; [class=a] kill; [id=9] mark a",
+            "[all] mark a; [class=a] append_layout x; [id=9] mark a",
             many,
             "not built yet",
             "no container matches",
@@ -86,12 +87,38 @@ fn texts_on_three_windows(rt: HostRuntime) -> Result<(), Fail> {
 fn scripts_on_nested_containers(rt: HostRuntime) -> Result<(), Fail> {
     let cases = [
         (
-            "map ff0000 640x480\nmap 00ff00 640x480\nmap 0000ff 640x480\nrun split v\nmap ffffff 640x480\nrun focus left\nrun move right\npaint\n",
+            "map ff0000 640x480\nmap 00ff00 640x480\nmap 0000ff 640x480\nrun split v\nmap ffffff 640x480\nrun focus left\nrun move right\n",
             "window 4 0,0 500x800 ff0000 640x480\nwindow 6 500,0 500x266 0000ff 640x480\nwindow 8 500,266 500x267 ffffff 640x480\nwindow 5 500,533 500x267 00ff00 640x480\nend\n",
         ),
         (
-            "map 000001 9x9\nrun split v\nmap 000002 9x9\nrun split h\nmap 000003 9x9\nclose 7\npaint\nrun [con_id=6] mark kept\nmarks\n",
-            "window 4 0,0 1000x400 000001 9x9\nwindow 5 0,400 1000x400 000002 9x9\nend\n[{\"success\":true}]\n[\"kept\"]\n",
+            "map 000001 9x9\nrun split v\nmap 000002 9x9\nrun split h\nmap 000003 9x9\nclose 7\n",
+            "window 4 0,0 1000x400 000001 9x9\nwindow 5 0,400 1000x400 000002 9x9\nend\n",
+        ),
+        (
+            "map 000001 9x9\nmap 000002 9x9\nrun layout tabbed; focus left\n",
+            "title 4 0,0 500x20 4c7899 \"\"\ntitle 5 500,0 500x20 333333 \"\"\nwindow 4 0,20 1000x780 000001 9x9\nend\n",
+        ),
+        (
+            "map 000001 9x9\nmap 000002 9x9\nrun layout tabbed; focus left\nrun layout toggle split, layout toggle all\n",
+            "back 3 0,0 1000x800\nwindow 4 0,0 1000x400 000001 9x9\nwindow 5 0,400 1000x400 000002 9x9\nend\n",
+        ),
+        (
+            "map 000001 640x480 title=\"a\"\nmap 00ff00 640x480 title=\"b\"\nrun layout stacked\n",
+            "back 3 0,0 1000x800\ntitle 4 0,0 1000x20 333333 \"a\"\ntitle 5 0,20 1000x20 4c7899 \"b\"\nwindow 5 0,40 1000x760 00ff00 640x480\nend\n",
+        ),
+    ];
+    for (lines, text) in cases {
+        assert!(rt; is_painted(rt.alloc(), lines, text)?, "{lines}");
+    }
+    Ok(())
+}
+
+#[test]
+fn scripts_on_marks(rt: HostRuntime) -> Result<(), Fail> {
+    let cases = [
+        (
+            "map 000001 9x9\nrun split v\nmap 000002 9x9\nrun split h\nmap 000003 9x9\nclose 7\nrun [con_id=6] mark kept\nmarks\n",
+            "ok\n[{\"success\":true}]\n[\"kept\"]\n",
         ),
         (
             "map 000001 9x9\nmap 000002 9x9\nrun [con_id=4] mark a\nrun [con_id=5] mark --add a\nrun [con_id=4 con_mark=a] unmark\nmarks\n",
@@ -102,18 +129,12 @@ fn scripts_on_nested_containers(rt: HostRuntime) -> Result<(), Fail> {
             "[{\"error\":\"parse error at byte 0\",\"parse_error\":true,\"success\":false}]\n[]\n",
         ),
         (
-            "map 000001 9x9\nmap 000002 9x9\nrun layout tabbed; focus left\npaint\nrun layout toggle split, layout toggle all\npaint\n",
-            "title 4 0,0 500x20 4c7899 \"\"\ntitle 5 500,0 500x20 333333 \"\"\nwindow 4 0,20 1000x780 000001 9x9\nend\n[{\"success\":true},{\"success\":true}]\nframe 4 4\nback 3 0,0 1000x800\nwindow 4 0,0 1000x400 000001 9x9\nwindow 5 0,400 1000x400 000002 9x9\nend\n",
-        ),
-        (
-            "map 000001 640x480 title=\"a\"\nmap 00ff00 640x480 title=\"b\"\nrun layout stacked\npaint\n",
-            "frame 3 3\nback 3 0,0 1000x800\ntitle 4 0,0 1000x20 333333 \"a\"\ntitle 5 0,20 1000x20 4c7899 \"b\"\nwindow 5 0,40 1000x760 00ff00 640x480\nend\n",
+            "border pixel 3\nmap 000001 9x9\nrun mark a, floating enable, floating disable\nmarks\n",
+            "[{\"success\":true},{\"success\":true},{\"success\":true}]\n[\"a\"]\n",
         ),
     ];
-    for (script, text) in cases {
-        let (ended, written) = replayed(rt.alloc(), script)?;
-        assert_eq!(rt; ended, 0, "{script}");
-        assert!(rt; written.ends_with(text.as_bytes()), "{script}");
+    for (lines, text) in cases {
+        assert!(rt; tells(rt.alloc(), lines, text)?, "{lines}");
     }
     Ok(())
 }
@@ -169,19 +190,18 @@ fn texts_on_workspaces(rt: HostRuntime) -> Result<(), Fail> {
 #[test]
 fn scripts_on_workspaces(rt: HostRuntime) -> Result<(), Fail> {
     let cases = [
+        ("run workspace 2\n", "back 4 0,0 1000x800\nend\n"),
         (
-            "run workspace 2\npaint\n",
-            "[{\"success\":true}]\nframe 1 1\nback 4 0,0 1000x800\nend\n",
+            "map 000001 9x9\nmap 000002 9x9\nrun move to workspace mail, workspace mail\n",
+            "back 6 0,0 1000x800\nwindow 5 0,0 1000x800 000002 9x9\nend\n",
         ),
         (
-            "map 000001 9x9\nmap 000002 9x9\nrun move to workspace mail, workspace mail\npaint\nrun [con_id=4] focus\npaint\n",
-            "back 6 0,0 1000x800\nwindow 5 0,0 1000x800 000002 9x9\nend\n[{\"success\":true}]\nframe 4 4\nback 3 0,0 1000x800\nwindow 4 0,0 1000x800 000001 9x9\nend\n",
+            "map 000001 9x9\nmap 000002 9x9\nrun move to workspace mail, workspace mail\nrun [con_id=4] focus\n",
+            "back 3 0,0 1000x800\nwindow 4 0,0 1000x800 000001 9x9\nend\n",
         ),
     ];
-    for (script, text) in cases {
-        let (ended, written) = replayed(rt.alloc(), script)?;
-        assert_eq!(rt; ended, 0, "{script}");
-        assert!(rt; written.ends_with(text.as_bytes()), "{script}");
+    for (lines, text) in cases {
+        assert!(rt; is_painted(rt.alloc(), lines, text)?, "{lines}");
     }
     Ok(())
 }

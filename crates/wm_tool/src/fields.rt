@@ -1,11 +1,11 @@
 //! Fields of a line at the front of a text: numbers, inks, buffers, rectangles and edges.
-ghost use Rattle.std.specs.Prelude.{◌≡◌, ◌+◌, ◌*◌, ◌≤◌, ◌<◌, length, take_while, IfSome, Some, if◌then◌else◌, None, nat_le};
+ghost use Rattle.std.specs.Prelude.{◌≡◌, ◌+◌, ◌*◌, ◌≤◌, ◌<◌, length, take_while, IfNone, IfSome, Some, if◌then◌else◌, None, nat_le};
 ghost use Rattle.std.specs.Char.{is_ascii_digit};
 ghost use Rattle.std.specs.Option.{option_copied, option_map};
 ghost use Rattle.wm_core.specs.Sizes.{IsFitSize};
 ghost use Rattle.wm_defs.specs.Hex.{hex_value};
 ghost use Rattle.wm_layouts.specs.Plan.{IsFitEdges};
-ghost use Rattle.wm_tool.specs.Fields.{behind, buffer_at, coordinate_at, decimal_value, edges_at, if_end, ink_at, number_at, rect_at, size_at, width_at, with_digit};
+ghost use Rattle.wm_tool.specs.Fields.{behind, buffer_at, coordinate_at, decimal_value, edges_at, if_end, ink_at, number_at, rect_at, serial_at, size_at, width_at, with_digit};
 
 use wm_base::{Buffer, Edges, Ink, Rect, Size};
 
@@ -40,6 +40,41 @@ pub fn number(text: &[u8], most: u32) -> Option<(u32, &[u8])>
     let (digits, rest) = text.split_at(count);
     let value = decimal(digits, most)?;
     Some((value, rest))
+}
+
+/// A number of 1 to 20 decimal digits that fits 64 bits, and what follows it.
+pub fn serial(text: &[u8]) -> Option<(u64, &[u8])>
+    ensures { option_map (λ found. (found.0, found.1.now)) result ≡ serial_at text.now }
+{
+    let count = digit_count(text);
+    if count == 0 || count > MAX_DIGITS {
+        return None;
+    }
+    let (digits, rest) = text.split_at(count);
+    let value = long_decimal(digits)?;
+    Some((value, rest))
+}
+
+/// The value of decimal digits, where it fits 64 bits.
+#[tactic(auto, using(crate::proofs::FieldLemmas::decimal_rises))]
+fn long_decimal(digits: &[u8]) -> Option<u64>
+    ensures { result ≡ (if nat_le (decimal_value 0 digits.now) 18446744073709551615 then Some (decimal_value 0 digits.now) else None) }
+{
+    let mut value = 0u64;
+    let mut rest = digits;
+    while let [digit, after @ ..] = rest {
+        value = with_decimal(value, digit.saturating_sub(b'0'))?;
+        rest = after;
+    }
+    Some(value)
+}
+
+/// A value with one more decimal digit, where it fits 64 bits.
+fn with_decimal(value: u64, digit: u8) -> Option<u64>
+    ensures some { IfSome result (λ v. v ≡ value * 10 + digit) }
+    ensures none { IfNone result (18446744073709551615 < value * 10 + digit) }
+{
+    value.checked_mul(10)?.checked_add(u64::from(digit))
 }
 
 /// How many decimal digits the text begins with.

@@ -159,8 +159,8 @@ fn answer_text<B: Build>(
     requires few { desk.old.steps < 2 ^ 48 }
     requires short { length text.now < 2 ^ 32 }
     ensures ok { refusal_at desk.old.steps refused.old.items ≡ None →
-        OnOk result (Leads desk.old desk.new (λ history. run_entry refused.new.items history text.now ∷ history)
-        (λ history. framed 0 (Some (replies_text (replies_of (answer (opening_of desk.old.plan) history (run_entry refused.new.items history text.now))))))
+        OnOk result (Leads desk.old desk.new (λ history. run_entry 0 refused.new.items history text.now ∷ history)
+        (λ history. framed 0 (Some (replies_text (replies_of (answer (opening_of desk.old.plan) history (run_entry 0 refused.new.items history text.now))))))
         piece.old.items piece.new.items) }
     ensures steps { OnOk result (desk.new.steps ≡ desk.old.steps + 1) }
     ensures plan { OnOk result (desk.new.plan ≡ desk.old.plan) }
@@ -168,7 +168,7 @@ fn answer_text<B: Build>(
     ensures backs { Backs desk.old.steps (Some text.now ∷ []) refused.old.items refused.new.items
         (B.refusals build.old) (B.refusals build.new) (B.refused build.old) (B.refused build.new) }
 {
-    let answer = run_text(alloc, desk, text, build, refused)?;
+    let answer = run_text(alloc, desk, 0, text, build, refused)?;
     let replies = answer_replies(alloc, &answer)?;
     push_reply(RUN_COMMAND, Some(replies), piece)
 }

@@ -35,7 +35,7 @@ fn messages_and_their_replies(rt: HostRuntime) -> Result<(), Fail> {
         (0, b"", "[]"),
         (
             0,
-            b"NOP; [all] kill",
+            b"NOP; mode x",
             "[{\"success\":true},{\"error\":\"not built yet\",\"success\":false}]",
         ),
         (

@@ -41,10 +41,11 @@ pub fn judge<B: Build>(
     Ok(prepared)
 }
 
-/// Runs a text on the desk for caller 0, and gives what that is answered.
+/// Runs a text on the desk for the caller of this number, and gives what that is answered.
 pub fn run_text<B: Build>(
     alloc: Global,
     desk: &mut Desk,
+    who: u32,
     text: &str,
     build: &mut B,
     refused: &mut Vec<Refused>,
@@ -52,9 +53,9 @@ pub fn run_text<B: Build>(
     requires few { desk.old.steps < 2 ^ 48 }
     requires short { length text.now < 2 ^ 32 }
     ensures answer { refusal_at desk.old.steps refused.old.items ≡ None → (history : History) → Stands desk.old history →
-        IfOk result (λ a. a ≡ answer (opening_of desk.old.plan) history (run_entry refused.new.items history text.now)) }
+        IfOk result (λ a. a ≡ answer (opening_of desk.old.plan) history (run_entry who refused.new.items history text.now)) }
     ensures stands { refusal_at desk.old.steps refused.old.items ≡ None → (history : History) → Stands desk.old history →
-        OnOk result (Stands desk.new (run_entry refused.new.items history text.now ∷ history)) }
+        OnOk result (Stands desk.new (run_entry who refused.new.items history text.now ∷ history)) }
     ensures steps { OnOk result (desk.new.steps ≡ desk.old.steps + 1) }
     ensures plan { OnOk result (desk.new.plan ≡ desk.old.plan) }
     ensures grows { Grows desk.old.steps (Some text.now ∷ []) refused.old.items refused.new.items }
@@ -63,5 +64,5 @@ pub fn run_text<B: Build>(
 {
     let text = judge(alloc, text, desk.steps(), build, refused)?;
     let step = Step::Run(text);
-    desk.step(0, &step)
+    desk.step(who, &step)
 }

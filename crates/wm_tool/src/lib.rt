@@ -1,7 +1,9 @@
-//! The tool behind the program i3replay: it replays scripts and answers frames.
+//! The tool behind the program i3replay: it replays scripts, draws their frames, and answers frames of i3-ipc.
 #![tactic(auto)]
 
 mod answers;
+mod client_lines;
+mod drawing;
 mod fields;
 mod ipc;
 mod judging;
@@ -23,7 +25,11 @@ pub use run::tool;
 pub use status::{Refused, Status};
 
 #[cfg(test)]
+mod client_tests;
+#[cfg(test)]
 mod command_tests;
+#[cfg(test)]
+mod float_tests;
 #[cfg(test)]
 mod ipc_tests;
 #[cfg(test)]

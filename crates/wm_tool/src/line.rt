@@ -1,9 +1,16 @@
-//! The lines of a script.
+//! The lines of a script: who speaks, and what each does.
 use wm_base::{Border, Buffer, ConId, Edges, OutputPlan, Props, Str, Text};
 
-/// A line of a script: one of the plan, a step of caller 0, a frame to be painted, or a look at the tree.
+/// A line of a script, and the number of the caller who speaks: 0 where it names none.
 #[derive(Debug, Drop)]
-pub enum Line {
+pub struct Line {
+    pub who: u32,
+    pub deed: Deed,
+}
+
+/// What a line does: it says something of the plan, takes a step, has the frame painted, or looks at the desk.
+#[derive(Debug, Drop)]
+pub enum Deed {
     /// There is this output.
     Output(OutputPlan),
     /// Containers have this border.
@@ -28,10 +35,18 @@ pub enum Line {
     OutputRemove(Text),
     /// Reserves the edges of the output of this name for bars, in pixels.
     Reserve { name: Text, edges: Edges },
+    /// Acknowledges the configure of this serial for the window.
+    Ack { con: ConId, serial: u64 },
+    /// Gives a buffer for the window.
+    Give { con: ConId, buffer: Buffer },
+    /// The time of the transaction of this number is over.
+    Deadline(u64),
     /// Runs a text.
     Run(Str),
     /// Paints the frame.
     Paint,
     /// Tells all marks.
     Marks,
+    /// Tells what is asked of the caller's windows above this serial and this number of a step.
+    Wants { serial: u64, kill: u64 },
 }

@@ -2,18 +2,18 @@
 ghost use Rattle.std.specs.Prelude.{◌≡◌, IfOk, IfSome};
 ghost use Rattle.wm_layouts.specs.Plan.{IsFitEdges};
 ghost use Rattle.wm_tool.specs.Lines.{added_at, output_at, output_line_of, removed_at, reserved_at};
-ghost use Rattle.wm_tool.specs.Script.{IsFitLine};
+ghost use Rattle.wm_tool.specs.Script.{IsFitDeed};
 
 use crate::fields::{at_end, behind, edges, rect};
-use crate::line::Line;
+use crate::line::Deed;
 use crate::quoted::name;
 use std::alloc::Global;
 use wm_base::{Edges, NoMemory, OutputPlan};
 
 /// What a line says of outputs.
-pub fn output_line(alloc: Global, text: &[u8]) -> Result<Option<Line>, NoMemory>
+pub fn output_line(alloc: Global, text: &[u8]) -> Result<Option<Deed>, NoMemory>
     ensures value { IfOk result (λ line. line ≡ output_line_of text.now) }
-    ensures fit { IfOk result (λ line. IfSome line IsFitLine) }
+    ensures fit { IfOk result (λ line. IfSome line IsFitDeed) }
 {
     if let Some(rest) = behind(text, b"output-add ") {
         return added_line(alloc, rest);
@@ -56,37 +56,37 @@ pub fn output(alloc: Global, text: &[u8]) -> Result<Option<OutputPlan>, NoMemory
 }
 
 /// An output that is added.
-fn added_line(alloc: Global, text: &[u8]) -> Result<Option<Line>, NoMemory>
+fn added_line(alloc: Global, text: &[u8]) -> Result<Option<Deed>, NoMemory>
     ensures value { IfOk result (λ line. line ≡ added_at text.now) }
-    ensures fit { IfOk result (λ line. IfSome line IsFitLine) }
+    ensures fit { IfOk result (λ line. IfSome line IsFitDeed) }
 {
     match output(alloc, text)? {
-        Some(plan) => Ok(Some(Line::OutputAdd(plan))),
+        Some(plan) => Ok(Some(Deed::OutputAdd(plan))),
         None => Ok(None),
     }
 }
 
 /// `NAME`, to the end of the line.
-fn removed_line(alloc: Global, text: &[u8]) -> Result<Option<Line>, NoMemory>
+fn removed_line(alloc: Global, text: &[u8]) -> Result<Option<Deed>, NoMemory>
     ensures value { IfOk result (λ line. line ≡ removed_at text.now) }
-    ensures fit { IfOk result (λ line. IfSome line IsFitLine) }
+    ensures fit { IfOk result (λ line. IfSome line IsFitDeed) }
 {
     match name(alloc, text)? {
-        Some((name, rest)) => Ok(at_end(rest, Line::OutputRemove(name))),
+        Some((name, rest)) => Ok(at_end(rest, Deed::OutputRemove(name))),
         None => Ok(None),
     }
 }
 
 /// `NAME TOP RIGHT BOTTOM LEFT`, to the end of the line.
-fn reserved_line(alloc: Global, text: &[u8]) -> Result<Option<Line>, NoMemory>
+fn reserved_line(alloc: Global, text: &[u8]) -> Result<Option<Deed>, NoMemory>
     ensures value { IfOk result (λ line. line ≡ reserved_at text.now) }
-    ensures fit { IfOk result (λ line. IfSome line IsFitLine) }
+    ensures fit { IfOk result (λ line. IfSome line IsFitDeed) }
 {
     let Some((name, rest)) = name(alloc, text)? else {
         return Ok(None);
     };
     match edges(rest) {
-        Some((edges, rest)) => Ok(at_end(rest, Line::Reserve { name, edges })),
+        Some((edges, rest)) => Ok(at_end(rest, Deed::Reserve { name, edges })),
         None => Ok(None),
     }
 }

@@ -8,9 +8,9 @@ use std::test::Fail;
 fn outputs_of_the_plan(rt: HostRuntime) -> Result<(), Fail> {
     let cases = [
         (
-            "output A 0,0 100x80\noutput \"B C\" 100,-5 50x60\nmap 000001 9x9\nrun focus output \"B C\"\nmap 000002 9x9\npaint\n",
+            "output A 0,0 100x80\noutput \"B C\" 100,-5 50x60\nmap 000001 9x9\nrun focus output \"B C\"\nmap 000002 9x9\ndeadline 1\ndeadline 2\npaint\n",
             0,
-            "ok 6\n[{\"success\":true}]\nok 7\nframe 2 3\nback 4 0,0 100x80\nwindow 6 0,0 100x80 000001 9x9\nback 5 100,-5 50x60\nwindow 7 100,-5 50x60 000002 9x9\nend\n",
+            "ok 6\n[{\"success\":true}]\nok 7\nok\nok\nframe 2 4\nback 4 0,0 100x80\nwindow 6 0,0 100x80 000001 9x9\nback 5 100,-5 50x60\nwindow 7 100,-5 50x60 000002 9x9\nend\n",
         ),
         (
             "gaps outer 1\noutput -x -131072,-0 00016384x2048\nborder none\npaint\n",
@@ -35,9 +35,9 @@ fn outputs_come_and_go(rt: HostRuntime) -> Result<(), Fail> {
             "name-taken\nbad-rect\nbad-rect\nok\nname-taken\nframe 1 4\nback 3 0,0 1000x800\nback 5 1000,0 600x400\nend\n",
         ),
         (
-            "map 000001 9x9\noutput-remove DP-1\noutput-remove B\noutput-add \"B\" 0,800 600x400\noutput-remove DP-1\nrun workspace 1\npaint\n",
+            "map 000001 9x9\noutput-remove DP-1\noutput-remove B\noutput-add \"B\" 0,800 600x400\noutput-remove DP-1\nrun workspace 1\ndeadline 1\ndeadline 2\npaint\n",
             0,
-            "ok 4\nno-target\nno-target\nok\nok\n[{\"success\":true}]\nframe 4 6\nback 3 0,800 600x400\nwindow 4 0,800 600x400 000001 9x9\nend\n",
+            "ok 4\nno-target\nno-target\nok\nok\n[{\"success\":true}]\nok\nok\nframe 2 7\nback 3 0,800 600x400\nwindow 4 0,800 600x400 000001 9x9\nend\n",
         ),
         (
             "output A 0,0 9x9\noutput B 0,0 9x9\noutput C 0,0 9x9\noutput D 0,0 9x9\noutput E 0,0 9x9\noutput F 0,0 9x9\noutput G 0,0 9x9\noutput H 0,0 9x9\noutput-add I 0,0 9x9\noutput-remove A\noutput-add I 0,0 9x9\n",
@@ -45,9 +45,9 @@ fn outputs_come_and_go(rt: HostRuntime) -> Result<(), Fail> {
             "full outputs\nok\nok\n",
         ),
         (
-            "map 000001 9x9\nreserve DP-1 30 1 20 2\nreserve B 0 0 0 0\npaint\n",
+            "map 000001 9x9\nreserve DP-1 30 1 20 2\nreserve B 0 0 0 0\ndeadline 1\ndeadline 2\npaint\n",
             0,
-            "ok 4\nok\nno-target\nframe 2 2\nback 3 0,0 1000x800\nwindow 4 2,30 997x750 000001 9x9\nend\n",
+            "ok 4\nok\nno-target\nok\nok\nframe 2 4\nback 3 0,0 1000x800\nwindow 4 2,30 997x750 000001 9x9\nend\n",
         ),
     ];
     expect(&rt, rt.alloc(), &cases)
@@ -69,7 +69,7 @@ fn titles_and_urgency(rt: HostRuntime) -> Result<(), Fail> {
         (
             "map 000001 9x9\nmap 000002 9x9\ngone\nclose 4\ngone\npaint\n",
             0,
-            "ok 4\nok 5\nok\nno-view\nok\nframe 3 3\nback 3 0,0 1000x800\nend\n",
+            "ok 4\nok 5\nok\nno-view\nok\nframe 2 3\nback 3 0,0 1000x800\nend\n",
         ),
     ];
     expect(&rt, rt.alloc(), &cases)

@@ -6,7 +6,7 @@ ghost use Rattle.wm_tool.specs.Output.{outputs_or_default, plain, set_by, start_
 ghost use Rattle.wm_tool.specs.Planning.{setting_of};
 ghost use Rattle.wm_tool.specs.Script.{IsFitLine, IsSoundScript, outputs_in};
 
-use crate::line::Line;
+use crate::line::{Deed, Line};
 use std::alloc::{AllocError, Global};
 use wm_base::{List, NoMemory, OutputPlan};
 use wm_layouts::Plan;
@@ -50,7 +50,7 @@ fn copy_outputs(alloc: Global, lines: &[Line]) -> Result<Vec<OutputPlan>, AllocE
     let mut outputs = Vec::new(alloc);
     let mut rest = lines;
     while let [line, after @ ..] = rest {
-        if let Line::Output(output) = line {
+        if let Deed::Output(output) = &line.deed {
             outputs.push(copy_output(output)?)?;
         }
         rest = after;
@@ -74,14 +74,14 @@ fn set(plan: &mut Plan, line: &Line)
     requires sound { IsSound plan.old }
     requires fit { IsFitLine line.now }
     ensures sound { IsSound plan.new }
-    ensures setting { setting_of plan.new ≡ set_by line.now (setting_of plan.old) }
+    ensures setting { setting_of plan.new ≡ set_by line.now.deed (setting_of plan.old) }
     ensures outputs { plan.new.outputs ≡ plan.old.outputs }
     ensures homes { plan.new.env.homes ≡ plan.old.env.homes }
 {
-    match line {
-        Line::Border(border) => plan.border = *border,
-        Line::Inner(width) => plan.inner = *width,
-        Line::Outer(width) => plan.outer = *width,
+    match &line.deed {
+        Deed::Border(border) => plan.border = *border,
+        Deed::Inner(width) => plan.inner = *width,
+        Deed::Outer(width) => plan.outer = *width,
         _ => {}
     }
 }

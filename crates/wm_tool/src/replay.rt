@@ -5,7 +5,7 @@ ghost use Rattle.wm_core.specs.Act.{act_of};
 ghost use Rattle.wm_core.specs.Frame.{frame};
 ghost use Rattle.wm_core.specs.Look.{look};
 ghost use Rattle.wm_paint.specs.FrameText.{frame_text};
-ghost use Rattle.wm_core.specs.History.{answer, tree, History, opening_of};
+ghost use Rattle.wm_core.specs.History.{answer, History, opening_of};
 ghost use Rattle.wm_core.specs.Sizes.{IsFitStep};
 ghost use Rattle.wm_defs.specs.Counts.{Rose};
 ghost use Rattle.wm_ports.specs.Told.{TakesAll, TakesPart};
@@ -13,19 +13,18 @@ ghost use Rattle.wm_tool.specs.Ending.{HasStopped};
 ghost use Rattle.wm_tool.specs.Output.{act_in, after, answer_text, entry_of, line_step, line_texts, out_from, start_of, told, view_text};
 ghost use Rattle.wm_tool.specs.Refusals.{refusal_at, IsBacked};
 ghost use Rattle.wm_tool.specs.Running.{Backs, Grows, Leads, Plays, Stops, Writes};
-ghost use Rattle.wm_tool.specs.Script.{IsFitLine, IsSoundScript};
+ghost use Rattle.wm_tool.specs.Script.{IsFitDeed, IsFitLine, IsSoundScript};
 ghost use Rattle.wm_tool.specs.declared.status.Refused.{Refused};
 ghost use Rattle.wm_tool.specs.declared.replay.Stop.TheVariants as stops;
 
-use crate::answers::push_answer;
+use crate::answers::{push_answer, push_view};
 use crate::judging::run_text;
-use crate::line::Line;
+use crate::line::{Deed, Line};
 use crate::planning::{copy_output, plan_of};
 use std::alloc::{AllocError, Global};
 use wm_base::NoMemory;
-use wm_core::{Desk, Query, Step, View};
+use wm_core::{ClientStep, Desk, Query, Step};
 use wm_criteria::Build;
-use wm_json::texts_json;
 use wm_paint::frame_text;
 use wm_ports::{Failed, Sink, write_all};
 use wm_tree::copy_props;
@@ -137,7 +136,7 @@ fn write_long<W: Sink>(piece: &mut Vec<u8>, sink: &mut W) -> Result<(), Failed>
 }
 
 /// Runs one line on the desk, and adds what it tells.
-fn run_line<B: Build>(
+pub(crate) fn run_line<B: Build>(
     alloc: Global,
     desk: &mut Desk,
     line: &Line,
@@ -155,46 +154,62 @@ fn run_line<B: Build>(
     ensures backs { Backs desk.old.steps (line_step line.now) refused.old.items refused.new.items
         (B.refusals build.old) (B.refusals build.new) (B.refused build.old) (B.refused build.new) }
 {
-    match line {
-        Line::Run(text) => {
-            let answer = run_text(alloc, desk, text.as_str(), build, refused)?;
+    match &line.deed {
+        Deed::Run(text) => {
+            let answer = run_text(alloc, desk, line.who, text.as_str(), build, refused)?;
             push_answer(alloc, piece, &answer)
         }
-        Line::Paint => paint(alloc, desk, piece),
-        Line::Marks => look(alloc, desk, &Query::Marks, piece),
-        _ => match step_of(line)? {
-            Some(step) => take(alloc, desk, &step, piece),
+        Deed::Paint => paint(alloc, desk, piece),
+        Deed::Marks => look(alloc, desk, line.who, &Query::Marks, piece),
+        Deed::Wants { serial, kill } => {
+            let query = Query::Wants {
+                serial: *serial,
+                kill: *kill,
+            };
+            look(alloc, desk, line.who, &query, piece)
+        }
+        deed => match step_of(deed)? {
+            Some(step) => take(alloc, desk, line.who, &step, piece),
             None => Ok(()),
         },
     }
 }
 
 /// The step of a line that takes one and runs no text.
-fn step_of(line: &Line) -> Result<Option<Step>, NoMemory>
-    requires { IsFitLine line.now }
-    ensures act { IfOk result (λ step. option_map act_of step ≡ act_in line.now) }
+fn step_of(deed: &Deed) -> Result<Option<Step>, NoMemory>
+    requires { IsFitDeed deed.now }
+    ensures act { IfOk result (λ step. option_map act_of step ≡ act_in deed.now) }
     ensures fit { IfOk result (λ step. IfSome step IsFitStep) }
 {
-    let step = match line {
-        Line::Map { props, buffer } => Step::Map {
+    let step = match deed {
+        Deed::Map { props, buffer } => Step::Map {
             props: copy_props(props)?,
             buffer: *buffer,
             then: None,
         },
-        Line::Retitle { con, title } => Step::Retitle {
+        Deed::Retitle { con, title } => Step::Retitle {
             con: *con,
             title: title.clone()?,
         },
-        Line::Urgent { con, on } => Step::Urgent { con: *con, on: *on },
-        Line::Close(con) => Step::Close { con: *con },
-        Line::Gone => Step::Gone,
-        Line::OutputAdd(plan) => Step::OutputAdd {
+        Deed::Urgent { con, on } => Step::Urgent { con: *con, on: *on },
+        Deed::Close(con) => Step::Close { con: *con },
+        Deed::Gone => Step::Gone,
+        Deed::Ack { con, serial } => Step::Client(ClientStep::Ack {
+            con: *con,
+            serial: *serial,
+        }),
+        Deed::Give { con, buffer } => Step::Client(ClientStep::Buffer {
+            con: *con,
+            buffer: *buffer,
+        }),
+        Deed::Deadline(number) => Step::Client(ClientStep::Deadline { number: *number }),
+        Deed::OutputAdd(plan) => Step::OutputAdd {
             plan: copy_output(plan)?,
         },
-        Line::OutputRemove(name) => Step::OutputRemove {
+        Deed::OutputRemove(name) => Step::OutputRemove {
             name: name.clone()?,
         },
-        Line::Reserve { name, edges } => Step::Reserve {
+        Deed::Reserve { name, edges } => Step::Reserve {
             name: name.clone()?,
             edges: *edges,
         },
@@ -203,16 +218,22 @@ fn step_of(line: &Line) -> Result<Option<Step>, NoMemory>
     Ok(Some(step))
 }
 
-/// Takes a step of caller 0, and adds its answer.
-fn take(alloc: Global, desk: &mut Desk, step: &Step, piece: &mut Vec<u8>) -> Result<(), NoMemory>
+/// Takes a step of the caller, and adds its answer.
+fn take(
+    alloc: Global,
+    desk: &mut Desk,
+    who: u32,
+    step: &Step,
+    piece: &mut Vec<u8>,
+) -> Result<(), NoMemory>
     requires few { desk.old.steps < 2 ^ 48 }
     requires fit { IsFitStep step.now }
-    ensures ok { OnOk result (Leads desk.old desk.new (λ history. entry_of (act_of step.now) ∷ history)
-        (λ history. answer_text (answer (opening_of desk.old.plan) history (entry_of (act_of step.now)))) piece.old.items piece.new.items) }
+    ensures ok { OnOk result (Leads desk.old desk.new (λ history. entry_of who (act_of step.now) ∷ history)
+        (λ history. answer_text (answer (opening_of desk.old.plan) history (entry_of who (act_of step.now)))) piece.old.items piece.new.items) }
     ensures steps { OnOk result (desk.new.steps ≡ desk.old.steps + 1) }
     ensures plan { OnOk result (desk.new.plan ≡ desk.old.plan) }
 {
-    let answer = desk.step(0, step)?;
+    let answer = desk.step(who, step)?;
     push_answer(alloc, piece, &answer)
 }
 
@@ -226,16 +247,17 @@ fn paint(alloc: Global, desk: &Desk, piece: &mut Vec<u8>) -> Result<(), NoMemory
     Ok(())
 }
 
-/// Adds what caller 0 sees.
-fn look(alloc: Global, desk: &Desk, query: &Query, piece: &mut Vec<u8>) -> Result<(), NoMemory>
+/// Adds what the caller sees.
+fn look(
+    alloc: Global,
+    desk: &Desk,
+    who: u32,
+    query: &Query,
+    piece: &mut Vec<u8>,
+) -> Result<(), NoMemory>
     ensures { OnOk result (Leads desk.now desk.now (λ history. history)
-        (λ history. view_text (look (tree (opening_of desk.now.plan) history) 0 query.now)) piece.old.items piece.new.items) }
+        (λ history. view_text (look (opening_of desk.now.plan) history who query.now)) piece.old.items piece.new.items) }
 {
-    match desk.look(0, query)? {
-        View::Marks(marks) => {
-            piece.extend_from_slice(&texts_json(alloc, marks.items())?)?;
-            piece.push(b'\n')?;
-        }
-    }
-    Ok(())
+    let view = desk.look(who, query)?;
+    push_view(alloc, piece, &view)
 }

@@ -7,6 +7,7 @@ ghost use Rattle.wm_frames.specs.Reading.{messages};
 ghost use Rattle.wm_tool.specs.declared.run.Command.TheVariants as commands;
 ghost use Rattle.wm_tool.specs.declared.status.Status.TheVariants as status;
 
+use crate::drawing::draw;
 use crate::ipc::answer_all;
 use crate::replay::replay;
 use crate::script::read_script;
@@ -27,10 +28,12 @@ pub enum Command {
     Replay,
     /// Reads frames of i3-ipc, and writes the replies to their messages.
     Ipc,
+    /// Reads a script, and writes the picture of its last frame.
+    Draw,
 }
 
-/// Runs the tool with these words, which are `replay` or `ipc` alone: the script or the frames that the source gives
-/// are read to their end, and what they tell goes to the sink as it is made. The patterns of their texts are built by
+/// Runs the tool with these words, `replay`, `ipc` or `draw` alone: the script or the frames that the source gives are
+/// read to their end, and what they tell goes to the sink as it is made. The patterns of their texts are built by
 /// `build`, and the steps that it refuses are listed.
 pub fn tool<R: Source, W: Sink, B: Build>(
     alloc: Global,
@@ -70,6 +73,7 @@ fn named(words: &[String]) -> Option<Command>
     match word.as_str() {
         "replay" => Some(Command::Replay),
         "ipc" => Some(Command::Ipc),
+        "draw" => Some(Command::Draw),
         _ => None,
     }
 }
@@ -93,6 +97,7 @@ fn run<R: Source, W: Sink, B: Build>(
     match command {
         Command::Replay => replay_script(alloc, &bytes, sink, build),
         Command::Ipc => answer_frames(alloc, &bytes, sink, build),
+        Command::Draw => draw_script(alloc, &bytes, sink, build),
     }
 }
 
@@ -114,6 +119,27 @@ fn replay_script<W: Sink, B: Build>(
     let lines = read_script(alloc, bytes)?;
     let mut refused = Vec::new(alloc);
     replay(alloc, &lines, build, &mut refused, sink)?;
+    Ok(List::of(refused))
+}
+
+/// Draws the last frame of the script that the bytes are.
+fn draw_script<W: Sink, B: Build>(
+    alloc: Global,
+    bytes: &[u8],
+    sink: &mut W,
+    build: &mut B,
+) -> Result<List<Refused>, Status>
+    requires within { length bytes.now ≤ 16777216 }
+    ensures ends { EndsOn commands.Draw bytes.now (ending_of result) }
+    ensures unwritten { OnUnwritten (ending_of result) (sink.new ≡ sink.old) }
+    ensures written { WritesOn commands.Draw bytes.now
+        (record { old = B.refusals build.old; new = B.refusals build.new; told_old = B.refused build.old; told_new = B.refused build.new })
+        (ending_of result) (W.taken sink.old) (W.taken sink.new) }
+    ensures faults { (old new : ℕ) → HasRisen (ending_of result) old new (W.faults sink.old) (W.faults sink.new) }
+{
+    let lines = read_script(alloc, bytes)?;
+    let mut refused = Vec::new(alloc);
+    draw(alloc, &lines, build, &mut refused, sink)?;
     Ok(List::of(refused))
 }
 

@@ -1,11 +1,12 @@
 //! The script: its lines, and their order.
 ghost use Rattle.std.specs.Prelude.{◌≡◌, ◌==◌, ◌<◌, ◌≤◌, ◌∷◌, true, not, IfOk, IfErr, IfSome, Ok, length, take_while, vec_len};
 ghost use Rattle.wm_tool.specs.declared.script.ScriptRefusal.TheVariants as refusals;
-ghost use Rattle.wm_tool.specs.Lines.{line_of, other_line_of, run_at};
-ghost use Rattle.wm_tool.specs.Script.{has_begun, in_order, is_another, is_plan, lines_of, may_follow, outputs_in, script, IsFitLine, IsRefused, IsSoundScript};
+ghost use Rattle.wm_tool.specs.Lines.{by_caller, deed_of, is_plan_deed, line_of, other_line_of, run_at, spoken_at};
+ghost use Rattle.wm_tool.specs.Script.{deed_may_follow, has_begun, in_order, is_another, is_plan, lines_of, may_follow, outputs_in, script, IsFitDeed, IsFitLine, IsRefused, IsSoundScript};
 
-use crate::fields::{at_end, behind};
-use crate::line::Line;
+use crate::client_lines::client_line;
+use crate::fields::{at_end, behind, number};
+use crate::line::{Deed, Line};
 use crate::output_lines::output_line;
 use crate::plan_lines::plan_line;
 use crate::window_lines::window_line;
@@ -22,47 +23,83 @@ fn read_line(alloc: Global, text: &[u8]) -> Result<Option<Line>, NoMemory>
     ensures value { IfOk result (λ line. line ≡ line_of text.now) }
     ensures fit { IfOk result (λ line. IfSome line IsFitLine) }
 {
-    if let Some(line) = plan_line(alloc, text)? {
-        return Ok(Some(line));
+    if let Some(rest) = behind(text, b"@") {
+        return spoken_line(alloc, rest);
     }
-    if let Some(line) = window_line(alloc, text)? {
-        return Ok(Some(line));
+    match read_deed(alloc, text)? {
+        Some(deed) => Ok(Some(Line { who: 0, deed })),
+        None => Ok(None),
+    }
+}
+
+/// `WHO `, and then what the caller of this number does, which is none of the plan.
+fn spoken_line(alloc: Global, text: &[u8]) -> Result<Option<Line>, NoMemory>
+    requires { length text.now ≤ 16777216 }
+    ensures value { IfOk result (λ line. line ≡ spoken_at text.now) }
+    ensures fit { IfOk result (λ line. IfSome line IsFitLine) }
+{
+    let Some((who, rest)) = number(text, u32::MAX) else {
+        return Ok(None);
+    };
+    let Some(rest) = behind(rest, b" ") else {
+        return Ok(None);
+    };
+    match read_deed(alloc, rest)? {
+        Some(deed) if !is_plan_deed(&deed) => Ok(Some(Line { who, deed })),
+        _ => Ok(None),
+    }
+}
+
+/// What the line does. `None` exactly where it is outside the grammar.
+fn read_deed(alloc: Global, text: &[u8]) -> Result<Option<Deed>, NoMemory>
+    requires { length text.now ≤ 16777216 }
+    ensures value { IfOk result (λ deed. deed ≡ deed_of text.now) }
+    ensures fit { IfOk result (λ deed. IfSome deed IsFitDeed) }
+{
+    if let Some(deed) = plan_line(alloc, text)? {
+        return Ok(Some(deed));
+    }
+    if let Some(deed) = window_line(alloc, text)? {
+        return Ok(Some(deed));
+    }
+    if let Some(deed) = client_line(text) {
+        return Ok(Some(deed));
     }
     match output_line(alloc, text)? {
-        Some(line) => Ok(Some(line)),
+        Some(deed) => Ok(Some(deed)),
         None => other_line(alloc, text),
     }
 }
 
 /// What a line says that runs a text, paints or looks.
-fn other_line(alloc: Global, text: &[u8]) -> Result<Option<Line>, NoMemory>
+fn other_line(alloc: Global, text: &[u8]) -> Result<Option<Deed>, NoMemory>
     requires { length text.now ≤ 16777216 }
     ensures value { IfOk result (λ line. line ≡ other_line_of text.now) }
-    ensures fit { IfOk result (λ line. IfSome line IsFitLine) }
+    ensures fit { IfOk result (λ line. IfSome line IsFitDeed) }
 {
     if let Some(rest) = behind(text, b"run ") {
         return run_line(alloc, rest);
     }
     if let Some(rest) = behind(text, b"paint") {
-        return Ok(at_end(rest, Line::Paint));
+        return Ok(at_end(rest, Deed::Paint));
     }
     match behind(text, b"marks") {
-        Some(rest) => Ok(at_end(rest, Line::Marks)),
+        Some(rest) => Ok(at_end(rest, Deed::Marks)),
         None => Ok(None),
     }
 }
 
 /// A text to be run, which is UTF-8.
 #[tactic(auto, using(crate::proofs::TextLemmas::run_text, crate::proofs::TextLemmas::run_no_text))]
-fn run_line(alloc: Global, text: &[u8]) -> Result<Option<Line>, NoMemory>
+fn run_line(alloc: Global, text: &[u8]) -> Result<Option<Deed>, NoMemory>
     requires { length text.now ≤ 16777216 }
     ensures value { IfOk result (λ line. line ≡ run_at text.now) }
-    ensures fit { IfOk result (λ line. IfSome line IsFitLine) }
+    ensures fit { IfOk result (λ line. IfSome line IsFitDeed) }
 {
     match str::from_utf8(text) {
         Ok(text) => {
             let text = String::from_str(alloc, text)?;
-            Ok(Some(Line::Run(Str::of(text))))
+            Ok(Some(Deed::Run(Str::of(text))))
         }
         Err(_) => Ok(None),
     }
@@ -121,9 +158,9 @@ fn may_follow(begun: bool, before: &[Line], line: &Line) -> bool
     requires { begun ≡ has_begun before.now }
     ensures { result ≡ may_follow before.now line.now }
 {
-    match line {
-        Line::Output(output) => !begun && is_another(output, before),
-        _ => !(begun && is_plan(line)),
+    match &line.deed {
+        Deed::Output(output) => !begun && is_another(output, before),
+        deed => !(begun && is_plan_deed(deed)),
     }
 }
 
@@ -134,7 +171,7 @@ fn is_another(output: &OutputPlan, before: &[Line]) -> bool
     let mut count = 0usize;
     let mut rest = before;
     while let [line, after @ ..] = rest {
-        if let Line::Output(other) = line {
+        if let Deed::Output(other) = &line.deed {
             if other.name.as_str() == output.name.as_str() {
                 return false;
             }
@@ -145,13 +182,13 @@ fn is_another(output: &OutputPlan, before: &[Line]) -> bool
     count < MAX_OUTPUTS
 }
 
-/// Whether this is a line of the plan.
-fn is_plan(line: &Line) -> bool
-    ensures { result ≡ is_plan line.now }
+/// Whether it says something of the plan.
+fn is_plan_deed(deed: &Deed) -> bool
+    ensures { result ≡ is_plan_deed deed.now }
 {
     matches!(
-        line,
-        Line::Output(_) | Line::Border(_) | Line::Inner(_) | Line::Outer(_)
+        deed,
+        Deed::Output(_) | Deed::Border(_) | Deed::Inner(_) | Deed::Outer(_)
     )
 }
 
@@ -172,7 +209,7 @@ pub fn read_script(alloc: Global, bytes: &[u8]) -> Result<Vec<Line>, ScriptRefus
         let Some(line) = line_in_order(alloc, begun, &lines, text)? else {
             return Err(ScriptRefusal::BadLine { line: number });
         };
-        begun |= !is_plan(&line);
+        begun |= !is_plan_deed(&line.deed);
         lines.push(line)?;
         number += 1;
         rest = after;

@@ -9,7 +9,7 @@ const PLACES: &str =
     "output A 0,0 1000x800\noutput B 1000,0 1000x800\noutput C 0,800 1000x800\nmap 000001 9x9\n";
 
 #[test]
-fn texts_on_three_outputs(rt: HostRuntime) -> Result<(), Fail> {
+fn texts_that_focus_outputs(rt: HostRuntime) -> Result<(), Fail> {
     let none = "no such output";
     let cases = [
         (
@@ -30,6 +30,18 @@ fn texts_on_three_outputs(rt: HostRuntime) -> Result<(), Fail> {
             "",
             none,
         ),
+    ];
+    for (text, first, second, third) in cases {
+        let answered = is_answered(rt.alloc(), PLACES, text, &[first, second, third])?;
+        assert!(rt; answered, "{text}");
+    }
+    Ok(())
+}
+
+#[test]
+fn texts_that_move_to_outputs(rt: HostRuntime) -> Result<(), Fail> {
+    let none = "no such output";
+    let cases = [
         (
             "move to output up; move to output right; move to output right",
             none,
@@ -109,16 +121,16 @@ fn texts_on_three_workspaces(rt: HostRuntime) -> Result<(), Fail> {
 fn scripts_on_two_outputs(rt: HostRuntime) -> Result<(), Fail> {
     let cases = [
         (
-            "output A 0,0 1000x800\noutput B 1000,0 1000x800\nmap 000001 9x9\nrun move right\npaint\nrun move right\n",
-            "frame 2 2\nback 4 0,0 1000x800\nback 5 1000,0 1000x800\nwindow 6 1000,0 1000x800 000001 9x9\nend\n[{\"error\":\"nothing in that direction\",\"success\":false}]\n",
+            "output A 0,0 1000x800\noutput B 1000,0 1000x800\nmap 000001 9x9\nrun move right\ndeadline 1\npaint\nrun move right\n",
+            "frame 2 3\nback 4 0,0 1000x800\nback 5 1000,0 1000x800\nwindow 6 1000,0 1000x800 000001 9x9\nend\n[{\"error\":\"nothing in that direction\",\"success\":false}]\n",
         ),
         (
-            "output A 0,0 1000x800\noutput B 1000,0 1000x800\nmap 000001 9x9\nrun move workspace to output B\npaint\nrun workspace back_and_forth\n",
-            "frame 2 2\nback 7 0,0 1000x800\nback 4 1000,0 1000x800\nwindow 6 1000,0 1000x800 000001 9x9\nend\n[{\"error\":\"no workspace before this one\",\"success\":false}]\n",
+            "output A 0,0 1000x800\noutput B 1000,0 1000x800\nmap 000001 9x9\nrun move workspace to output B\ndeadline 1\npaint\nrun workspace back_and_forth\n",
+            "frame 2 3\nback 7 0,0 1000x800\nback 4 1000,0 1000x800\nwindow 6 1000,0 1000x800 000001 9x9\nend\n[{\"error\":\"no workspace before this one\",\"success\":false}]\n",
         ),
         (
-            "run workspace 3: mail\nmap 000001 9x9\nrun workspace 1\nrun workspace number 3\npaint\n",
-            "frame 4 4\nback 4 0,0 1000x800\nwindow 5 0,0 1000x800 000001 9x9\nend\n",
+            "run workspace 3: mail\nmap 000001 9x9\nrun workspace 1\nrun workspace number 3\ndeadline 2\npaint\n",
+            "frame 2 2\nback 4 0,0 1000x800\nwindow 5 0,0 1000x800 000001 9x9\nend\n",
         ),
         (
             "map 000001 9x9\nmap 000002 9x9\nurgent 4 on\nrun [con_id=4] focus\nrun [urgent=latest] mark a\n",

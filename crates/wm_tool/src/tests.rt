@@ -68,7 +68,7 @@ fn scripts_and_what_they_tell(rt: HostRuntime) -> Result<(), Fail> {
         ),
         ("run \nrun  ; \n", 0, "[]\n[]\n"),
         (
-            "run nop, kill; exit",
+            "run nop, mode x; exit",
             0,
             "[{\"success\":true},{\"error\":\"not built yet\",\"success\":false},{\"success\":true}]\n",
         ),
@@ -90,14 +90,14 @@ fn scripts_and_what_they_tell(rt: HostRuntime) -> Result<(), Fail> {
 fn lines_of_the_plan(rt: HostRuntime) -> Result<(), Fail> {
     let cases = [
         (
-            "gaps outer 5\ngaps inner 10\nmap 000001 9x9\nmap 000002 9x9\npaint\n",
+            "gaps outer 5\ngaps inner 10\nmap 000001 9x9\nmap 000002 9x9\ndeadline 1\ndeadline 2\npaint\n",
             0,
-            "ok 4\nok 5\nframe 2 2\nback 3 0,0 1000x800\nwindow 4 15,15 480x770 000001 9x9\nwindow 5 505,15 480x770 000002 9x9\nend\n",
+            "ok 4\nok 5\nok\nok\nframe 2 3\nback 3 0,0 1000x800\nwindow 4 15,15 480x770 000001 9x9\nwindow 5 505,15 480x770 000002 9x9\nend\n",
         ),
         (
-            "border none\nborder pixel 3\nmap 000001 9x9\npaint\n",
+            "border none\nborder pixel 3\nmap 000001 9x9\ndeadline 1\npaint\n",
             0,
-            "ok 4\nframe 1 1\nback 3 0,0 1000x800\nborder 4 0,0 1000x800 4c7899\nwindow 4 3,3 994x794 000001 9x9\nend\n",
+            "ok 4\nok\nframe 1 1\nback 3 0,0 1000x800\nborder 4 0,0 1000x800 4c7899\nwindow 4 3,3 994x794 000001 9x9\nend\n",
         ),
         ("border normal 64\n", 0, ""),
         ("border normal 65\n", 3, ""),
@@ -244,5 +244,25 @@ fn words_of_no_command(rt: HostRuntime) -> Result<(), Fail> {
     two.push(String::from_str(alloc, "ipc")?)?;
     assert!(rt; are_refused(alloc, &two)?);
     assert!(rt; are_refused(alloc, &[])?);
+    Ok(())
+}
+
+#[test]
+fn pictures_of_scripts(rt: HostRuntime) -> Result<(), Fail> {
+    let alloc = rt.alloc();
+    let (ended, black) = ran(alloc, "draw", Vec::new(alloc), 0, 0)?;
+    assert_eq!(rt; ended.number(), 0);
+    assert_eq!(rt; black.len(), 2_400_016);
+    assert!(rt; black.starts_with(b"P6\n1000 800\n255\n"));
+    assert!(rt; black.iter().skip(16).all(|byte| *byte == 0));
+    let lines = "output A 5,5 3x2\nmap 102030 1x1\npaint\ndeadline 1\n";
+    let (_, small) = ran(alloc, "draw", repeated(alloc, lines, 1)?, 0, 0)?;
+    let mut bytes = Vec::new(alloc);
+    bytes.extend_from_slice(b"P6\n3 2\n255\n\x10\x20\x30")?;
+    bytes.resize(29, 0)?;
+    assert_eq!(rt; small.as_slice(), bytes.as_slice());
+    let (bad, nothing) = ran(alloc, "draw", repeated(alloc, "draw\n", 1)?, 0, 0)?;
+    assert_eq!(rt; bad.number(), 3);
+    assert!(rt; nothing.is_empty());
     Ok(())
 }

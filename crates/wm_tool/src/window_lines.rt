@@ -1,20 +1,20 @@
 //! Lines of windows: they open, change and close.
 ghost use Rattle.std.specs.Prelude.{◌≡◌, IfOk, IfSome};
 ghost use Rattle.wm_tool.specs.Lines.{con_of, map_at, number_line, switch_at, title_at, urgent_at, window_line_of};
-ghost use Rattle.wm_tool.specs.declared.line.Line.TheVariants as lines;
-ghost use Rattle.wm_tool.specs.Script.{IsFitLine};
+ghost use Rattle.wm_tool.specs.declared.line.Deed.TheVariants as lines;
+ghost use Rattle.wm_tool.specs.Script.{IsFitDeed};
 
 use crate::fields::{at_end, behind, buffer, number};
-use crate::line::Line;
+use crate::line::Deed;
 use crate::properties::{FIELDS, Given, properties};
 use crate::quoted::quoted;
 use std::alloc::Global;
 use wm_base::{ConId, NoMemory};
 
 /// What a line says of windows.
-pub fn window_line(alloc: Global, text: &[u8]) -> Result<Option<Line>, NoMemory>
+pub fn window_line(alloc: Global, text: &[u8]) -> Result<Option<Deed>, NoMemory>
     ensures value { IfOk result (λ line. line ≡ window_line_of text.now) }
-    ensures fit { IfOk result (λ line. IfSome line IsFitLine) }
+    ensures fit { IfOk result (λ line. IfSome line IsFitDeed) }
 {
     if let Some(rest) = behind(text, b"map ") {
         return map_line(alloc, rest);
@@ -29,15 +29,15 @@ pub fn window_line(alloc: Global, text: &[u8]) -> Result<Option<Line>, NoMemory>
         return Ok(close_line(rest));
     }
     match behind(text, b"gone") {
-        Some(rest) => Ok(at_end(rest, Line::Gone)),
+        Some(rest) => Ok(at_end(rest, Deed::Gone)),
         None => Ok(None),
     }
 }
 
 /// `INK WxH` and properties, to the end of the line.
-fn map_line(alloc: Global, text: &[u8]) -> Result<Option<Line>, NoMemory>
+fn map_line(alloc: Global, text: &[u8]) -> Result<Option<Deed>, NoMemory>
     ensures value { IfOk result (λ line. line ≡ map_at text.now) }
-    ensures fit { IfOk result (λ line. IfSome line IsFitLine) }
+    ensures fit { IfOk result (λ line. IfSome line IsFitDeed) }
 {
     let Some((buffer, rest)) = buffer(text) else {
         return Ok(None);
@@ -46,13 +46,13 @@ fn map_line(alloc: Global, text: &[u8]) -> Result<Option<Line>, NoMemory>
         return Ok(None);
     };
     let props = given.props(alloc)?;
-    Ok(Some(Line::Map { props, buffer }))
+    Ok(Some(Deed::Map { props, buffer }))
 }
 
 /// `ID "T"`, to the end of the line.
-fn title_line(alloc: Global, text: &[u8]) -> Result<Option<Line>, NoMemory>
+fn title_line(alloc: Global, text: &[u8]) -> Result<Option<Deed>, NoMemory>
     ensures value { IfOk result (λ line. line ≡ title_at text.now) }
-    ensures fit { IfOk result (λ line. IfSome line IsFitLine) }
+    ensures fit { IfOk result (λ line. IfSome line IsFitDeed) }
 {
     let Some((id, rest)) = number(text, u32::MAX) else {
         return Ok(None);
@@ -62,20 +62,20 @@ fn title_line(alloc: Global, text: &[u8]) -> Result<Option<Line>, NoMemory>
     };
     let con = ConId(id);
     match quoted(alloc, rest)? {
-        Some((title, rest)) => Ok(at_end(rest, Line::Retitle { con, title })),
+        Some((title, rest)) => Ok(at_end(rest, Deed::Retitle { con, title })),
         None => Ok(None),
     }
 }
 
 /// `ID on` or `ID off`, to the end of the line.
-fn urgent_line(text: &[u8]) -> Option<Line>
+fn urgent_line(text: &[u8]) -> Option<Deed>
     ensures value { result ≡ urgent_at text.now }
-    ensures fit { IfSome result IsFitLine }
+    ensures fit { IfSome result IsFitDeed }
 {
     let (id, rest) = number(text, u32::MAX)?;
     let rest = behind(rest, b" ")?;
     let on = switch(rest)?;
-    Some(Line::Urgent { con: ConId(id), on })
+    Some(Deed::Urgent { con: ConId(id), on })
 }
 
 /// `on` or `off`, to the end of the line.
@@ -90,10 +90,10 @@ fn switch(text: &[u8]) -> Option<bool>
 }
 
 /// `ID`, to the end of the line.
-fn close_line(text: &[u8]) -> Option<Line>
+fn close_line(text: &[u8]) -> Option<Deed>
     ensures value { result ≡ number_line 4294967295 (λ id. lines.Close (con_of id)) text.now }
-    ensures fit { IfSome result IsFitLine }
+    ensures fit { IfSome result IsFitDeed }
 {
     let (id, rest) = number(text, u32::MAX)?;
-    at_end(rest, Line::Close(ConId(id)))
+    at_end(rest, Deed::Close(ConId(id)))
 }

@@ -20,7 +20,7 @@ loop-rest-preserved c =
     record {
       numbered = omega (arith, kept.numbered, c.in_ok-push.ensures.len);
       few = omega (arith, kept.few, c.in_ok-push.ensures.len, c.first_line.ensures.shorter);
-      begun = ap₂ (λ a b. a || not b) kept.begun c.is_plan.ensures ∙ (sym (begun_more lines line) ∙ ap has_begun (sym pushed));
+      begun = ap₂ (λ a b. a || not b) kept.begun c.is_plan_deed.ensures ∙ (sym (begun_more lines line) ∙ ap has_begun (sym pushed));
       sound = subst IsSoundScript (sym pushed) (sound_more lines line kept.sound fit may);
       read =
           ap (λ ls. script_from ls rest) pushed

@@ -1,5 +1,5 @@
 use Rattle.std.proofs.Common.{◌∙◌, ap, sym, None, Some}
-use Rattle.wm_tool.specs.declared.line.Line.TheVariants.{Map}
+use Rattle.wm_tool.specs.declared.line.Deed.TheVariants.{Map}
 use Rattle.wm_tool.specs.Properties.{properties_at}
 use Rattle.wm_tool.proofs.PropertyLemmas.{map_is}
 use Rattle.wm_tool.proofs.window_lines.map_line.Goals as goal

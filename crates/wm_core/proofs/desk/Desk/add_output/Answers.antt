@@ -2,14 +2,15 @@ use Rattle.std.proofs.Common.{◌≡◌, true, false, is_some, Some, None, ap, r
 use Rattle.wm_layouts.specs.Plan.{is_fit_rect}
 use Rattle.wm_spaces.specs.Coming.{output_added_tree}
 use Rattle.wm_spaces.specs.Names.{output_named}
-use Rattle.wm_spaces.proofs.RiseLemmas.{ids_output_added}
-use Rattle.wm_tree.specs.Ids.{IdsRise}
+use Rattle.wm_opens.proofs.SpaceLemmas.{kept_output_added}
 use Rattle.wm_tree.specs.Outputs.{passed_by_output}
 use Rattle.wm_tree.specs.TreeValue.{TreeValue}
 use Rattle.wm_tree.specs.Words.{settled}
 use Rattle.wm_core.specs.Act.{OutputAdd}
-use Rattle.wm_core.specs.DeskValue.{DeskValue}
-use Rattle.wm_core.proofs.StepLemmas.{has_limit, has_room, is_added, never_taken, not_added}
+use Rattle.wm_core.specs.DeskValue.{DeskValue, Follows}
+use Rattle.wm_core.specs.History.{left}
+use Rattle.wm_core.proofs.FollowLemmas.{follows_kept}
+use Rattle.wm_core.proofs.StepLemmas.{has_limit, has_room, is_added, never_taken, not_added, says_added, says_not_added}
 use Rattle.wm_core.proofs.desk.Desk.add_output.Goals as goal
 
 -- an output has the name, so nothing changes
@@ -18,7 +19,7 @@ returns-then-is_some-clause-stands c = λ history s.
     let seen = ap (λ (d : DeskValue). d.tree) c.self.view_is in
     let taken : is_some (output_named c.args.plan.now.name c.args.self.now.tree) ≡ true =
     sym (c.if-is_some.ensures ∙ ap is_some (c.in_ok-output_named.ensures ∙ ap (output_named c.args.plan.now.name) seen)) in
-    c.stay.ensures.stands history (record { who = c.args.who; act = OutputAdd c.args.plan.now }) s (rw taken refl) (λ v b. refl)
+    c.stay.ensures.stands history (record { who = c.args.who; act = OutputAdd c.args.plan.now }) s (rw taken refl) (rw taken refl) refl
 
 -- nor does anything where the rectangle is outside the limits
 pub returns-then-not-is_fit_rect-clause-stands : goal.returns-then-not-is_fit_rect-clause-stands
@@ -27,7 +28,7 @@ returns-then-not-is_fit_rect-clause-stands c = λ history s.
     let free : is_some (output_named c.args.plan.now.name c.args.self.now.tree) ≡ false =
     sym (c.if-is_some.ensures ∙ ap is_some (c.in_ok-output_named.ensures ∙ ap (output_named c.args.plan.now.name) seen)) in
     let unfit : is_fit_rect c.args.plan.now.rect ≡ false = sym c.if-not-is_fit_rect.ensures in
-    c.stay-then-not-is_fit_rect.ensures.stands history (record { who = c.args.who; act = OutputAdd c.args.plan.now }) s (rw (free, unfit) refl) (λ v b. refl)
+    c.stay-then-not-is_fit_rect.ensures.stands history (record { who = c.args.who; act = OutputAdd c.args.plan.now }) s (rw (free, unfit) refl) (rw (free, unfit) refl) refl
 
 pub returns-in-Ok-clause-stands : goal.returns-in-Ok-clause-stands
 returns-in-Ok-clause-stands c = λ history s.
@@ -40,12 +41,12 @@ returns-in-Ok-clause-stands c = λ history s.
     let copied : is_some (output_named c.args.plan.now.name c.in_ok-tree.tree) ≡ false = ap (λ z. is_some (output_named c.args.plan.now.name z)) same ∙ free in
     let room : passed_by_output t.nodes t.next_id ≡ None =
     ap (λ (z : TreeValue). passed_by_output z.nodes z.next_id) (sym same) ∙ has_room c.args.plan.now c.in_ok-tree.tree copied c.in-Ok.ensures.fine in
-    let left = c.in-Ok.ensures.tree ∙ ap (output_added_tree c.args.plan.now) same in
+    let made = c.in-Ok.ensures.tree ∙ ap (output_added_tree c.args.plan.now) same in
     c.finish.ensures.stands history (record { who = c.args.who; act = OutputAdd c.args.plan.now }) s
-    (ap settled left ∙ is_added c.args.plan.now t free fit room)
-    (subst (IdsRise t) (sym left) (ids_output_added c.args.plan.now t))
-    (λ v h. refl)
-    (λ v b. refl)
+    (ap settled made ∙ is_added c.args.plan.now t free fit room)
+    (says_added c.args.plan.now t free fit room ∙ ap (λ z. left t (settled z) None) (sym made))
+    refl
+    (subst (λ z. Follows t z None) (sym made) (follows_kept t (output_added_tree c.args.plan.now t) (kept_output_added c.args.plan.now t)))
 
 -- no room, so nothing changes
 pub returns-in-Err-Full-clause-stands : goal.returns-in-Err-Full-clause-stands
@@ -59,7 +60,7 @@ returns-in-Err-Full-clause-stands c = λ history s.
     let copied : is_some (output_named c.args.plan.now.name c.in_ok-tree.tree) ≡ false = ap (λ z. is_some (output_named c.args.plan.now.name z)) same ∙ free in
     let full : passed_by_output t.nodes t.next_id ≡ Some c.in-Err-Full.limit =
     ap (λ (z : TreeValue). passed_by_output z.nodes z.next_id) (sym same) ∙ has_limit c.args.plan.now c.in_ok-tree.tree copied c.in-Err-Full.limit (rw c.in-Err-Full.field-0-is at c.in-Err-Full.ensures.cause) in
-    c.stay-in-Err-Full.ensures.stands history (record { who = c.args.who; act = OutputAdd c.args.plan.now }) s (not_added c.args.plan.now t c.in-Err-Full.limit free fit full) (λ v b. refl)
+    c.stay-in-Err-Full.ensures.stands history (record { who = c.args.who; act = OutputAdd c.args.plan.now }) s (not_added c.args.plan.now t c.in-Err-Full.limit free fit full) (says_not_added c.args.plan.now t c.in-Err-Full.limit free fit full) refl
 
 -- the name was tested before
 pub unreachable-requires : goal.unreachable-requires

@@ -1,13 +1,14 @@
-use Rattle.std.proofs.Common.{◌∙◌, subst, sym}
-use Rattle.wm_tree.specs.Ids.{IdsRise}
+use Rattle.std.proofs.Common.{None, ap, subst, sym, ◌∙◌}
+use Rattle.wm_opens.proofs.KeptLemmas.{kept_settled}
 use Rattle.wm_tree.specs.Words.{settled}
-use Rattle.wm_tree.proofs.IdLemmas.{ids_settled, ids_trans}
-use Rattle.wm_core.specs.DeskValue.{IsNotGone}
+use Rattle.wm_core.specs.DeskValue.{Follows}
+use Rattle.wm_core.specs.History.{left}
+use Rattle.wm_core.proofs.FollowLemmas.{follows_then}
 use Rattle.wm_core.proofs.desk.Desk.finish.Goals as goal
 
 pub returns-clause-stands : goal.returns-clause-stands
-returns-clause-stands c = λ history entry s after ids gone same.
-    let left = c.settle.ensures.tree in
-    c.in_ok-commit.ensures.stands history entry s (left ∙ after)
-    (subst (IdsRise c.args.self.now.tree) (sym left) (ids_trans c.args.self.now.tree c.args.tree (settled c.args.tree) ids (ids_settled c.args.tree)))
-    (λ v h. gone v (subst (λ t. IsNotGone t v) left h)) same
+returns-clause-stands c = λ history entry s after says ends follows.
+    let t = c.args.self.now.tree in
+    let made = c.settle.ensures.tree in
+    c.in_ok-commit.ensures.stands history entry s (made ∙ after) (says ∙ ap (λ z. left t z None) (sym made)) ends
+    (subst (λ z. Follows t z None) (sym made) (follows_then t c.args.tree (settled c.args.tree) None follows (kept_settled c.args.tree)))

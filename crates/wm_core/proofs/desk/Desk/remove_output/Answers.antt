@@ -1,7 +1,12 @@
-use Rattle.std.proofs.Common.{◌≡◌, ap, refl, ◌∙◌}
+use Rattle.std.proofs.Common.{◌≡◌, None, ap, refl, subst, sym, ◌∙◌}
 use Rattle.wm_core.specs.Act.{OutputRemove}
-use Rattle.wm_core.specs.DeskValue.{DeskValue}
-use Rattle.wm_core.proofs.StepLemmas.{not_removed}
+use Rattle.wm_opens.proofs.SpaceLemmas.{kept_output_removed}
+use Rattle.wm_spaces.specs.Coming.{output_removed_refusal, output_removed_tree}
+use Rattle.wm_tree.specs.Words.{settled}
+use Rattle.wm_core.specs.DeskValue.{DeskValue, Follows}
+use Rattle.wm_core.specs.History.{left}
+use Rattle.wm_core.proofs.FollowLemmas.{follows_kept}
+use Rattle.wm_core.proofs.StepLemmas.{is_removed, not_removed, says_not_removed, says_removed}
 use Rattle.wm_core.proofs.desk.Desk.remove_output.Goals as goal
 
 -- there is no such output, or it is the only one, so nothing changes
@@ -9,4 +14,18 @@ pub returns-in-Err-NoTarget-clause-stands : goal.returns-in-Err-NoTarget-clause-
 returns-in-Err-NoTarget-clause-stands c = λ history s.
     let same : c.in_ok-tree.tree ≡ c.args.self.now.tree = c.in_ok-tree.ensures ∙ ap (λ (d : DeskValue). d.tree) c.self.view_is in
     c.stay.ensures.stands history (record { who = c.args.who; act = OutputRemove c.args.name.now }) s
-    (not_removed c.args.name.now c.args.self.now.tree c.in_ok-tree.tree _ same (rw c.in-Err-NoTarget.field-0-is at c.in-Err-NoTarget.ensures.cause)) (λ v b. refl)
+    (not_removed c.args.name.now c.args.self.now.tree c.in_ok-tree.tree _ same (rw c.in-Err-NoTarget.field-0-is at c.in-Err-NoTarget.ensures.cause))
+    (says_not_removed c.args.name.now c.args.self.now.tree c.in_ok-tree.tree _ same (rw c.in-Err-NoTarget.field-0-is at c.in-Err-NoTarget.ensures.cause)) refl
+
+pub returns-in-Ok-clause-stands : goal.returns-in-Ok-clause-stands
+returns-in-Ok-clause-stands c = λ history s.
+    let t = c.args.self.now.tree in
+    let name = c.args.name.now in
+    let same : c.in_ok-tree.tree ≡ t = c.in_ok-tree.ensures ∙ ap (λ (d : DeskValue). d.tree) c.self.view_is in
+    let made = c.in-Ok.ensures.tree ∙ ap (output_removed_tree name) same in
+    let fine : output_removed_refusal name t ≡ None = ap (output_removed_refusal name) (sym same) ∙ c.in-Ok.ensures.fine in
+    c.finish.ensures.stands history (record { who = c.args.who; act = OutputRemove name }) s
+    (ap settled made ∙ is_removed name t fine)
+    (says_removed name t fine ∙ ap (λ z. left t (settled z) None) (sym made))
+    refl
+    (subst (λ z. Follows t z None) (sym made) (follows_kept t (output_removed_tree name t) (kept_output_removed name t)))

@@ -1,16 +1,24 @@
 use Rattle.std.proofs.Common.{arith}
+use Rattle.wm_tree.specs.Sound.{IsSound}
 use Rattle.wm_core.proofs.OpeningLemmas.{fit_plans}
-use Rattle.wm_core.proofs.StandsLemmas.{stands_start}
+use Rattle.wm_core.proofs.StandsLemmas.{no_content, stands_start}
 use Rattle.wm_core.proofs.desk.Desk.start.Goals as goal
-
-pub returns-clause-stands : goal.returns-clause-stands
-returns-clause-stands c = stands_start c.args.plan c.in_ok-tree.tree c.new.result.entries c.in_ok-arrangement.arrangement.parts (rw c.items-outputs.ensures at c.in_ok-tree.ensures.tree) c.new.ensures.empty c.in_ok-arrangement.ensures
 
 pub arrange-requires : goal.arrange-requires
 arrange-requires c =
     c.in_ok-tree.ensures.sound (rw c.items-outputs.ensures c.requires.some) (fit_plans c.args.plan.outputs c.items-outputs.result.now c.items-outputs.ensures c.requires.fit)
 
+-- the opening has no windows
+pub start-requires-2 : goal.start-requires-2
+start-requires-2 c = no_content c.args.plan c.in_ok-tree.tree c.in_ok-first.first.parts (rw c.items-outputs.ensures at c.in_ok-tree.ensures.tree) c.in_ok-first.ensures
+
 pub invariant_of-result : goal.invariant_of-result
 invariant_of-result c =
     let fit = fit_plans c.args.plan.outputs c.items-outputs.result.now c.items-outputs.ensures c.requires.fit in
-    (omega arith, omega arith, c.in_ok-tree.ensures.sound (rw c.items-outputs.ensures c.requires.some) fit)
+    (omega (arith, c.in_ok-txn.ensures.prefix), c.in_ok-tree.ensures.sound (rw c.items-outputs.ensures c.requires.some) fit)
+
+pub returns-clause-stands : goal.returns-clause-stands
+returns-clause-stands c =
+    let fit = fit_plans c.args.plan.outputs c.items-outputs.result.now c.items-outputs.ensures c.requires.fit in
+    let sound : IsSound c.in_ok-tree.tree = c.in_ok-tree.ensures.sound (rw c.items-outputs.ensures c.requires.some) fit in
+    stands_start c.args.plan c.in_ok-tree.tree c.in_ok-txn.txn c.new.result.entries c.in_ok-first.first.parts (rw c.items-outputs.ensures at c.in_ok-tree.ensures.tree) sound c.new.ensures.empty c.in_ok-first.ensures c.in_ok-txn.ensures.stands

@@ -1,12 +1,45 @@
-use Rattle.std.proofs.Common.{◌≡◌, false, ap, refl, subst, sym, ◌∙◌}
+use Rattle.std.proofs.Common.{◌≡◌, Bool, true, false, cond, [], ◌∷◌, ◌++◌, None, ap, refl, subst, sym, ◌∙◌}
 use Rattle.wm_core.specs.Act.{Urgent}
-use Rattle.wm_core.specs.DeskValue.{DeskValue}
-use Rattle.wm_core.specs.Windows.{is_window}
+use Rattle.wm_opens.proofs.KeptLemmas.{Kept, kept_nodes}
+use Rattle.wm_tree.specs.Recency.{lists}
+use Rattle.wm_tree.specs.TreeValue.{TreeValue}
+use Rattle.wm_tree.specs.Words.{settled}
+use Rattle.wm_core.specs.DeskValue.{DeskValue, Follows}
+use Rattle.wm_core.specs.History.{left}
+use Rattle.wm_core.proofs.FollowLemmas.{follows_kept}
+use Rattle.wm_core.specs.Windows.{is_window, with_urgent, without_urgent}
+use Rattle.wm_base.specs.declared.ids.ConId.{ConId}
 use Rattle.wm_core.proofs.desk.Desk.urgent.Goals as goal
+
+abbrev urgency : ConId → Bool → TreeValue → TreeValue
+urgency v on t = cond on (with_urgent v t) (without_urgent v t)
+
+kept_urgent : (v : ConId) (t : TreeValue) → Kept t (with_urgent v t)
+kept_urgent v t = by_test (lists v t.urgent)
+  where
+    by_test : (b : Bool) → Kept t (cond b t (record t { urgent = t.urgent ++ v ∷ [] }))
+    by_test true = kept_nodes t t (record { next = refl; nodes = refl })
+    by_test false = kept_nodes t (record t { urgent = t.urgent ++ v ∷ [] }) (record { next = refl; nodes = refl })
+
+kept_urgency : (v : ConId) (on : Bool) (t : TreeValue) → Kept t (urgency v on t)
+kept_urgency v true t = kept_urgent v t
+kept_urgency v false t = kept_nodes t (without_urgent v t) (record { next = refl; nodes = refl })
 
 -- no window of the caller, so nothing changes
 pub returns-then-not-is_window-clause-stands : goal.returns-then-not-is_window-clause-stands
 returns-then-not-is_window-clause-stands c = λ history s.
     let not_its : is_window c.args.self.now.tree c.args.who c.args.con ≡ false =
     subst (λ t. is_window t c.args.who c.args.con ≡ false) (ap (λ (d : DeskValue). d.tree) c.self.view_is) (sym c.is_window.ensures.value ∙ c.if-not-is_window.true) in
-    c.stay.ensures.stands history (record { who = c.args.who; act = Urgent c.args.con c.args.on }) s (rw not_its refl) (λ v b. refl)
+    c.stay.ensures.stands history (record { who = c.args.who; act = Urgent c.args.con c.args.on }) s (rw not_its refl) (rw not_its refl) refl
+
+pub returns-clause-stands : goal.returns-clause-stands
+returns-clause-stands c = λ history s.
+    let t = c.args.self.now.tree in
+    let seen = ap (λ (d : DeskValue). d.tree) c.self.view_is in
+    let its : is_window t c.args.who c.args.con ≡ true = subst (λ z. is_window z c.args.who c.args.con ≡ true) seen (sym c.is_window.ensures.value ∙ c.if-not-is_window.false) in
+    let made : c.set_urgent.new.tree ≡ urgency c.args.con c.args.on t = c.in_ok-set_urgent.ensures.tree ∙ ap (urgency c.args.con c.args.on) (c.in_ok-tree.ensures ∙ seen) in
+    c.finish.ensures.stands history (record { who = c.args.who; act = Urgent c.args.con c.args.on }) s
+    (ap settled made ∙ rw its refl)
+    (rw its (ap (λ z. left t (settled z) None) (sym made)))
+    refl
+    (subst (λ z. Follows t z None) (sym made) (follows_kept t (urgency c.args.con c.args.on t) (kept_urgency c.args.con c.args.on t)))

@@ -7,7 +7,7 @@ use mir.Syntax.{w32}
 use mir.Val.{SFits}
 use Rattle.wm_paint.specs.CanvasValue.{CanvasValue}
 use Rattle.wm_paint.specs.Picture.{black}
-use Rattle.wm_paint.proofs.PixelLemmas.{off_row, on, place}
+use Rattle.wm_paint.proofs.PixelLemmas.{off_row, on, pixels_fit, place}
 use Rattle.wm_paint.proofs.canvas.Canvas.pixel.Goals as goal
 
 pub returns-in_err-row : goal.returns-in_err-row
@@ -21,23 +21,23 @@ returns-in_err-row c =
 
 pub overflow_mul-row : goal.overflow_mul-row
 overflow_mul-row c =
-    let p = place c.in_ok-row.row c.self.inside.area.w c.in_ok-column.column c.self.inside.area.h _ c.in_ok-row.ensures.within c.in_ok-column.ensures.within c.self.invariant.0.pixels c.self.invariant.1 in
+    let p = place c.in_ok-row.row c.self.inside.area.w c.in_ok-column.column c.self.inside.area.h _ c.in_ok-row.ensures.within c.in_ok-column.ensures.within (pixels_fit c.self.inside.area c.self.invariant.0) c.self.invariant.1 in
     omega (arith, p.line)
 
 pub overflow_add-row : goal.overflow_add-row
 overflow_add-row c =
-    let p = place c.in_ok-row.row c.self.inside.area.w c.in_ok-column.column c.self.inside.area.h _ c.in_ok-row.ensures.within c.in_ok-column.ensures.within c.self.invariant.0.pixels c.self.invariant.1 in
+    let p = place c.in_ok-row.row c.self.inside.area.w c.in_ok-column.column c.self.inside.area.h _ c.in_ok-row.ensures.within c.in_ok-column.ensures.within (pixels_fit c.self.inside.area c.self.invariant.0) c.self.invariant.1 in
     omega (arith, p.small)
 
 pub index-requires : goal.index-requires
 index-requires c =
-    let p = place c.in_ok-row.row c.self.inside.area.w c.in_ok-column.column c.self.inside.area.h _ c.in_ok-row.ensures.within c.in_ok-column.ensures.within c.self.invariant.0.pixels c.self.invariant.1 in
+    let p = place c.in_ok-row.row c.self.inside.area.w c.in_ok-column.column c.self.inside.area.h _ c.in_ok-row.ensures.within c.in_ok-column.ensures.within (pixels_fit c.self.inside.area c.self.invariant.0) c.self.invariant.1 in
     omega (arith, p.is_there)
 
 pub returns : goal.returns
 returns c =
     let v : CanvasValue = record { area = c.self.inside.area; inks = c.self.inside.inks.items } in
-    let p = place c.in_ok-row.row c.self.inside.area.w c.in_ok-column.column c.self.inside.area.h _ c.in_ok-row.ensures.within c.in_ok-column.ensures.within c.self.invariant.0.pixels c.self.invariant.1 in
+    let p = place c.in_ok-row.row c.self.inside.area.w c.in_ok-column.column c.self.inside.area.h _ c.in_ok-row.ensures.within c.in_ok-column.ensures.within (pixels_fit c.self.inside.area c.self.invariant.0) c.self.invariant.1 in
     let read = c.index.ensures ∙ get_or_default v.inks _ _ black p.is_there in
     let fits_x : SFits w32 c.args.x = c.ranges.x in
     let fits_y : SFits w32 c.args.y = c.ranges.y in

@@ -1,0 +1,5 @@
+use Rattle.wm_tree.specs.Forest.{node_count}
+use Rattle.wm_apply.proofs.kills.+row_at.Given as goal
+
+abbrev pub decreases-row_at : goal.decreases-row_at
+decreases-row_at l = node_count l.row

@@ -1,0 +1,57 @@
+-- What commands on floating windows do to one subject.
+use Rattle.std.specs.Prelude.{Bool, true, false, not, if◌then◌else◌, Option, None, Some}
+use Rattle.wm_base.specs.declared.errors.Refusal.{Refusal}
+use Rattle.wm_base.specs.declared.ids.ConId.{ConId}
+use Rattle.wm_floats.specs.declared.kinds.Kind.TheVariants as kinds
+use Rattle.wm_floats.specs.Floating.{float_refusal, float_tree, sink_refusal, sink_tree}
+use Rattle.wm_floats.specs.Fullscreen.{fullscreen_tree}
+use Rattle.wm_floats.specs.Kinds.{focus_kind_refusal, focus_kind_tree, is_of}
+use Rattle.wm_floats.specs.Windows.{state_of, sticky_set}
+use Rattle.wm_grammar.specs.declared.arguments.Kind.{Kind}
+use Rattle.wm_grammar.specs.declared.arguments.Kind.TheVariants.{Floating, Tiling, Toggle}
+use Rattle.wm_grammar.specs.declared.arguments.OnOff.{OnOff}
+use Rattle.wm_grammar.specs.declared.arguments.OnOff.TheVariants as switch
+use Rattle.wm_tree.specs.declared.part.ConState.{ConState}
+use Rattle.wm_tree.specs.TreeValue.{TreeValue}
+
+-- a property is on after the command, given whether it is on now
+abbrev pub is_on : OnOff → Bool → Bool
+is_on switch.Enable now = true
+is_on switch.Disable now = false
+is_on switch.Toggle now = not now
+
+-- ---- focus between tiled and floating
+
+-- the other kind is tiled for a floating subject, and floating for any other
+abbrev pub wants_floating : Kind → ConId → TreeValue → Bool
+wants_floating Floating c t = true
+wants_floating Tiling c t = false
+wants_floating Toggle c t = not (is_of kinds.Floating t c)
+
+abbrev pub focus_of_kind_refusal : ConId → Kind → TreeValue → Option Refusal
+focus_of_kind_refusal c kind t = focus_kind_refusal c (wants_floating kind c t) t
+
+abbrev pub focus_of_kind_tree : ConId → Kind → TreeValue → TreeValue
+focus_of_kind_tree c kind t = focus_kind_tree c (wants_floating kind c t) t
+
+-- ---- floating, fullscreen and sticky
+
+abbrev pub floating_refusal : ConId → OnOff → TreeValue → Option Refusal
+floating_refusal c arg t = if is_on arg (is_of kinds.Floating t c) then float_refusal c t else sink_refusal c t
+
+abbrev pub floating_tree : ConId → OnOff → TreeValue → TreeValue
+floating_tree c arg t = if is_on arg (is_of kinds.Floating t c) then float_tree c t else sink_tree c t
+
+abbrev pub is_full_state : Option ConState → Bool
+is_full_state None = false
+is_full_state (Some s) = s.fullscreen
+
+abbrev pub fullscreen_set : ConId → OnOff → TreeValue → TreeValue
+fullscreen_set c arg t = fullscreen_tree c (is_on arg (is_full_state (state_of c t))) t
+
+abbrev pub is_sticky_state : Option ConState → Bool
+is_sticky_state None = false
+is_sticky_state (Some s) = s.sticky
+
+abbrev pub sticky_tree : ConId → OnOff → TreeValue → TreeValue
+sticky_tree c arg t = sticky_set (is_on arg (is_sticky_state (state_of c t))) c t

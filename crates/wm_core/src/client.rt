@@ -1,0 +1,112 @@
+//! Steps that clients and timers take for the transactions.
+ghost use Rattle.std.specs.Prelude.{◌≡◌, ◌+◌, ◌<◌, ◌^◌, ◌∷◌};
+ghost use Rattle.wm_core.specs.Act.{Ack, Deadline, Give, client_act};
+ghost use Rattle.wm_core.specs.DeskValue.{judge_of, Stands};
+ghost use Rattle.wm_core.specs.History.{ack_said, answer, answer_to, opening_of, History};
+
+use crate::desk::Desk;
+use crate::mapping::has_no_pixels;
+use crate::step::Answer;
+use crate::windows::is_window;
+use wm_base::{Buffer, ConId};
+use wm_txn::AckRefusal;
+
+/// One step of a client, or of a timer.
+#[derive(Clone, Copy, Debug, PartialEq, Eq)]
+pub enum ClientStep {
+    /// Acknowledges the configure of this serial for the caller's window.
+    Ack { con: ConId, serial: u64 },
+    /// Gives a buffer for the caller's window.
+    Buffer { con: ConId, buffer: Buffer },
+    /// The time of the transaction of this number is over.
+    Deadline { number: u64 },
+}
+
+impl Desk {
+    /// Takes one step of a client of the caller with this number, or of a timer. It takes no memory, nor does a commit
+    /// that it brings.
+    pub fn answer_client(&mut self, who: u32, step: &ClientStep) -> Answer
+        requires few { self.old.steps < 2 ^ 48 }
+        ensures answer { (history : History) → Stands self.old history →
+            result ≡ answer (opening_of self.old.plan) history (record { who = who; act = client_act step.now }) }
+        ensures there { result ≡ answer_to self.old.plan.env.homes (judge_of self.old.txn) self.old.tree who (client_act step.now) }
+        ensures stands { (history : History) → Stands self.old history →
+            Stands self.new (record { who = who; act = client_act step.now } ∷ history) }
+        ensures plan { self.new.plan ≡ self.old.plan }
+        ensures count { self.new.steps ≡ self.old.steps + 1 }
+    {
+        match step {
+            ClientStep::Ack { con, serial } => self.ack(who, *con, *serial),
+            ClientStep::Buffer { con, buffer } => self.give(who, *con, *buffer),
+            ClientStep::Deadline { number } => self.time_out(who, *number),
+        }
+    }
+
+    /// The caller's window acknowledges a serial.
+    fn ack(&mut self, who: u32, con: ConId, serial: u64) -> Answer
+        requires few { self.old.steps < 2 ^ 48 }
+        ensures answer { (history : History) → Stands self.old history →
+            result ≡ answer (opening_of self.old.plan) history (record { who = who; act = Ack con serial }) }
+        ensures there { result ≡ answer_to self.old.plan.env.homes (judge_of self.old.txn) self.old.tree who (Ack con serial) }
+        ensures stands { (history : History) → Stands self.old history →
+            Stands self.new (record { who = who; act = Ack con serial } ∷ history) }
+        ensures plan { self.new.plan ≡ self.old.plan }
+        ensures count { self.new.steps ≡ self.old.steps + 1 }
+    {
+        if !is_window(&self.tree, who, con) {
+            return self.stay(Answer::NoView);
+        }
+        let acked = self.txn.ack(con, serial);
+        self.steps += 1;
+        ack_said(acked)
+    }
+
+    /// The caller's window gives a buffer.
+    fn give(&mut self, who: u32, con: ConId, buffer: Buffer) -> Answer
+        requires few { self.old.steps < 2 ^ 48 }
+        ensures answer { (history : History) → Stands self.old history →
+            result ≡ answer (opening_of self.old.plan) history (record { who = who; act = Give con buffer }) }
+        ensures there { result ≡ answer_to self.old.plan.env.homes (judge_of self.old.txn) self.old.tree who (Give con buffer) }
+        ensures stands { (history : History) → Stands self.old history →
+            Stands self.new (record { who = who; act = Give con buffer } ∷ history) }
+        ensures plan { self.new.plan ≡ self.old.plan }
+        ensures count { self.new.steps ≡ self.old.steps + 1 }
+    {
+        if !is_window(&self.tree, who, con) {
+            return self.stay(Answer::NoView);
+        }
+        if has_no_pixels(buffer.size) {
+            return self.stay(Answer::Empty);
+        }
+        let _ = self.txn.buffer(self.steps, con, buffer);
+        self.steps += 1;
+        Answer::Done
+    }
+
+    /// The time of the transaction of this number is over.
+    fn time_out(&mut self, who: u32, number: u64) -> Answer
+        requires few { self.old.steps < 2 ^ 48 }
+        ensures answer { (history : History) → Stands self.old history →
+            result ≡ answer (opening_of self.old.plan) history (record { who = who; act = Deadline number }) }
+        ensures there { result ≡ answer_to self.old.plan.env.homes (judge_of self.old.txn) self.old.tree who (Deadline number) }
+        ensures stands { (history : History) → Stands self.old history →
+            Stands self.new (record { who = who; act = Deadline number } ∷ history) }
+        ensures plan { self.new.plan ≡ self.old.plan }
+        ensures count { self.new.steps ≡ self.old.steps + 1 }
+    {
+        self.txn.deadline(self.steps, number);
+        self.steps += 1;
+        Answer::Done
+    }
+}
+
+/// What an acknowledgement is answered.
+fn ack_said(acked: Result<(), AckRefusal>) -> Answer
+    ensures { result ≡ ack_said acked }
+{
+    match acked {
+        Ok(()) => Answer::Done,
+        Err(AckRefusal::NoView) => Answer::NoView,
+        Err(AckRefusal::BadSerial { asked, last }) => Answer::BadSerial { asked, last },
+    }
+}

@@ -1,0 +1,101 @@
+-- Laws of windows: which ids stand in a tree as windows before and after a step.
+use Rattle.std.specs.Prelude.{◌≡◌, ◌≢◌, ℕ, ◌+◌, ◌≤◌, true, false, if◌then◌else◌, List, Option, None}
+use Rattle.wm_apply.specs.Batches.{outcome}
+use Rattle.wm_base.specs.declared.geometry.Size.{Size}
+use Rattle.wm_base.specs.declared.ids.ConId.{ConId}
+use Rattle.wm_base.specs.declared.plan.Border.{Border}
+use Rattle.wm_base.specs.declared.plan.OutputPlan.{OutputPlan}
+use Rattle.wm_base.specs.declared.properties.Props.{Props}
+use Rattle.wm_criteria.specs.declared.verdict.Verdict.{Verdict}
+use Rattle.wm_opens.specs.Opens.{Holds, IsGood, IsTidy, is_fill, is_owned_of, is_window_of, window_at, windows_at}
+use Rattle.wm_spaces.specs.Coming.{output_added_tree, output_removed_tree}
+use Rattle.wm_tree.specs.Counts.{count}
+use Rattle.wm_tree.specs.declared.kind.KindEdit.{KindEdit}
+use Rattle.wm_tree.specs.declared.place.NewCon.TheVariants as new
+use Rattle.wm_tree.specs.Look.{con_kind, kind_of, only, same}
+use Rattle.wm_tree.specs.Place.{passed_limit}
+use Rattle.wm_tree.specs.Sound.{IsSound}
+use Rattle.wm_tree.specs.TreeValue.{TreeValue, id, newcomer_place, opening}
+use Rattle.wm_tree.specs.Words.{attached, detached, edited, settled, with_raised}
+
+-- no command of a text makes a window
+abbrev pub TextsOpenNone : Type 0
+TextsOpenNone = (homes : List (List ℕ × List ℕ)) (verdict : Verdict) (subject : Option ConId) (t : TreeValue) (v : ConId) → windows_at v (outcome homes verdict subject t).tree ≤ windows_at v t
+
+-- a text keeps each window of a good tree, and leaves a good one
+abbrev pub TextsKeepWindows : Type 0
+TextsKeepWindows = (homes : List (List ℕ × List ℕ)) (verdict : Verdict) (subject : Option ConId) (t : TreeValue) → IsGood t → Holds t (outcome homes verdict subject t).tree
+
+-- what is a window before a text is one after it, and no other is
+abbrev pub TextsLeaveWindows : Type 0
+TextsLeaveWindows =
+    (homes : List (List ℕ × List ℕ)) (verdict : Verdict) (subject : Option ConId) (t : TreeValue) (v : ConId) → IsGood t → is_window_of (outcome homes verdict subject t).tree v ≡ is_window_of t v
+
+-- after a text each window is the same caller's, and no other one is
+abbrev pub TextsKeepOwners : Type 0
+TextsKeepOwners =
+    (homes : List (List ℕ × List ℕ)) (verdict : Verdict) (subject : Option ConId) (t : TreeValue) (who : ℕ) (v : ConId) → IsGood t
+    → is_owned_of (outcome homes verdict subject t).tree who v ≡ is_owned_of t who v
+
+-- settling makes no window
+abbrev pub SettlingOpensNone : Type 0
+SettlingOpensNone = (t : TreeValue) (v : ConId) → windows_at v (settled t) ≤ windows_at v t
+
+-- settling keeps each window of a good tree, and leaves a good one
+abbrev pub SettlingKeepsWindows : Type 0
+SettlingKeepsWindows = (t : TreeValue) → IsGood t → Holds t (settled t)
+
+-- a good tree with a window that is mapped is good
+abbrev pub MappingStaysGood : Type 0
+MappingStaysGood =
+    (who : ℕ) (props : Props) (natural : Size) (t : TreeValue) → IsGood t → passed_limit (newcomer_place t) t.nodes t.next_id ≡ None → IsGood (attached (newcomer_place t) (new.Window props who natural) t)
+
+-- a window that is mapped is one more under the next id, and no other comes or goes
+abbrev pub MappingOpensOne : Type 0
+MappingOpensOne =
+    (who : ℕ) (props : Props) (natural : Size) (t : TreeValue) (v : ConId) → IsSound t
+    → windows_at v (attached (newcomer_place t) (new.Window props who natural) t) ≡ windows_at v t + (if same (id t.next_id) v then 1 else 0)
+
+-- raising keeps each window
+abbrev pub RaisingKeepsWindows : Type 0
+RaisingKeepsWindows = (c : ConId) (t : TreeValue) (v : ConId) → windows_at v (with_raised c t) ≡ windows_at v t
+
+-- a change of a node keeps each window, unless it fills a placeholder
+abbrev pub EditsKeepWindows : Type 0
+EditsKeepWindows = (c : ConId) (edit : KindEdit) (t : TreeValue) (v : ConId) → is_fill edit ≡ false → windows_at v (edited c edit t) ≡ windows_at v t
+
+-- a node that is taken out takes the windows with it that it is or holds, and no other
+abbrev pub ClosingTakesItsOwn : Type 0
+ClosingTakesItsOwn = (c : ConId) (t : TreeValue) (v : ConId) → windows_at v (detached c t) + count (window_at v) (only c t.nodes) ≡ windows_at v t
+
+-- a window that is taken out of a sound tree is there no more
+abbrev pub ClosingCloses : Type 0
+ClosingCloses = (c : ConId) (t : TreeValue) → IsSound t → windows_at c (detached c t) ≡ 0
+
+-- a window that is taken out of a good tree takes no other window with it
+abbrev pub ClosingKeepsOthers : Type 0
+ClosingKeepsOthers = (c v : ConId) (t : TreeValue) → IsGood t → is_window_of t c ≡ true → same c v ≡ false → windows_at v (detached c t) ≡ windows_at v t
+
+-- a good tree without a container is good
+abbrev pub ClosingStaysGood : Type 0
+ClosingStaysGood = (c : ConId) (t : TreeValue) → IsGood t → kind_of con_kind c t.nodes ≢ None → IsGood (detached c t)
+
+-- an output that comes keeps each window
+abbrev pub AddedOutputsKeepWindows : Type 0
+AddedOutputsKeepWindows = (plan : OutputPlan) (t : TreeValue) (v : ConId) → windows_at v (output_added_tree plan t) ≡ windows_at v t
+
+-- an output that goes makes no window
+abbrev pub RemovedOutputsOpenNone : Type 0
+RemovedOutputsOpenNone = (name : List ℕ) (t : TreeValue) (v : ConId) → windows_at v (output_removed_tree name t) ≤ windows_at v t
+
+-- an output that goes keeps each window of a good tree, and leaves a good one
+abbrev pub RemovedOutputsKeepWindows : Type 0
+RemovedOutputsKeepWindows = (name : List ℕ) (t : TreeValue) → IsGood t → Holds t (output_removed_tree name t)
+
+-- no container of an opening tree has floating windows
+abbrev pub OpeningsAreTidy : Type 0
+OpeningsAreTidy = (plans : List OutputPlan) (border : Border) (inner outer : ℕ) → IsTidy (opening plans border inner outer).nodes
+
+-- in a sound tree each window is counted once, and what is no window not at all
+abbrev pub WindowsAreSeen : Type 0
+WindowsAreSeen = (t : TreeValue) (v : ConId) → IsSound t → windows_at v t ≡ (if is_window_of t v then 1 else 0)

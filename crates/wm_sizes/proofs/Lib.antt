@@ -1,0 +1,10 @@
+pub mod AllGapLemmas
+pub mod AnewLemmas
+pub mod BoolLemmas
+pub mod FamilyLemmas
+pub mod GapLemmas
+pub mod HandLemmas
+pub mod RiseLemmas
+pub mod SetLemmas
+pub mod ShareLaws
+pub mod SumLemmas

@@ -1,0 +1,5 @@
+use Rattle.wm_tree.specs.Forest.{node_count}
+use Rattle.wm_sizes.proofs.tiled.+count.Given as goal
+
+abbrev pub decreases-count : goal.decreases-count
+decreases-count l = node_count l.row.now

@@ -1,0 +1,10 @@
+pub mod Borders
+pub mod Climbing
+pub mod Deals
+pub mod Floating
+pub mod Gaps
+pub mod Laws
+pub mod Resizing
+pub mod Tiled
+pub mod Titles
+pub mod Windows

@@ -1,0 +1,189 @@
+//! Climbing from a container to the nearest node above it whose children stand along an axis.
+ghost use Rattle.std.specs.Prelude.{◌≡◌, true, false, MatchOption};
+ghost use Rattle.wm_tree.specs.Look.{first_kids, has, only};
+ghost use Rattle.wm_focus.specs.Rungs.{after, axis_of, before, first_id, is_forward, neighbour};
+ghost use Rattle.wm_sizes.specs.Climbing.{climb, has_two, rung_at, rung_of, runs, runs_con, side_axis};
+
+use wm_base::{Axis, ConId, Dir, Layout};
+use wm_grammar::Side;
+use wm_tree::{ConKind, Cursor, NodeKind, Part, Tree};
+
+/// A node with two or more children along an axis, and which of them is a container or holds it.
+#[derive(Clone, Copy, Debug, PartialEq, Eq)]
+pub struct Rung {
+    pub parent: ConId,
+    pub node: ConId,
+}
+
+/// A row's node that is a container or holds it, and the nearest rung above the container.
+#[derive(Clone, Copy, Debug, PartialEq, Eq)]
+pub struct Climbed {
+    pub child: ConId,
+    pub rung: Option<Rung>,
+}
+
+/// The axis along which a side moves.
+pub(crate) fn side_axis(side: Side) -> Axis
+    ensures { result ≡ side_axis side }
+{
+    match side {
+        Side::Width | Side::At(Dir::Left | Dir::Right) => Axis::Across,
+        Side::Height | Side::At(Dir::Up | Dir::Down) => Axis::Down,
+    }
+}
+
+/// The axis along which a layout puts its children.
+fn axis_of(layout: Layout) -> Axis
+    ensures { result ≡ axis_of layout }
+{
+    match layout {
+        Layout::SplitH | Layout::Tabbed => Axis::Across,
+        Layout::SplitV | Layout::Stacked => Axis::Down,
+    }
+}
+
+/// Whether a workspace or split puts its children along the axis.
+fn runs(axis: Axis, kind: &NodeKind) -> bool
+    ensures { result ≡ runs axis kind.now }
+{
+    match kind {
+        NodeKind::Root { .. } | NodeKind::Output(_) => false,
+        NodeKind::Space(space) => axis_of(space.layout) == axis,
+        NodeKind::Con(con) => runs_con(axis, &con.kind),
+    }
+}
+
+fn runs_con(axis: Axis, kind: &ConKind) -> bool
+    ensures { result ≡ runs_con axis kind.now }
+{
+    match kind {
+        ConKind::Split { layout, .. } => axis_of(*layout) == axis,
+        ConKind::Window { .. } | ConKind::Placeholder { .. } => false,
+    }
+}
+
+/// Whether the row has two or more nodes.
+fn has_two(row: Cursor<'_>) -> bool
+    ensures { result ≡ has_two row.entry }
+{
+    row.rest().part().is_some()
+}
+
+/// The rung of a node, one of whose children is the container or holds it.
+fn rung_at(axis: Axis, part: &Part, kids: Cursor<'_>, node: ConId) -> Option<Rung>
+    ensures { result ≡ rung_at axis part.now kids.entry node }
+{
+    if runs(axis, &part.kind) && has_two(kids) {
+        Some(Rung {
+            parent: part.id,
+            node,
+        })
+    } else {
+        None
+    }
+}
+
+/// The node of the row that is the container or holds it, with the nearest rung. `None` exactly where the container is
+/// not here.
+fn climb(row: Cursor<'_>, con: ConId, axis: Axis) -> Option<Climbed>
+    ensures { result ≡ climb axis con row.entry }
+{
+    let part = row.part()?;
+    if part.id == con {
+        return Some(Climbed {
+            child: con,
+            rung: None,
+        });
+    }
+    if let Some(below) = climb(row.kids(), con, axis) {
+        let rung = below.rung.or(rung_at(axis, part, row.kids(), below.child));
+        return Some(Climbed {
+            child: part.id,
+            rung,
+        });
+    }
+    if let Some(below) = climb(row.floats(), con, axis) {
+        return Some(Climbed {
+            child: part.id,
+            rung: below.rung,
+        });
+    }
+    climb(row.rest(), con, axis)
+}
+
+/// The nearest rung above the container along the axis.
+pub(crate) fn rung_of(t: &Tree, con: ConId, axis: Axis) -> Option<Rung>
+    ensures { result ≡ rung_of axis con t.now }
+{
+    climb(t.nodes(), con, axis)?.rung
+}
+
+/// The children of a node. `None` exactly where it is not here.
+pub(crate) fn kids_in<'a>(row: Cursor<'a>, id: ConId) -> Option<Cursor<'a>>
+    ensures { MatchOption result (has id row.entry ≡ false) (λ kids. (has id row.entry ≡ true) × (kids ≡ first_kids (only id row.entry))) }
+{
+    let part = row.part()?;
+    if part.id == id {
+        return Some(row.kids());
+    }
+    if let Some(kids) = kids_in(row.kids(), id) {
+        return Some(kids);
+    }
+    if let Some(kids) = kids_in(row.floats(), id) {
+        return Some(kids);
+    }
+    kids_in(row.rest(), id)
+}
+
+/// Whether the direction is towards the end of a row.
+fn is_forward(d: Dir) -> bool
+    ensures { result ≡ is_forward d }
+{
+    match d {
+        Dir::Left | Dir::Up => false,
+        Dir::Right | Dir::Down => true,
+    }
+}
+
+/// The node's neighbour in the row on that side.
+pub(crate) fn neighbour(d: Dir, con: ConId, row: &Cursor<'_>) -> Option<ConId>
+    ensures { result ≡ neighbour d con row.now }
+{
+    if is_forward(d) {
+        after(row, con)
+    } else {
+        before(row, con)
+    }
+}
+
+fn first_id(row: &Cursor<'_>) -> Option<ConId>
+    ensures { result ≡ first_id row.now }
+{
+    Some(row.part()?.id)
+}
+
+/// The node after this one in the row.
+fn after(row: &Cursor<'_>, con: ConId) -> Option<ConId>
+    ensures { result ≡ after con row.now }
+{
+    let part = row.part()?;
+    let rest = row.rest();
+    if part.id == con {
+        first_id(&rest)
+    } else {
+        after(&rest, con)
+    }
+}
+
+/// The node before this one in the row.
+fn before(row: &Cursor<'_>, con: ConId) -> Option<ConId>
+    ensures { result ≡ before con row.now }
+{
+    let part = row.part()?;
+    let rest = row.rest();
+    if first_id(&rest) == Some(con) {
+        Some(part.id)
+    } else {
+        before(&rest, con)
+    }
+}

@@ -1,0 +1,207 @@
+//! Sizes of floating windows.
+ghost use Rattle.std.specs.Prelude.{◌≡◌, ◌+ℤ◌, ◌-ℤ◌, pos, nat_abs, true, None, Some, OnOk, OnErr, IfErr};
+ghost use Rattle.wm_floats.specs.Places.{is_in_range};
+ghost use Rattle.wm_sizes.specs.Floating.{IsStep, as_rect, fits, grow_refusal, grow_tree, grown, has_place, has_sides, is_side, is_size, resize_set_refusal, resize_set_tree, step};
+ghost use Rattle.wm_showing.specs.Subject.{IsSubject};
+ghost use Rattle.wm_tree.specs.Sound.{IsSound};
+
+use crate::windows::{put_rect, rect_of};
+use wm_base::{ConId, Dir, ErrorText, Rect, Refusal};
+use wm_grammar::Side;
+use wm_showing::{is_hidden, is_space};
+use wm_tree::Tree;
+
+/// How long a side of a window is at most, in pixels.
+const LONGEST: u32 = 16_384;
+
+/// The least and the greatest number of a place.
+const LEAST: i64 = -131_072;
+
+const GREATEST: i64 = 131_071;
+
+/// A place and sides in pixels, which may be those of no window.
+#[derive(Clone, Copy, Debug, PartialEq, Eq)]
+pub(crate) struct Frame {
+    pub x: i64,
+    pub y: i64,
+    pub w: i64,
+    pub h: i64,
+}
+
+/// Whether a window's side may be this long.
+fn is_size(n: u32) -> bool
+    ensures { result ≡ is_size n }
+{
+    1 <= n && n <= LONGEST
+}
+
+/// Why the floating window does not get this outer size.
+fn size_refusal(t: &Tree, con: ConId, w: u32, h: u32) -> Option<Refusal>
+    ensures { result ≡ resize_set_refusal con w h t.now }
+{
+    if is_hidden(t, con) {
+        return Some(Refusal::NoTarget(ErrorText::NoWorkspace));
+    }
+    if is_space(t, con) {
+        return Some(Refusal::NoTarget(ErrorText::AtWorkspace));
+    }
+    if t.is_tiled(con) {
+        return Some(Refusal::NoTarget(ErrorText::NotFloating));
+    }
+    if !(is_size(w) && is_size(h)) {
+        return Some(Refusal::NoTarget(ErrorText::OutOfRange));
+    }
+    None
+}
+
+/// Gives the floating window this outer size, in pixels. Its place stays.
+pub fn resize_set(t: &mut Tree, con: ConId, w: u32, h: u32) -> Result<(), Refusal>
+    requires { IsSubject t.old con }
+    ensures tree { OnOk result (t.new ≡ resize_set_tree con w h t.old) }
+    ensures fine { OnOk result (resize_set_refusal con w h t.old ≡ None) }
+    ensures err { OnErr result (t.new ≡ t.old) }
+    ensures cause { IfErr result (λ e. resize_set_refusal con w h t.old ≡ Some e) }
+    ensures sound { IsSound t.new }
+{
+    if let Some(error) = size_refusal(t, con, w, h) {
+        return Err(error);
+    }
+    let Rect { x, y, .. } = rect_of(t, con);
+    put_rect(t, con, Rect { x, y, w, h });
+    Ok(())
+}
+
+/// By how many pixels a side becomes longer.
+fn step(grow: bool, px: u32) -> i64
+    ensures value { result ≡ step grow px }
+    ensures small { IsStep result }
+{
+    if grow { i64::from(px) } else { -i64::from(px) }
+}
+
+/// A side that becomes longer by so many pixels.
+fn longer(side: u32, by: i64) -> i64
+    requires { IsStep by }
+    ensures { result ≡ pos side +ℤ by }
+{
+    i64::from(side) + by
+}
+
+/// A place that comes so many pixels earlier.
+fn earlier(place: i32, by: i64) -> i64
+    requires { IsStep by }
+    ensures { result ≡ place -ℤ by }
+{
+    i64::from(place) - by
+}
+
+/// The frame of the rectangle that becomes longer by so many pixels at that side.
+fn grown(rect: Rect, side: Side, by: i64) -> Frame
+    requires { IsStep by }
+    ensures { result ≡ grown side by rect }
+{
+    let (x, y) = (i64::from(rect.x), i64::from(rect.y));
+    let (w, h) = (i64::from(rect.w), i64::from(rect.h));
+    match side {
+        Side::Width | Side::At(Dir::Right) => {
+            let w = longer(rect.w, by);
+            Frame { x, y, w, h }
+        }
+        Side::Height | Side::At(Dir::Down) => {
+            let h = longer(rect.h, by);
+            Frame { x, y, w, h }
+        }
+        Side::At(Dir::Left) => {
+            let (x, w) = (earlier(rect.x, by), longer(rect.w, by));
+            Frame { x, y, w, h }
+        }
+        Side::At(Dir::Up) => {
+            let (y, h) = (earlier(rect.y, by), longer(rect.h, by));
+            Frame { x, y, w, h }
+        }
+    }
+}
+
+/// Whether a window's side may be this long.
+fn is_side(n: i64) -> bool
+    ensures { result ≡ is_side n }
+{
+    1 <= n && n <= i64::from(LONGEST)
+}
+
+/// Whether a place may have this number.
+fn is_in_range(n: i64) -> bool
+    ensures { result ≡ is_in_range n }
+{
+    LEAST <= n && n <= GREATEST
+}
+
+fn has_sides(frame: Frame) -> bool
+    ensures { result ≡ has_sides frame }
+{
+    is_side(frame.w) && is_side(frame.h)
+}
+
+fn has_place(frame: Frame) -> bool
+    ensures { result ≡ has_place frame }
+{
+    is_in_range(frame.x) && is_in_range(frame.y)
+}
+
+/// Whether a window may have the frame's sides and place.
+fn fits(frame: Frame) -> bool
+    ensures { result ≡ fits frame }
+{
+    has_sides(frame) && has_place(frame)
+}
+
+fn place(n: i64) -> i32
+    requires { is_in_range n ≡ true }
+    ensures { result ≡ n }
+{
+    n as i32
+}
+
+fn length(n: i64) -> u32
+    requires { is_side n ≡ true }
+    ensures { result ≡ nat_abs n }
+{
+    n as u32
+}
+
+/// The frame as a window's rectangle.
+fn as_rect(frame: Frame) -> Rect
+    requires sides { has_sides frame ≡ true }
+    requires place { has_place frame ≡ true }
+    ensures { result ≡ as_rect frame }
+{
+    Rect {
+        x: place(frame.x),
+        y: place(frame.y),
+        w: length(frame.w),
+        h: length(frame.h),
+    }
+}
+
+/// Lets the floating window grow or shrink by so many pixels at that side.
+pub(crate) fn grow_floating(
+    t: &mut Tree,
+    con: ConId,
+    side: Side,
+    grow: bool,
+    px: u32,
+) -> Result<(), Refusal>
+    requires { IsSound t.old }
+    ensures tree { OnOk result (t.new ≡ grow_tree con side (step grow px) t.old) }
+    ensures fine { OnOk result (grow_refusal con side (step grow px) t.old ≡ None) }
+    ensures err { OnErr result (t.new ≡ t.old) }
+    ensures cause { IfErr result (λ e. grow_refusal con side (step grow px) t.old ≡ Some e) }
+    ensures sound { IsSound t.new }
+{
+    let frame = grown(rect_of(t, con), side, step(grow, px));
+    if !fits(frame) {
+        return Err(Refusal::NoTarget(ErrorText::OutOfRange));
+    }
+    put_rect(t, con, as_rect(frame));
+    Ok(())
+}

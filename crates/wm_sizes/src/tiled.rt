@@ -1,0 +1,192 @@
+//! Sizes of tiled containers: the children of a node give shares to each other.
+ghost use Rattle.std.specs.Prelude.{◌≡◌, ◌≤◌, ◌-◌, true, None, Some, OnOk, OnErr, IfErr, MatchOption, drop, length};
+ghost use Rattle.wm_arrange.specs.Areas.{side_of};
+ghost use Rattle.wm_sizes.specs.Deals.{dealt, fits_all, siblings};
+ghost use Rattle.wm_sizes.specs.Climbing.{rung_of, side_axis};
+ghost use Rattle.wm_sizes.specs.Laws.{IsSharedAnew, SharesAnew};
+ghost use Rattle.wm_sizes.specs.Tiled.{IsFamily, IsReady, HasFamily, cannot, children_of, deal_of, lacks, length_of, nth_sibling, partner_of, partners_of, rung_refusal, rung_tree, shares_set, tiled_refusal, tiled_tree};
+ghost use Rattle.wm_tree.specs.Counts.{row_length};
+ghost use Rattle.wm_tree.specs.Look.{has, first_kids, only};
+ghost use Rattle.wm_tree.specs.Sound.{IsSound};
+
+use crate::climbing::{Rung, kids_in, neighbour, rung_of, side_axis};
+use crate::deals::{Deal, Sibling, amount};
+use wm_arrange::area_of;
+use wm_base::{Axis, ConId, ErrorText, Rect, Refusal};
+use wm_grammar::Side;
+use wm_tree::{Cursor, Tree};
+
+/// By how much a container grows or shrinks at a side: by hundredths of its parent where `ppt` is above 0, else by
+/// pixels.
+#[derive(Clone, Copy, Debug, PartialEq, Eq)]
+pub struct Growth {
+    pub grow: bool,
+    pub side: Side,
+    pub px: u32,
+    pub ppt: u32,
+}
+
+/// The length of an area along an axis.
+fn side_of(axis: Axis, area: Rect) -> u32
+    ensures { result ≡ side_of axis area }
+{
+    match axis {
+        Axis::Across => area.w,
+        Axis::Down => area.h,
+    }
+}
+
+/// The length of a node's area along the axis of the side, in pixels.
+fn length_of(t: &Tree, parent: ConId, side: Side) -> u32
+    requires { IsSound t.now }
+    ensures { result ≡ length_of side parent t.now }
+{
+    side_of(side_axis(side), area_of(t, parent))
+}
+
+/// How many nodes a row has.
+fn count(row: &Cursor<'_>) -> u64
+    requires { row_length row.now ≤ 256 }
+    ensures { result ≡ row_length row.now }
+{
+    match row.part() {
+        None => 0,
+        Some(_) => 1 + count(&row.rest()),
+    }
+}
+
+/// The one child that gives to the node or takes from it. `None` where all others do, or none is there.
+fn partner_of(side: Side, node: ConId, row: &Cursor<'_>) -> Option<ConId>
+    ensures { result ≡ partner_of side node row.now }
+{
+    match side {
+        Side::Width | Side::Height => None,
+        Side::At(d) => neighbour(d, node, row),
+    }
+}
+
+/// How many children give to the node or take from it.
+fn partners_of(side: Side, row: &Cursor<'_>) -> u64
+    requires { row_length row.now ≤ 256 }
+    ensures { result ≡ partners_of side row.now }
+{
+    match side {
+        Side::Width | Side::Height => count(row).saturating_sub(1),
+        Side::At(_) => 1,
+    }
+}
+
+/// Whether the node has no neighbour on the side, where it needs one.
+fn lacks(side: Side, node: ConId, row: &Cursor<'_>) -> bool
+    ensures { result ≡ lacks side node row.now }
+{
+    match side {
+        Side::Width | Side::Height => false,
+        Side::At(d) => neighbour(d, node, row).is_none(),
+    }
+}
+
+/// How the children of the row share anew.
+fn deal_of(growth: Growth, node: ConId, length: u32, row: &Cursor<'_>) -> Deal
+    requires { IsFamily row.now }
+    ensures value { result ≡ deal_of growth node length row.now }
+    ensures small { result.amount ≤ 2305843009213693952 }
+{
+    let sum = row.share_sum();
+    Deal {
+        node,
+        partner: partner_of(growth.side, node, row),
+        partners: partners_of(growth.side, row),
+        grow: growth.grow,
+        amount: amount(sum, length, growth.px, growth.ppt),
+        least: sum / 100,
+    }
+}
+
+/// Whether there is no length of which pixels could be taken, or some share would not be such as it may be.
+fn cannot(growth: Growth, length: u32, deal: Deal, row: &Cursor<'_>) -> bool
+    requires small { deal.amount ≤ 2305843009213693952 }
+    requires few { row_length row.now ≤ 256 }
+    ensures { result ≡ cannot growth length deal row.now }
+{
+    growth.ppt == 0 && length == 0 || !deal.fits_all(row, 0)
+}
+
+/// The row's node with this number, from 0, and its share.
+fn nth_sibling(row: &Cursor<'_>, number: u32) -> Option<Sibling>
+    ensures { result ≡ nth_sibling number (siblings row.now) }
+{
+    let part = row.part()?;
+    if number == 0 {
+        Some(Sibling {
+            id: part.id,
+            share: part.kind.share(),
+        })
+    } else {
+        nth_sibling(&row.rest(), number - 1)
+    }
+}
+
+/// The child with this number, from 0, and its share.
+fn child_at(t: &Tree, parent: ConId, number: u32) -> Option<Sibling>
+    ensures { result ≡ nth_sibling number (siblings (children_of parent t.now)) }
+{
+    nth_sibling(&kids_in(t.nodes(), parent)?, number)
+}
+
+/// Gives the children, from the one with this number on, their shares after the deal. All shares are read before the
+/// first one is set.
+fn hand_out(t: &mut Tree, parent: ConId, deal: Deal, number: u32, turn: u64)
+    requires { IsReady deal turn number (siblings (children_of parent t.old)) }
+    ensures { t.new ≡ shares_set (dealt deal turn (drop number (siblings (children_of parent t.old)))) t.old }
+{
+    let Some(child) = child_at(t, parent, number) else {
+        return;
+    };
+    let share = deal.share_after(child, turn);
+    let next = deal.turn_after(child.id, turn);
+    hand_out(t, parent, deal, number + 1, next);
+    t.set_share(child.id, share as u32);
+}
+
+/// Lets the children of the rung's parent share anew.
+fn share_anew(t: &mut Tree, rung: Rung, growth: Growth) -> Result<(), Refusal>
+    requires sound { IsSound t.old }
+    requires family { HasFamily rung t.old.nodes }
+    ensures tree { OnOk result (t.new ≡ rung_tree growth (Some rung) t.old) }
+    ensures fine { OnOk result (rung_refusal growth (Some rung) t.old ≡ None) }
+    ensures err { OnErr result (t.new ≡ t.old) }
+    ensures cause { IfErr result (λ e. rung_refusal growth (Some rung) t.old ≡ Some e) }
+    ensures sound { IsSound t.new }
+    ensures shares { OnOk result (SharesAnew growth rung t.old t.new) }
+{
+    let Some(row) = kids_in(t.nodes(), rung.parent) else {
+        return Err(Refusal::NoTarget(ErrorText::CannotResize));
+    };
+    if lacks(growth.side, rung.node, &row) {
+        return Err(Refusal::NoTarget(ErrorText::NoNeighbour));
+    }
+    let length = length_of(t, rung.parent, growth.side);
+    let deal = deal_of(growth, rung.node, length, &row);
+    if cannot(growth, length, deal, &row) {
+        return Err(Refusal::NoTarget(ErrorText::CannotResize));
+    }
+    hand_out(t, rung.parent, deal, 0, 0);
+    Ok(())
+}
+
+/// Lets the tiled container, or the nearest node above it that has neighbours along the axis, grow or shrink.
+pub(crate) fn grow_tiled(t: &mut Tree, con: ConId, growth: Growth) -> Result<(), Refusal>
+    requires { IsSound t.old }
+    ensures tree { OnOk result (t.new ≡ tiled_tree con growth t.old) }
+    ensures fine { OnOk result (tiled_refusal con growth t.old ≡ None) }
+    ensures err { OnErr result (t.new ≡ t.old) }
+    ensures cause { IfErr result (λ e. tiled_refusal con growth t.old ≡ Some e) }
+    ensures sound { IsSound t.new }
+    ensures shares { OnOk result (IsSharedAnew growth (rung_of (side_axis growth.side) con t.old) t.old t.new) }
+{
+    match rung_of(t, con, side_axis(growth.side)) {
+        Some(rung) => share_anew(t, rung, growth),
+        None => Err(Refusal::NoTarget(ErrorText::CannotResize)),
+    }
+}

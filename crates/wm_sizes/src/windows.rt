@@ -1,0 +1,85 @@
+//! Windows as subjects of commands on their looks: their state, and who is none.
+ghost use Rattle.std.specs.Prelude.{◌≡◌};
+ghost use Rattle.wm_floats.specs.Windows.{natural_by, natural_of, rect_set, state_of};
+ghost use Rattle.wm_sizes.specs.Windows.{border_set, look_refusal};
+ghost use Rattle.wm_spaces.specs.Sending.{rect_of};
+ghost use Rattle.wm_tree.specs.Sound.{IsSound};
+
+use wm_base::{Border, ConId, ErrorText, Rect, Refusal, Size};
+use wm_showing::is_space;
+use wm_tree::{ConKind, ConState, Tree};
+
+/// Where no window is.
+const NOWHERE: Rect = Rect {
+    x: 0,
+    y: 0,
+    w: 0,
+    h: 0,
+};
+
+/// The natural size of a window. `None` exactly where it is a split or a placeholder.
+fn natural_by(kind: &ConKind) -> Option<Size>
+    ensures { result ≡ natural_by kind.now }
+{
+    match kind {
+        ConKind::Window { natural, .. } => Some(*natural),
+        ConKind::Split { .. } | ConKind::Placeholder { .. } => None,
+    }
+}
+
+fn natural_of(t: &Tree, con: ConId) -> Option<Size>
+    ensures { result ≡ natural_of con t.now }
+{
+    natural_by(&t.container(con)?.kind)
+}
+
+/// Why a command on the look of windows is not done to this one, which may be in the scratchpad.
+pub(crate) fn look_refusal(t: &Tree, con: ConId) -> Option<Refusal>
+    ensures { result ≡ look_refusal con t.now }
+{
+    if is_space(t, con) {
+        return Some(Refusal::NoTarget(ErrorText::AtWorkspace));
+    }
+    if natural_of(t, con).is_none() {
+        return Some(Refusal::NoTarget(ErrorText::NotWindow));
+    }
+    None
+}
+
+/// The state of a container.
+pub(crate) fn state_of(t: &Tree, con: ConId) -> Option<ConState>
+    ensures { result ≡ state_of con t.now }
+{
+    Some(t.container(con)?.state)
+}
+
+/// The outer rectangle of a floating window.
+pub(crate) fn rect_of(t: &Tree, con: ConId) -> Rect
+    ensures { result ≡ rect_of con t.now }
+{
+    match t.container(con) {
+        Some(part) => part.state.rect.unwrap_or(NOWHERE),
+        None => NOWHERE,
+    }
+}
+
+/// Gives the container this border.
+pub(crate) fn put_border(t: &mut Tree, con: ConId, border: Border)
+    ensures tree { t.new ≡ border_set border con t.old }
+    ensures sound { IsSound t.old → IsSound t.new }
+{
+    if let Some(state) = state_of(t, con) {
+        t.set_state(con, ConState { border, ..state });
+    }
+}
+
+/// Gives the container this outer rectangle.
+pub(crate) fn put_rect(t: &mut Tree, con: ConId, rect: Rect)
+    ensures tree { t.new ≡ rect_set rect con t.old }
+    ensures sound { IsSound t.old → IsSound t.new }
+{
+    if let Some(state) = state_of(t, con) {
+        let rect = Some(rect);
+        t.set_state(con, ConState { rect, ..state });
+    }
+}

@@ -1,0 +1,22 @@
+use Rattle.std.proofs.Common.{◌≡◌, ℕ, ◌+◌, ◌≤◌, List, Option, All, length}
+use Rattle.wm_core.specs.History.{opening_of}
+use Rattle.wm_tool.specs.declared.status.Refused.{Refused}
+use Rattle.wm_tool.specs.Drawing.{drawn_from}
+use Rattle.wm_tool.specs.Output.{line_texts}
+use Rattle.wm_tool.specs.Running.{Draws}
+use Rattle.wm_tool.specs.Script.{IsFitLine}
+use Rattle.wm_tool.proofs.drawing.play_lines.Given as goal
+
+-- the desk stands for the lines so far, and their refusals are backed
+abbrev pub invariant-loop-rest : goal.invariant-loop-rest
+invariant-loop-rest g l = record {
+  few : l.desk.steps + length l.rest ≤ 16777216;
+  fit : All IsFitLine l.rest;
+  plan : l.desk.plan ≡ l.initial.desk.plan;
+  draws : (whole : List Refused → List ℕ) (texts : List (Option (List ℕ))) (count : ℕ) (told : Option (List (List ℕ)))
+      → Draws l.initial.desk l.initial.refused.items (drawn_from (opening_of l.initial.desk.plan) l.lines) whole texts (line_texts l.lines) count (g.B.Build.refusals l.initial.build) told (g.B.Build.refused l.initial.build)
+      → Draws l.desk l.refused.items (drawn_from (opening_of l.initial.desk.plan) l.rest) whole texts (line_texts l.rest) count (g.B.Build.refusals l.build) told (g.B.Build.refused l.build);
+}
+
+abbrev pub decreases-loop-rest : goal.decreases-loop-rest
+decreases-loop-rest g l = length l.rest
