@@ -219,3 +219,11 @@ fn a_scratchpad_window_on_another_workspace(rt: HostRuntime) -> Result<(), Fail>
     assert!(rt; tells(rt.alloc(), lines, text)?);
     Ok(())
 }
+
+#[test]
+fn a_floating_window_keeps_its_mark(rt: HostRuntime) -> Result<(), Fail> {
+    let lines = "map 000001 9x9\nrun mark m, floating enable\nmarks\nrun floating disable\nmarks\n";
+    let text = "[\"m\"]\n[{\"success\":true}]\n[\"m\"]\n";
+    assert!(rt; tells(rt.alloc(), lines, text)?);
+    Ok(())
+}

@@ -37,6 +37,8 @@ mod line_tests;
 #[cfg(test)]
 mod output_tests;
 #[cfg(test)]
+mod size_tests;
+#[cfg(test)]
 mod space_tests;
 #[cfg(test)]
 mod tests;
