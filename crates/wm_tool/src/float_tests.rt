@@ -227,3 +227,12 @@ fn a_floating_window_keeps_its_mark(rt: HostRuntime) -> Result<(), Fail> {
     assert!(rt; tells(rt.alloc(), lines, text)?);
     Ok(())
 }
+
+#[test]
+fn the_middle_of_a_far_output(rt: HostRuntime) -> Result<(), Fail> {
+    let lines =
+        "output A 131071,0 1000x800\nmap 000001 9x9\nrun floating enable, move position center\n";
+    let text = "[{\"success\":true},{\"error\":\"out of range\",\"success\":false}]\n";
+    assert!(rt; tells(rt.alloc(), lines, text)?);
+    Ok(())
+}
