@@ -2,8 +2,10 @@
 ghost use Rattle.std.specs.Prelude.{◌≡◌, ◌≤◌, ◌++◌, true, IfOk, IfSome, OnOk};
 ghost use Rattle.wm_arrange.specs.Areas.{edges_of, some_area, IsArea, IsFitMargins};
 ghost use Rattle.wm_base.specs.declared.geometry.Rect.{Rect};
+ghost use Rattle.wm_base.specs.declared.ids.ConId.{ConId};
 ghost use Rattle.wm_base.specs.Rect.{inset};
 ghost use Rattle.wm_arrange.specs.Arranged.{arranged, first_space, fullscreen_in, is_fullscreen, is_window_kind, on_space, or_else, tiled_parts};
+ghost use Rattle.wm_arrange.specs.CoverTree.{inner_at, tiled_at, IsOfSplits, LeavesCover};
 ghost use Rattle.wm_arrange.specs.Gaps.{ground};
 ghost use Rattle.wm_arrange.specs.Scene.{seen};
 ghost use Rattle.wm_arrange.specs.Slots.{IsFloatRow, IsTiledRow};
@@ -20,10 +22,14 @@ use std::alloc::Global;
 use wm_base::{ConId, Edges, List, NoMemory, Rect};
 use wm_tree::{ConKind, Cursor, NodeKind, OutputPart, SpacePart, Tree};
 
-/// The arrangement of a tree.
+/// The arrangement of a tree. With no inner gap, the areas of the windows and placeholders below a tiled container or
+/// workspace cover its area, no pixel twice, where it and each split below it have a child and the layout splith or
+/// splitv.
 pub fn arrange(alloc: Global, tree: &Tree) -> Result<Arrangement, NoMemory>
     requires { IsSound tree.now }
-    ensures { IfOk result (λ arrangement. arrangement.parts ≡ arranged tree.now) }
+    ensures parts { IfOk result (λ arrangement. arrangement.parts ≡ arranged tree.now) }
+    ensures covers { (c : ConId) → inner_at c (first_kids tree.now.nodes) ≡ 0 → IsOfSplits (tiled_at c (first_kids tree.now.nodes)) →
+        IfOk result (λ arrangement. LeavesCover (tiled_at c (first_kids tree.now.nodes)) c arrangement.parts) }
 {
     let focused = tree.focused();
     let mut parts = Vec::new(alloc);
