@@ -1,0 +1,13 @@
+pub mod AloneLemmas
+pub mod ExchangeLemmas
+pub mod FillLemmas
+pub mod FloatLemmas
+pub mod FullLemmas
+pub mod HasOneLemmas
+pub mod LawLemmas
+pub mod MoveLemmas
+pub mod OutputLemmas
+pub mod RowLemmas
+pub mod SingleLemmas
+pub mod WithinLemmas
+pub mod WordLemmas

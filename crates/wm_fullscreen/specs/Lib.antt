@@ -1,0 +1,2 @@
+pub mod Fullscreen
+pub mod Laws
