@@ -1,19 +1,21 @@
 -- Those that are awaited have answered exactly where none are left.
-use Rattle.std.proofs.Common.{◌≡◌, ℕ, ◌+◌, ◌≤◌, ◌<◌, Bool, true, false, cond, not, ◌&&◌, ◌||◌, eqb, leb, ltb, List, [], ◌∷◌, length, Option, Some, None, is_some, refl, ap, sym, ◌∙◌, subst, arith}
+use Rattle.std.proofs.Common.{◌≡◌, ℕ, ◌+◌, ◌≤◌, ◌<◌, Bool, true, false, cond, not, ◌&&◌, ◌||◌, eqb, leb, ltb, List, [], ◌∷◌, length, Option, Some, None, is_some, refl, ap, sym, ◌∙◌, arith}
 use Rattle.std.proofs.lemmas.Bool.{eqb-true, eq-eqb, ltb-true, lt-leb, and_parts, false_from_ne_true}
 use Rattle.std.proofs.lemmas.Bool.Decides.{nat_tests}
 use Rattle.std.specs.List.{list_all}
 use Rattle.std.specs.Option.{option_map}
 use Rattle.wm_base.specs.declared.geometry.Size.{Size}
+use Rattle.wm_base.specs.declared.ids.Buffer.{Buffer}
 use Rattle.wm_base.specs.declared.ids.ConId.{ConId}
 use Rattle.wm_tree.specs.Look.{same}
 use Rattle.wm_arrange.specs.declared.parts.Placed.{Placed}
 use Rattle.wm_arrange.specs.Sizes.{content_size, is_content}
 use Rattle.wm_txn.specs.History.{Opening, Entry, is_open, gave}
 use Rattle.wm_txn.specs.Schedule.{Turn, answered, configure, configures, contents, is_new}
-use Rattle.wm_txn.specs.Windows.{Windows, find, is_left, is_unanswered, count_unanswered}
+use Rattle.wm_txn.specs.Windows.{Buffers, Windows, find, is_left, is_unanswered, count_unanswered, left_of}
 use Rattle.wm_txn.specs.Stands.{IsHeld, IsKept, Keeps, configure_of, serial_of}
 use Rattle.wm_txn.specs.declared.held.Held.{Held}
+use Rattle.wm_txn.proofs.GoneLemmas.{held_at, left_closed}
 use Rattle.wm_txn.proofs.WindowLemmas.{one_id, none_left, all_answered}
 
 -- ---- the windows with a content
@@ -120,11 +122,11 @@ or_true : (a : Bool) → (a || true) ≡ true
 or_true true = refl
 or_true false = refl
 
-module _ (o : Opening) (history : List Entry) (turns : List Turn) (t : Turn) (windows : Windows) where
-  open_or_gave : (v : ConId) (found : Option Held) → find v windows ≡ found → IsKept o history turns (t ∷ turns) v found → count_unanswered (length turns + 1) windows ≡ 0
+module _ (o : Opening) (history : List Entry) (turns : List Turn) (t : Turn) (windows : Windows) (buffers : Buffers) where
+  open_or_gave : (v : ConId) (found : Option Held) (left : Option Buffer) → find v windows ≡ found → IsKept o history turns (t ∷ turns) v found left → count_unanswered (length turns + 1) windows ≡ 0
       → configures turns t.parts v ≡ true → answered o (length turns + 1) history v ≡ true
-  open_or_gave v None at kept none asked = rw kept.not_open (or_true (gave (length turns + 1) v history))
-  open_or_gave v (Some w) at kept none asked =
+  open_or_gave v None left at kept none asked = rw (left_closed o history turns (t ∷ turns) v left kept) (or_true (gave (length turns + 1) v history))
+  open_or_gave v (Some w) left at kept none asked =
       let n = length turns + 1 in
       let number = new_serial n (content_size v t.parts) (configures turns t.parts v) (configure v turns) (new_some (content_size v t.parts) (configure v turns) asked) asked in
       let serial : w.serial ≡ n = sym (serial_is w.serial w.size) ∙ (ap serial_of (sym kept.latest_is) ∙ number) in
@@ -147,15 +149,15 @@ module _ (o : Opening) (history : List Entry) (turns : List Turn) (t : Turn) (wi
       cc
 
   -- all that are awaited have answered exactly where none are left
-  pub answered_is : (number prefix : ℕ) (current : List Placed) → Keeps o history turns (t ∷ turns) number prefix current windows → t.awaits ≡ contents (configures turns t.parts) t.parts
+  pub answered_is : (number prefix : ℕ) (current : List Placed) → Keeps o history turns (t ∷ turns) number prefix current windows buffers → t.awaits ≡ contents (configures turns t.parts) t.parts
       → list_all (answered o (length turns + 1) history) t.awaits ≡ eqb (count_unanswered (length turns + 1) windows) 0
   answered_is number prefix current keeps awaits =
       let n = length turns + 1 in
       let test = answered o n history in
       let chosen = contents (configures turns t.parts) t.parts in
-      let forth : count_unanswered n windows ≡ 0 → list_all test chosen ≡ true = λ none. all_pass (configures turns t.parts) test t.parts (λ v there asked. open_or_gave v (find v windows) refl (keeps.each v) none asked) in
+      let forth : count_unanswered n windows ≡ 0 → list_all test chosen ≡ true = λ none. all_pass (configures turns t.parts) test t.parts (λ v there asked. open_or_gave v (find v windows) (left_of v buffers) refl (keeps.each v) none asked) in
       let back : list_all test chosen ≡ true → count_unanswered n windows ≡ 0 = λ all. all_answered n windows keeps.sorted
-      (λ a w at. is_answered a w (is_unanswered n w) refl (subst (IsKept o history turns (t ∷ turns) a) at (keeps.each a)) all) in
+      (λ a w at. is_answered a w (is_unanswered n w) refl (held_at o history turns (t ∷ turns) a (find a windows) (left_of a buffers) w at (keeps.each a)) all) in
       rw awaits (tests (list_all test chosen) (count_unanswered n windows) forth back)
     where
       tests : (b : Bool) (m : ℕ) → (m ≡ 0 → b ≡ true) → (b ≡ true → m ≡ 0) → b ≡ eqb m 0
@@ -181,11 +183,11 @@ module _ (o : Opening) (history : List Entry) (turns : List Turn) (t : Turn) (wi
       cc))
 
   -- a window is left exactly where it is configured and has not answered
-  pub is_left_where : (v : ConId) (found : Option Held) → IsKept o history turns (t ∷ turns) v found → (configures turns t.parts v && not (answered o (length turns + 1) history v)) ≡ is_left (length turns + 1) found
-  is_left_where v None kept = rw kept.not_open (none (configures turns t.parts v) (gave (length turns + 1) v history))
+  pub is_left_where : (v : ConId) (found : Option Held) (left : Option Buffer) → IsKept o history turns (t ∷ turns) v found left → (configures turns t.parts v && not (answered o (length turns + 1) history v)) ≡ is_left (length turns + 1) found
+  is_left_where v None left kept = rw (left_closed o history turns (t ∷ turns) v left kept) (none (configures turns t.parts v) (gave (length turns + 1) v history))
     where
       none : (a b : Bool) → (a && not (b || true)) ≡ false
       none true true = refl
       none true false = refl
       none false b = refl
-  is_left_where v (Some w) kept = left_step v w kept (configures turns t.parts v) refl
+  is_left_where v (Some w) left kept = left_step v w kept (configures turns t.parts v) refl

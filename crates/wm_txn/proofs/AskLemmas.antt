@@ -1,5 +1,5 @@
 -- What a transaction that begins asks of the windows.
-use Rattle.std.proofs.Common.{◌≡◌, ℕ, ◌+◌, Bool, true, false, cond, not, ◌&&◌, eqb, ◌⊎◌, inl, inr, List, [], ◌∷◌, Option, Some, None, refl, ap, sym, ◌∙◌, arith}
+use Rattle.std.proofs.Common.{◌≡◌, ℕ, ◌+◌, Bool, true, false, cond, not, ◌&&◌, ◌||◌, eqb, ◌⊎◌, inl, inr, List, [], ◌∷◌, Option, Some, None, refl, ap, sym, ◌∙◌, arith}
 use Rattle.std.proofs.lemmas.Bool.{eqb-true, eq-eqb}
 use Rattle.std.proofs.lemmas.Map.{keys-set_value}
 use Rattle.std.specs.BTreeMap.{is_at}
@@ -12,6 +12,7 @@ use Rattle.wm_tree.specs.Look.{same}
 use Rattle.wm_arrange.specs.declared.parts.Placed.{Placed}
 use Rattle.wm_arrange.specs.Sizes.{content_size, is_content}
 use Rattle.wm_txn.specs.Windows.{Windows, find, one_if, is_unanswered, asked_by, ask_found, count_found, ask_part, ask_all, count_all, count_unanswered, size_of}
+use Rattle.wm_txn.specs.Schedule.{same_size}
 use Rattle.wm_txn.specs.declared.held.Held.{Held}
 use Rattle.wm_txn.proofs.WindowLemmas.{one_id, find_put, count_put}
 
@@ -19,6 +20,19 @@ use Rattle.wm_txn.proofs.WindowLemmas.{one_id, find_put, count_put}
 abbrev pub after_ask : ℕ → Option Size → Held → Held
 after_ask n None w = w
 after_ask n (Some size) w = asked_by n size w
+
+abbrev asked_if : ℕ → Size → Held → Bool → Bool → Held
+asked_if n size w b c = cond b w (cond c (record w { placed = n; before = w.serial; serial = n; size = size }) (record w { placed = n }))
+
+keeps_if : (n : ℕ) (size : Size) (w : Held) (b c : Bool) → ((asked_if n size w b c).live ≡ w.live) × ((asked_if n size w b c).under ≡ w.under) × ((asked_if n size w b c).newest ≡ w.newest)
+keeps_if n size w true c = (refl, refl, refl)
+keeps_if n size w false true = (refl, refl, refl)
+keeps_if n size w false false = (refl, refl, refl)
+
+-- a window that is asked is open or closed as it was, with the same newest buffer
+pub asked_keeps : (n : ℕ) (found : Option Size) (w : Held) → ((after_ask n found w).live ≡ w.live) × ((after_ask n found w).under ≡ w.under) × ((after_ask n found w).newest ≡ w.newest)
+asked_keeps n None w = (refl, refl, refl)
+asked_keeps n (Some size) w = keeps_if n size w (eqb w.placed n) (eqb w.serial 0 || not (same_size w.size size))
 
 -- a window that was placed is asked once
 pub asked_again : (n : ℕ) (size : Size) (w : Held) → w.placed ≡ n → asked_by n size w ≡ w

@@ -13,10 +13,11 @@ use Rattle.wm_base.specs.declared.ids.ConId.{ConId}
 use Rattle.wm_tree.specs.Look.{same}
 use Rattle.wm_arrange.specs.declared.parts.Placed.{Placed}
 use Rattle.wm_txn.specs.History.{Opening, Entry, Arranged, buffer_up_to, is_fresh, is_open, mapped_with, under_up_to}
-use Rattle.wm_txn.specs.Windows.{Windows, IsNewcomer, ShowsOpen, close_all, close_found, closed_held, count_awaited, count_closed, count_unanswered, find, held_of, is_live, is_unanswered, one_if, open_fresh}
+use Rattle.wm_txn.specs.Windows.{Buffers, Windows, IsNewcomer, ShowsOpen, close_all, close_found, closed_held, count_awaited, count_closed, count_unanswered, find, held_of, is_live, is_unanswered, left_of, one_if, open_fresh}
 use Rattle.wm_txn.specs.Schedule.{Turn}
-use Rattle.wm_txn.specs.Stands.{IsHeld, IsKept, IsNumbered, IsUnknown, Keeps}
+use Rattle.wm_txn.specs.Stands.{IsGone, IsHeld, IsKept, IsLeft, IsNumbered, IsUnknown, Keeps}
 use Rattle.wm_txn.specs.declared.held.Held.{Held}
+use Rattle.wm_txn.proofs.GoneLemmas.{gone_on, left_closed}
 use Rattle.wm_txn.proofs.KeepLemmas.{same_id}
 use Rattle.wm_txn.proofs.WindowLemmas.{one_id, find_put, find_insert, count_put, count_insert}
 
@@ -80,12 +81,12 @@ count_gone n (c ∷ gone) windows =
 
 -- ---- a window that is mapped
 
-pub count_fresh : (n : ℕ) (fresh : Option (ConId × Buffer)) (windows : Windows) → 0 < n → IsNewcomer fresh windows → count_unanswered n (open_fresh fresh windows) ≡ count_unanswered n windows
-count_fresh n None windows above new = refl
-count_fresh n (Some window) windows above new =
+pub count_fresh : (n : ℕ) (fresh : Option (ConId × Buffer)) (windows : Windows) (buffers : Buffers) → 0 < n → IsNewcomer fresh windows buffers → count_unanswered n (open_fresh fresh windows) ≡ count_unanswered n windows
+count_fresh n None windows buffers above new = refl
+count_fresh n (Some window) windows buffers above new =
     let other : eqb 0 n ≡ false = ne_eqb 0 n (λ e. omega arith) in
     let zero_held : one_if (is_unanswered n (held_of window.1)) ≡ 0 = rw other refl in
-    let put_it = count_insert n window.0 (held_of window.1) windows new in
+    let put_it = count_insert n window.0 (held_of window.1) windows new.0 in
     omega arith
 
 module _ (o : Opening) (history : List Entry) (turns begun : List Turn) (newest : List Placed) (fresh : Option (ConId × Buffer)) (gone : List ConId) where
@@ -141,9 +142,15 @@ module _ (o : Opening) (history : List Entry) (turns begun : List Turn) (newest 
       and_true true = refl
       and_true false = refl
 
-  kept_closed : (v : ConId) (found : Option Held) → is_fresh v fresh ≡ false → ((b : Option Buffer) → mapped_with v fresh b ≡ b) → IsKept o history turns begun v found
-      → IsKept o after turns begun v (option_map (close_if (list_any (same v) gone)) found)
-  kept_closed v None not_fresh same_buffer h = record {
+  gone_closed : (v : ConId) (buffer : Buffer) (g : Bool) → list_any (same v) gone ≡ g → is_fresh v fresh ≡ false → ((b : Option Buffer) → mapped_with v fresh b ≡ b) → IsGone o history turns begun v buffer → IsGone o after turns begun v buffer
+  gone_closed v buffer true is_gone not_fresh same_buffer h =
+      gone_on o history after turns begun turns begun v buffer (closed_held h.held) h (held_closed v h.held true is_gone not_fresh same_buffer h.held_is) refl refl refl (omega arith)
+  gone_closed v buffer false is_gone not_fresh same_buffer h =
+      gone_on o history after turns begun turns begun v buffer h.held h (held_closed v h.held false is_gone not_fresh same_buffer h.held_is) h.closed refl refl (omega arith)
+
+  kept_closed : (v : ConId) (found : Option Held) (left : Option Buffer) → is_fresh v fresh ≡ false → ((b : Option Buffer) → mapped_with v fresh b ≡ b) → IsKept o history turns begun v found left
+      → IsKept o after turns begun v (option_map (close_if (list_any (same v) gone)) found) left
+  kept_closed v None None not_fresh same_buffer h = record {
     not_open = rw (not_fresh, h.not_open) refl;
     no_last = h.no_last;
     no_configure = h.no_configure;
@@ -151,7 +158,8 @@ module _ (o : Opening) (history : List Entry) (turns begun : List Turn) (newest 
     no_gift = h.no_gift;
     no_under = λ n. rw not_fresh (h.no_under n);
   }
-  kept_closed v (Some w) not_fresh same_buffer h = held_closed v w (list_any (same v) gone) refl not_fresh same_buffer h
+  kept_closed v None (Some buffer) not_fresh same_buffer h = gone_closed v buffer (list_any (same v) gone) refl not_fresh same_buffer h
+  kept_closed v (Some w) left not_fresh same_buffer h = held_closed v w (list_any (same v) gone) refl not_fresh same_buffer h
 
   held_fresh : (v : ConId) (buffer : Buffer) (g : Bool) → list_any (same v) gone ≡ g → is_fresh v fresh ≡ true → ((b : Option Buffer) → mapped_with v fresh b ≡ Some buffer) → IsUnknown o history begun v
       → IsHeld o after turns begun v (close_if g (held_of buffer))
@@ -186,39 +194,41 @@ module _ (o : Opening) (history : List Entry) (turns begun : List Turn) (newest 
       by true e = bare (closed_held (held_of buffer)) refl refl refl refl refl (rw (e, is_it) refl)
       by false e = bare (held_of buffer) refl refl refl refl refl (rw (e, is_it) refl)
 
-module _ (o : Opening) (history : List Entry) (turns begun : List Turn) (newest : List Placed) (gone : List ConId) (windows : Windows) where
-  kept_mapped : (v c : ConId) (buffer : Buffer) (b : Bool) → same c v ≡ b → find c windows ≡ None → IsKept o history turns begun v (find v windows)
-      → IsKept o (Arranged newest (Some (c, buffer)) gone ∷ history) turns begun v (option_map (close_if (list_any (same v) gone)) (cond b (Some (held_of buffer)) (find v windows)))
-  kept_mapped v c buffer true one new kept =
+module _ (o : Opening) (history : List Entry) (turns begun : List Turn) (newest : List Placed) (gone : List ConId) (windows : Windows) (buffers : Buffers) where
+  kept_mapped : (v c : ConId) (buffer : Buffer) (b : Bool) → same c v ≡ b → find c windows ≡ None → left_of c buffers ≡ None → IsKept o history turns begun v (find v windows) (left_of v buffers)
+      → IsKept o (Arranged newest (Some (c, buffer)) gone ∷ history) turns begun v (option_map (close_if (list_any (same v) gone)) (cond b (Some (held_of buffer)) (find v windows))) (left_of v buffers)
+  kept_mapped v c buffer true one new unseen kept =
       let none : find v windows ≡ None = ap (λ z. find z windows) (sym (one_id c v one)) ∙ new in
-      held_fresh o history turns begun newest (Some (c, buffer)) gone v buffer (list_any (same v) gone) refl one (λ b. rw one refl) (subst (IsKept o history turns begun v) none kept)
-  kept_mapped v c buffer false other new kept =
-      kept_closed o history turns begun newest (Some (c, buffer)) gone v (find v windows) other (λ b. rw other refl) kept
+      let none_left : left_of v buffers ≡ None = ap (λ z. left_of z buffers) (sym (one_id c v one)) ∙ unseen in
+      let unknown = subst (IsLeft o history turns begun v) none_left (subst (λ z. IsKept o history turns begun v z (left_of v buffers)) none kept) in
+      held_fresh o history turns begun newest (Some (c, buffer)) gone v buffer (list_any (same v) gone) refl one (λ b. rw one refl) unknown
+  kept_mapped v c buffer false other new unseen kept =
+      kept_closed o history turns begun newest (Some (c, buffer)) gone v (find v windows) (left_of v buffers) other (λ b. rw other refl) kept
 
-  kept_arranged : (v : ConId) (fresh : Option (ConId × Buffer)) → IsNewcomer fresh windows → IsKept o history turns begun v (find v windows)
-      → IsKept o (Arranged newest fresh gone ∷ history) turns begun v (find v (close_all gone (open_fresh fresh windows)))
+  kept_arranged : (v : ConId) (fresh : Option (ConId × Buffer)) → IsNewcomer fresh windows buffers → IsKept o history turns begun v (find v windows) (left_of v buffers)
+      → IsKept o (Arranged newest fresh gone ∷ history) turns begun v (find v (close_all gone (open_fresh fresh windows))) (left_of v buffers)
   kept_arranged v None new kept =
-      let Kept : Option Held → Type 0 = IsKept o (Arranged newest None gone ∷ history) turns begun v in
-      subst Kept (sym (find_closed v gone windows)) (kept_closed o history turns begun newest None gone v (find v windows) refl (λ b. refl) kept)
+      let Kept : Option Held → Type 0 = λ z. IsKept o (Arranged newest None gone ∷ history) turns begun v z (left_of v buffers) in
+      subst Kept (sym (find_closed v gone windows)) (kept_closed o history turns begun newest None gone v (find v windows) (left_of v buffers) refl (λ b. refl) kept)
   kept_arranged v (Some (c, buffer)) new kept =
-      let Kept : Option Held → Type 0 = IsKept o (Arranged newest (Some (c, buffer)) gone ∷ history) turns begun v in
+      let Kept : Option Held → Type 0 = λ z. IsKept o (Arranged newest (Some (c, buffer)) gone ∷ history) turns begun v z (left_of v buffers) in
       let inserted = insert_entry nat_cmp windows c.0 (held_of buffer) in
       subst Kept (ap (option_map (close_if (list_any (same v) gone))) (sym (find_insert c v (held_of buffer) windows)) ∙ sym (find_closed v gone inserted))
-      (kept_mapped v c buffer (same c v) refl new kept)
+      (kept_mapped v c buffer (same c v) refl new.0 new.1 kept)
 
-  live_kept : (v : ConId) (found : Option Held) → IsKept o history turns begun v found → is_open o v history ≡ is_live found
-  live_kept v None kept = kept.not_open
-  live_kept v (Some w) kept = kept.live_is
+  live_kept : (v : ConId) (found : Option Held) (left : Option Buffer) → IsKept o history turns begun v found left → is_open o v history ≡ is_live found
+  live_kept v None left kept = left_closed o history turns begun v left kept
+  live_kept v (Some w) left kept = kept.live_is
 
   -- what is kept after an arrangement came
-  pub keeps_arranged : (fresh : Option (ConId × Buffer)) (number prefix : ℕ) (current : List Placed) → IsNewcomer fresh windows → ShowsOpen newest fresh gone windows
-      → IsStrictlySortedBy nat_cmp (keys_of (open_fresh fresh windows)) → Keeps o history turns begun number prefix current windows
-      → Keeps o (Arranged newest fresh gone ∷ history) turns begun number prefix current (close_all gone (open_fresh fresh windows))
+  pub keeps_arranged : (fresh : Option (ConId × Buffer)) (number prefix : ℕ) (current : List Placed) → IsNewcomer fresh windows buffers → ShowsOpen newest fresh gone windows
+      → IsStrictlySortedBy nat_cmp (keys_of (open_fresh fresh windows)) → Keeps o history turns begun number prefix current windows buffers
+      → Keeps o (Arranged newest fresh gone ∷ history) turns begun number prefix current (close_all gone (open_fresh fresh windows)) buffers
   keeps_arranged fresh number prefix current new shows sorted k = record {
     number_is = k.number_is;
     prefix_is = k.prefix_is;
     current_is = k.current_is;
     each = λ v. kept_arranged v fresh new (k.each v);
     sorted = subst (IsStrictlySortedBy nat_cmp) (sym (keys_closed gone (open_fresh fresh windows))) sorted;
-    open_contents = λ v there. ap (λ z. (is_fresh v fresh || z) && not (list_any (same v) gone)) (live_kept v (find v windows) (k.each v)) ∙ shows v there;
+    open_contents = λ v there. ap (λ z. (is_fresh v fresh || z) && not (list_any (same v) gone)) (live_kept v (find v windows) (left_of v buffers) (k.each v)) ∙ shows v there;
   }

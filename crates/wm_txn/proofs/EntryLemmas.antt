@@ -1,5 +1,5 @@
 -- What each entry does to the machine is what it says of the history.
-use Rattle.std.proofs.Common.{◌≡◌, ℕ, ◌+◌, ◌-◌, ◌≤◌, Bool, true, false, cond, not, ◌&&◌, eqb, ltb, inl, inr, List, ◌∷◌, length, Option, Some, refl, ap, sym, ◌∙◌, subst, arith}
+use Rattle.std.proofs.Common.{◌≡◌, ℕ, ◌+◌, ◌-◌, ◌≤◌, Bool, true, false, cond, not, ◌&&◌, eqb, ltb, inl, inr, List, ◌∷◌, length, Option, Some, refl, ap, sym, ◌∙◌, arith}
 use Rattle.std.proofs.lemmas.Bool.{ltb-true, ltb-false, or_right}
 use Rattle.std.specs.List.Sorted.{IsStrictlySortedBy}
 use Rattle.std.specs.Map.{keys_of}
@@ -9,14 +9,15 @@ use Rattle.wm_base.specs.declared.ids.ConId.{ConId}
 use Rattle.wm_arrange.specs.declared.parts.Arrangement.{Arrangement}
 use Rattle.wm_txn.specs.History.{Opening, Entry, Arranged, Acked, Gave, Deadline, Still}
 use Rattle.wm_txn.specs.Machine.{TxnValue, acked, answers, arranged, is_due_by, is_over, opened, settled, timed_out}
-use Rattle.wm_txn.specs.Windows.{IsNewcomer, ShowsOpen, acked_with, buffered_with, close_all, count_closed, find, one_if, open_fresh, put}
+use Rattle.wm_txn.specs.Windows.{IsNewcomer, ShowsOpen, acked_with, buffered_with, close_all, count_closed, find, left_of, one_if, open_fresh, put}
 use Rattle.wm_txn.specs.Schedule.{Turn, is_named}
-use Rattle.wm_txn.specs.Stands.{IsKept, StandsFor}
+use Rattle.wm_txn.specs.Stands.{StandsFor}
 use Rattle.wm_txn.specs.declared.held.Held.{Held}
 use Rattle.wm_txn.specs.declared.held.Pending.{Pending}
 use Rattle.wm_txn.proofs.CloseLemmas.{count_fresh, count_gone, keeps_arranged}
 use Rattle.wm_txn.proofs.DueLemmas.{due_bounds, few_begun}
 use Rattle.wm_txn.proofs.FollowLemmas.{settles_waiting}
+use Rattle.wm_txn.proofs.GoneLemmas.{held_at}
 use Rattle.wm_txn.proofs.KeepLemmas.{agree_acked, agree_deadline, agree_gave, agree_still, held_acked, held_buffered, keeps_put, keeps_same}
 use Rattle.wm_txn.proofs.ScheduleLemmas.{was_waiting}
 use Rattle.wm_txn.proofs.StepLemmas.{Pends, known, stands_on, stands_settled}
@@ -28,20 +29,20 @@ module _ (o : Opening) (history : List Entry) (d : TxnValue) (s : StandsFor o hi
   pub stands_still : StandsFor o (Still ∷ history) d
   stands_still =
       stands_on o history Still d d.windows d.left d.newest
-      (λ turns begun few k. keeps_same o history (Still ∷ history) turns begun d.number d.prefix d.current.parts d.windows (agree_still o history) k.open_contents k)
+      (λ turns begun few k. keeps_same o history (Still ∷ history) turns begun d.number d.prefix d.current.parts d.windows d.gone (agree_still o history) k.open_contents k)
       (λ last new. new) (λ zero. zero) (λ counted. counted) (λ turns t p w. refl) refl refl s
 
   -- ---- an arrangement
 
-  pub stands_arranged : (newest : Arrangement) (fresh : Option (ConId × Buffer)) (gone : List ConId) (steps : ℕ) → steps ≡ length history + 1 → IsNewcomer fresh d.windows → ShowsOpen newest.parts fresh gone d.windows
+  pub stands_arranged : (newest : Arrangement) (fresh : Option (ConId × Buffer)) (gone : List ConId) (steps : ℕ) → steps ≡ length history + 1 → IsNewcomer fresh d.windows d.gone → ShowsOpen newest.parts fresh gone d.windows
       → IsStrictlySortedBy nat_cmp (keys_of (open_fresh fresh d.windows)) → StandsFor o (Arranged newest.parts fresh gone ∷ history) (settled steps (arranged newest gone (opened fresh d)))
   stands_arranged newest fresh gone steps steps_are new shows sorted =
       let n = d.number + 1 in
       let opened_windows = open_fresh fresh d.windows in
       stands_settled o history (Arranged newest.parts fresh gone) d (close_all gone opened_windows) (d.left - count_closed n gone opened_windows) (Some newest)
-      (λ turns begun few k. keeps_arranged o history turns begun newest.parts gone d.windows fresh d.number d.prefix d.current.parts new shows sorted k)
+      (λ turns begun few k. keeps_arranged o history turns begun newest.parts gone d.windows d.gone fresh d.number d.prefix d.current.parts new shows sorted k)
       (λ last old. refl) (λ zero. omega arith)
-      (λ counted. let same_count = count_fresh n fresh d.windows (omega arith) new in let gone_count = count_gone n gone opened_windows in omega arith)
+      (λ counted. let same_count = count_fresh n fresh d.windows d.gone (omega arith) new in let gone_count = count_gone n gone opened_windows in omega arith)
       (λ turns t p w. refl) steps steps_are s
 
   -- ---- a deadline
@@ -52,14 +53,14 @@ module _ (o : Opening) (history : List Entry) (d : TxnValue) (s : StandsFor o hi
   stands_not_over : (number : ℕ) → is_over (length history) number d.number d.waiting ≡ false → StandsFor o (Deadline number ∷ history) d
   stands_not_over number not_over =
       stands_on o history (Deadline number) d d.windows d.left d.newest
-      (λ turns begun few k. keeps_same o history (Deadline number ∷ history) turns begun d.number d.prefix d.current.parts d.windows (agree_deadline o history number) k.open_contents k)
+      (λ turns begun few k. keeps_same o history (Deadline number ∷ history) turns begun d.number d.prefix d.current.parts d.windows d.gone (agree_deadline o history number) k.open_contents k)
       (λ last new. new) (λ zero. zero) (λ counted. counted) (λ turns t p w. over_is number turns t p w ∙ not_over) refl refl s
 
   stands_over : (number : ℕ) → is_over (length history) number d.number d.waiting ≡ true → (steps : ℕ) → steps ≡ length history + 1 → StandsFor o (Deadline number ∷ history) (settled steps (record d { left = 0 }))
   stands_over number over steps steps_are = elim (known o history d s) [
     | inl r ↦ let bad : false ≡ true = rw r.1.none_waits at over in cc
     | inr w ↦ settles_waiting o history (Deadline number) steps steps_are w.0 w.1 w.2 (record d { left = 0 }) (record {
-      keeps = keeps_same o history (Deadline number ∷ history) w.0 (w.1 ∷ w.0) d.number d.prefix d.current.parts d.windows (agree_deadline o history number) w.3.keeps.open_contents w.3.keeps;
+      keeps = keeps_same o history (Deadline number ∷ history) w.0 (w.1 ∷ w.0) d.number d.prefix d.current.parts d.windows d.gone (agree_deadline o history number) w.3.keeps.open_contents w.3.keeps;
       was = was_waiting o history (Deadline number) w.1 w.0 w.3.waiting_is;
       waiting_is = w.3.pending_is;
       prefix_is = w.3.prefix_is;
@@ -84,9 +85,9 @@ module _ (o : Opening) (history : List Entry) (d : TxnValue) (s : StandsFor o hi
   stands_acked v serial w at due =
       stands_on o history (Acked v serial) d (put v (acked_with serial w) d.windows) d.left d.newest
       (λ turns begun one k.
-      let held = subst (IsKept o history turns begun v) at (k.each v) in
+      let held = held_at o history turns begun v (find v d.windows) (left_of v d.gone) w at (k.each v) in
       let bounds = due_bounds o history turns begun v w held one d.number k.number_is serial due in
-      keeps_put o history (Acked v serial ∷ history) turns begun d.number d.prefix d.current.parts v w (acked_with serial w) d.windows at
+      keeps_put o history (Acked v serial ∷ history) turns begun d.number d.prefix d.current.parts v w (acked_with serial w) d.windows d.gone at
       (held_acked o history turns begun v serial w held bounds.above bounds.within bounds.done) (agree_acked o history v serial) k.open_contents k)
       (λ last new. new) (λ zero. zero) (λ counted. let same_count = count_put (d.number + 1) v (acked_with serial w) w d.windows at in omega arith) (λ turns t p w. refl) refl refl s
 
@@ -110,12 +111,12 @@ module _ (o : Opening) (history : List Entry) (d : TxnValue) (s : StandsFor o hi
       let new = buffered_with d.number buffer w in
       let n = d.number + 1 in
       let under_le : w.under ≤ w.acked = elim (known o history d s) [
-        | inl r ↦ let held = subst (IsKept o history r.0 r.0 v) at (r.1.keeps.each v) in held.under_le
-        | inr p ↦ let held = subst (IsKept o history p.0 (p.1 ∷ p.0) v) at (p.3.keeps.each v) in held.under_le
+        | inl r ↦ let held = held_at o history r.0 r.0 v (find v d.windows) (left_of v d.gone) w at (r.1.keeps.each v) in held.under_le
+        | inr p ↦ let held = held_at o history p.0 (p.1 ∷ p.0) v (find v d.windows) (left_of v d.gone) w at (p.3.keeps.each v) in held.under_le
       ] in
       stands_settled o history (Gave v buffer) d (put v new d.windows) (d.left - one_if (answers n w new)) d.newest
-      (λ turns begun few k. keeps_put o history (Gave v buffer ∷ history) turns begun d.number d.prefix d.current.parts v w new d.windows at
-      (held_buffered o history turns begun v buffer d.number w (subst (IsKept o history turns begun v) at (k.each v)) k.number_is (few_begun turns begun few)) (agree_gave o history v buffer) k.open_contents k)
+      (λ turns begun few k. keeps_put o history (Gave v buffer ∷ history) turns begun d.number d.prefix d.current.parts v w new d.windows d.gone at
+      (held_buffered o history turns begun v buffer d.number w (held_at o history turns begun v (find v d.windows) (left_of v d.gone) w at (k.each v)) k.number_is (few_begun turns begun few)) (agree_gave o history v buffer) k.open_contents k)
       (λ last old. old) (λ zero. omega arith)
       (λ counted. let put_it = count_put n v new w d.windows at in let fewer = answer_step w.live (eqb w.serial n) w.under w.acked n under_le in omega arith)
       (λ turns t p w. refl) steps steps_are s

@@ -7,7 +7,7 @@ use Rattle.wm_arrange.specs.declared.parts.Placed.{Placed}
 use Rattle.wm_arrange.specs.Same.{same_parts}
 use Rattle.wm_txn.specs.History.{Opening, Entry, arrangement}
 use Rattle.wm_txn.specs.Machine.{TxnValue, began, commit_pending, committed, finished, followed, next_with, settled}
-use Rattle.wm_txn.specs.Windows.{Windows, ask_all, count_all, count_unanswered}
+use Rattle.wm_txn.specs.Windows.{Buffers, Windows, ask_all, count_all, count_unanswered}
 use Rattle.wm_txn.specs.Schedule.{Turn, configures, contents, differs, is_named, last_parts, may_end, names, turn_from}
 use Rattle.wm_txn.specs.Stands.{IsNewest, IsScheduled, Keeps, StandsFor}
 use Rattle.wm_txn.specs.declared.held.Pending.{Pending}
@@ -24,7 +24,7 @@ module _ (o : Opening) (history : List Entry) (entry : Entry) where
   here = entry ∷ history
 
   -- no other begins
-  pub stands_idle : (turns : List Turn) (d : TxnValue) → Keeps o here turns turns d.number d.prefix d.current.parts d.windows → WasIdle o entry history turns → d.waiting ≡ None → d.left ≡ 0 → d.newest ≡ None
+  pub stands_idle : (turns : List Turn) (d : TxnValue) → Keeps o here turns turns d.number d.prefix d.current.parts d.windows d.gone → WasIdle o entry history turns → d.waiting ≡ None → d.left ≡ 0 → d.newest ≡ None
       → same_parts (arrangement o here) (last_parts o turns) ≡ true → length turns ≤ length history + 1 → StandsFor o here d
   stands_idle turns d k was none_waits none_left none_newest same_arrangement within =
       let Scheduled : Option Pending → Type 0 = λ z. IsScheduled o here turns turns z d in
@@ -39,7 +39,7 @@ module _ (o : Opening) (history : List Entry) (entry : Entry) where
 
   -- what is known of the transaction that waited when the entry came
   pub record Awaits (turns : List Turn) (t : Turn) (p : Pending) (d : TxnValue) : Type 0 where
-    pub keeps : Keeps o here turns (t ∷ turns) d.number d.prefix d.current.parts d.windows
+    pub keeps : Keeps o here turns (t ∷ turns) d.number d.prefix d.current.parts d.windows d.gone
     pub was : WasWaiting o entry history t turns
     pub waiting_is : d.waiting ≡ Some p
     pub prefix_is : p.prefix ≡ t.prefix
@@ -71,17 +71,17 @@ module _ (o : Opening) (history : List Entry) (entry : Entry) where
         within = omega arith;
       }
 
-  abbrev commit_keeps : (turns : List Turn) (t : Turn) (p : Pending) (d : TxnValue) → Awaits turns t p d → Keeps o here (t ∷ turns) (t ∷ turns) (d.number + 1) p.prefix p.arrangement.parts d.windows
-  commit_keeps turns t p d a = keeps_committed o here turns t d.number d.prefix d.current.parts d.windows p a.keeps a.prefix_is a.parts_are
+  abbrev commit_keeps : (turns : List Turn) (t : Turn) (p : Pending) (d : TxnValue) → Awaits turns t p d → Keeps o here (t ∷ turns) (t ∷ turns) (d.number + 1) p.prefix p.arrangement.parts d.windows d.gone
+  commit_keeps turns t p d a = keeps_committed o here turns t d.number d.prefix d.current.parts d.windows d.gone p a.keeps a.prefix_is a.parts_are
 
   -- one that begins here may end here exactly where nobody is left
-  ends_begun : (turns : List Turn) (number prefix : ℕ) (current : List Placed) (windows : Windows) (left : ℕ) → Keeps o here turns (turn_from o turns here ∷ turns) number prefix current windows
+  ends_begun : (turns : List Turn) (number prefix : ℕ) (current : List Placed) (windows : Windows) (buffers : Buffers) (left : ℕ) → Keeps o here turns (turn_from o turns here ∷ turns) number prefix current windows buffers
       → left ≡ count_unanswered (length turns + 1) windows → may_end o (length turns + 1) (turn_from o turns here) here ≡ eqb left 0
-  ends_begun turns number prefix current windows left k left_is =
+  ends_begun turns number prefix current windows buffers left k left_is =
       let late : leb (length here) (length history) ≡ false = lt-leb (length here) (length history) (omega arith) in
       let not_named : is_named (length turns + 1) (length here) here ≡ false = rw late (and_right (names (length turns + 1) entry) false refl) in
       or_none _ (is_named (length turns + 1) (length here) here) not_named
-      ∙ (answered_is o here turns (turn_from o turns here) windows number prefix current k refl ∙ ap (λ z. eqb z 0) (sym left_is))
+      ∙ (answered_is o here turns (turn_from o turns here) windows buffers number prefix current k refl ∙ ap (λ z. eqb z 0) (sym left_is))
 
   module _ (steps : ℕ) (steps_are : steps ≡ length history + 1) where
     finish_step : (turns : List Turn) (a : Arrangement) (d : TxnValue) → Awaits turns (turn_from o turns here) (record { prefix = steps; arrangement = a }) d → a.parts ≡ arrangement o here → d.newest ≡ None → length turns ≤ length history
@@ -94,7 +94,7 @@ module _ (o : Opening) (history : List Entry) (entry : Entry) where
         subst StandsHere (ap (λ z. commit_pending z d) (sym w.waiting_is))
         (stands_idle (t ∷ turns) (commit_pending (Some p) d) (commit_keeps turns t p d w) (ends_here o history entry t turns w.was (w.ends_is ∙ left)) refl (eqb-true d.left 0 left) none_newest (same_itself (arrangement o here)) (omega arith))
 
-    next_step : (turns : List Turn) (a : Arrangement) (d : TxnValue) → Keeps o here turns turns d.number d.prefix d.current.parts d.windows → WasIdle o entry history turns → d.waiting ≡ None → d.left ≡ 0 → d.newest ≡ None
+    next_step : (turns : List Turn) (a : Arrangement) (d : TxnValue) → Keeps o here turns turns d.number d.prefix d.current.parts d.windows d.gone → WasIdle o entry history turns → d.waiting ≡ None → d.left ≡ 0 → d.newest ≡ None
         → a.parts ≡ arrangement o here → length turns ≤ length history → (b : Bool) → same_parts a.parts d.current.parts ≡ b → StandsFor o here (cond b d (finished (began steps a d)))
     next_step turns a d k was none_waits none_left none_newest parts_are within true alike =
         stands_idle turns d k was none_waits none_left none_newest (ap₂ same_parts (sym parts_are) (sym k.current_is) ∙ alike) (omega arith)
@@ -104,10 +104,10 @@ module _ (o : Opening) (history : List Entry) (entry : Entry) where
         let other : differs o turns here ≡ true = ap not (ap₂ same_parts (sym parts_are) (sym k.current_is) ∙ alike) in
         let asked : ask_all (d.number + 1) a.parts d.windows ≡ ask_all n a.parts d.windows = ap (λ z. ask_all (z + 1) a.parts d.windows) k.number_is in
         let counted : count_all (d.number + 1) a.parts d.windows ≡ count_all n a.parts d.windows = ap (λ z. count_all (z + 1) a.parts d.windows) k.number_is in
-        let Kept : Windows → Type 0 = Keeps o here turns (t ∷ turns) d.number d.prefix d.current.parts in
-        let keeps = subst Kept (sym asked) (keeps_asked o here turns d.number d.prefix d.current.parts a.parts d.windows parts_are k) in
+        let Kept : Windows → Type 0 = λ z. Keeps o here turns (t ∷ turns) d.number d.prefix d.current.parts z d.gone in
+        let keeps = subst Kept (sym asked) (keeps_asked o here turns d.number d.prefix d.current.parts a.parts d.windows d.gone parts_are k) in
         let left_is : count_all (d.number + 1) a.parts d.windows ≡ count_unanswered n (ask_all (d.number + 1) a.parts d.windows) =
-        counted ∙ (left_asked o here turns d.number d.prefix d.current.parts a.parts d.windows k ∙ ap (count_unanswered n) (sym asked)) in
+        counted ∙ (left_asked o here turns d.number d.prefix d.current.parts a.parts d.windows d.gone k ∙ ap (count_unanswered n) (sym asked)) in
         finish_step turns a (began steps a d) (record {
           keeps = keeps;
           was = begins_here o history entry turns was other;
@@ -115,12 +115,12 @@ module _ (o : Opening) (history : List Entry) (entry : Entry) where
           prefix_is = omega (arith, steps_are);
           parts_are = parts_are;
           awaits_are = refl;
-          ends_is = ends_begun turns d.number d.prefix d.current.parts (ask_all (d.number + 1) a.parts d.windows) (count_all (d.number + 1) a.parts d.windows) keeps left_is;
+          ends_is = ends_begun turns d.number d.prefix d.current.parts (ask_all (d.number + 1) a.parts d.windows) d.gone (count_all (d.number + 1) a.parts d.windows) keeps left_is;
           left_is = λ above. left_is;
           newest_is = subst (IsNewest (arrangement o here) (arrangement o here)) (sym none_newest) (same_itself (arrangement o here));
         }) parts_are none_newest within (eqb (count_all (d.number + 1) a.parts d.windows) 0) refl
 
-    follow_step : (turns : List Turn) (d : TxnValue) → Keeps o here turns turns d.number d.prefix d.current.parts d.windows → WasIdle o entry history turns → d.waiting ≡ None → d.left ≡ 0
+    follow_step : (turns : List Turn) (d : TxnValue) → Keeps o here turns turns d.number d.prefix d.current.parts d.windows d.gone → WasIdle o entry history turns → d.waiting ≡ None → d.left ≡ 0
         → length turns ≤ length history → (found : Option Arrangement) → IsNewest (arrangement o here) (last_parts o turns) found → StandsFor o here (next_with steps found (record d { newest = None }))
     follow_step turns d k was none_waits none_left within None newest = stands_idle turns (record d { newest = None }) k was none_waits none_left refl newest (omega arith)
     follow_step turns d k was none_waits none_left within (Some a) newest =
@@ -138,7 +138,7 @@ module _ (o : Opening) (history : List Entry) (entry : Entry) where
     settles_waiting turns t p d w within = settle_step turns t p d w within (eqb d.left 0) refl
 
     -- where none waited
-    pub settles_idle : (turns : List Turn) (d : TxnValue) → Keeps o here turns turns d.number d.prefix d.current.parts d.windows → WasIdle o entry history turns → d.waiting ≡ None → d.left ≡ 0
+    pub settles_idle : (turns : List Turn) (d : TxnValue) → Keeps o here turns turns d.number d.prefix d.current.parts d.windows d.gone → WasIdle o entry history turns → d.waiting ≡ None → d.left ≡ 0
         → IsNewest (arrangement o here) (last_parts o turns) d.newest → length turns ≤ length history → StandsFor o here (settled steps d)
     settles_idle turns d k was none_waits none_left newest within =
         let StandsHere : TxnValue → Type 0 = StandsFor o here in

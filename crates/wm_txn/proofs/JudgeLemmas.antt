@@ -9,13 +9,14 @@ use Rattle.wm_txn.specs.Commits.{begun_turns, ended_turns}
 use Rattle.wm_txn.specs.Heard.{ack_answer, buffer_answer, hear, is_due, is_empty, is_serial}
 use Rattle.wm_txn.specs.History.{Opening, Entry, Acked, Gave, is_open}
 use Rattle.wm_txn.specs.Machine.{TxnValue, ack_found, ack_step, buffer_found, buffer_step, is_due_by, judge_ack, judge_buffer, settled}
-use Rattle.wm_txn.specs.Windows.{committed_serial, find}
+use Rattle.wm_txn.specs.Windows.{committed_serial, find, left_of}
 use Rattle.wm_txn.specs.Schedule.{Turn, configure}
 use Rattle.wm_txn.specs.Stands.{IsHeld, IsKept, Keeps, StandsFor, serial_of}
 use Rattle.wm_txn.specs.declared.held.Held.{Held}
 use Rattle.wm_txn.proofs.AnswerLemmas.{serial_is}
 use Rattle.wm_txn.proofs.DueLemmas.{OneMore, committed_is}
 use Rattle.wm_txn.proofs.EntryLemmas.{stands_acked, stands_buffered, stands_still}
+use Rattle.wm_txn.proofs.GoneLemmas.{held_at, left_closed}
 use Rattle.wm_txn.proofs.NumberLemmas.{Numbers, numbers_idle, numbers_waiting}
 use Rattle.wm_txn.proofs.StepLemmas.{known}
 
@@ -23,7 +24,7 @@ use Rattle.wm_txn.proofs.StepLemmas.{known}
 pub record Sees (o : Opening) (history : List Entry) (d : TxnValue) : Type 0 where
   pub turns : List Turn
   pub begun : List Turn
-  pub keeps : Keeps o history turns begun d.number d.prefix d.current.parts d.windows
+  pub keeps : Keeps o history turns begun d.number d.prefix d.current.parts d.windows d.gone
   pub numbers : Numbers o history turns begun
   pub one_more : OneMore turns begun
 
@@ -41,7 +42,7 @@ asked_serial serial (Some c) above = grind (arith, nat_tests)
 
 module _ (o : Opening) (history : List Entry) (d : TxnValue) (e : Sees o history d) (v : ConId) (w : Held) (at : find v d.windows ≡ Some w) where
   held_there : IsHeld o history e.turns e.begun v w
-  held_there = subst (IsKept o history e.turns e.begun v) at (e.keeps.each v)
+  held_there = held_at o history e.turns e.begun v (find v d.windows) (left_of v d.gone) w at (e.keeps.each v)
 
   committed_there : serial_of (configure v e.turns) ≡ committed_serial d.number w
   committed_there = committed_is o history e.turns e.begun v w held_there e.one_more d.number e.keeps.number_is
@@ -63,6 +64,9 @@ module _ (o : Opening) (history : List Entry) (d : TxnValue) (e : Sees o history
 -- ---- acknowledgements
 
 module _ (o : Opening) (history : List Entry) (d : TxnValue) (s : StandsFor o history d) (v : ConId) where
+  closed_there : Sees o history d → find v d.windows ≡ None → is_open o v history ≡ false
+  closed_there e at = left_closed o history e.turns e.begun v (left_of v d.gone) (subst (λ z. IsKept o history e.turns e.begun v z (left_of v d.gone)) at (e.keeps.each v))
+
   taken : (entry heard_one : Entry) (new : TxnValue) (b : Bool) → heard_one ≡ entry → b ≡ true → StandsFor o (entry ∷ history) new → StandsFor o (heard_one ∷ history) (cond b new d)
   taken entry heard_one new b heard_it ok stood =
       let After : Entry → Type 0 = λ z. StandsFor o (z ∷ history) (cond b new d) in
@@ -97,8 +101,7 @@ module _ (o : Opening) (history : List Entry) (d : TxnValue) (s : StandsFor o hi
       → (judge_ack d.number serial found ≡ ack_answer o v serial history) × StandsFor o (hear o (Acked v serial) history ∷ history) (cond (is_ok (judge_ack d.number serial found)) (ack_found v serial found d) d)
   ack_found_there serial None at =
       let e = sees o history d s in
-      let unknown = subst (IsKept o history e.turns e.begun v) at (e.keeps.each v) in
-      let closed : is_open o v history ≡ false = unknown.not_open in
+      let closed = closed_there e at in
       (rw closed refl, rw closed (stands_still o history d s))
   ack_found_there serial (Some w) at = ack_known serial w at w.live (is_due_by d.number serial w) refl refl
 
@@ -126,12 +129,11 @@ module _ (o : Opening) (history : List Entry) (d : TxnValue) (s : StandsFor o hi
       → (judge_buffer buffer found ≡ buffer_answer o v buffer history) × StandsFor o (hear o (Gave v buffer) history ∷ history) (cond (is_ok (judge_buffer buffer found)) (settled steps (buffer_found v buffer found d)) d)
   buffer_found_there steps steps_are buffer None at =
       let e = sees o history d s in
-      let unknown = subst (IsKept o history e.turns e.begun v) at (e.keeps.each v) in
-      let closed : is_open o v history ≡ false = unknown.not_open in
+      let closed = closed_there e at in
       (rw closed refl, rw closed (stands_still o history d s))
   buffer_found_there steps steps_are buffer (Some w) at =
       let e = sees o history d s in
-      let held = subst (IsKept o history e.turns e.begun v) at (e.keeps.each v) in
+      let held = held_at o history e.turns e.begun v (find v d.windows) (left_of v d.gone) w at (e.keeps.each v) in
       buffer_known steps steps_are buffer w at held.live_is w.live (is_empty buffer.size) refl refl
 
   -- a buffer is answered as the history says

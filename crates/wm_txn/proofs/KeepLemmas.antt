@@ -11,10 +11,11 @@ use Rattle.wm_base.specs.declared.ids.ConId.{ConId}
 use Rattle.wm_tree.specs.Look.{same}
 use Rattle.wm_arrange.specs.declared.parts.Placed.{Placed}
 use Rattle.wm_txn.specs.History.{Opening, Entry, Acked, Gave, Deadline, Still, buffer_up_to, gave, is_open, last, under_up_to}
-use Rattle.wm_txn.specs.Windows.{Windows, find, put, acked_with, buffered_with, shown_by}
+use Rattle.wm_txn.specs.Windows.{Buffers, Windows, find, left_of, put, acked_with, buffered_with, shown_by}
 use Rattle.wm_txn.specs.Schedule.{Turn, configure}
 use Rattle.wm_txn.specs.Stands.{AreOpen, IsHeld, IsKept, IsNumbered, Keeps, serial_of}
 use Rattle.wm_txn.specs.declared.held.Held.{Held}
+use Rattle.wm_txn.proofs.GoneLemmas.{gone_on}
 use Rattle.wm_txn.proofs.WindowLemmas.{one_id, find_put}
 
 pub same_id : (v : ConId) → same v v ≡ true
@@ -30,16 +31,8 @@ pub record Agree (o : Opening) (before after : List Entry) (v : ConId) : Type 0 
   pub gifts : (n : ℕ) → gave n v after ≡ gave n v before
   pub unders : (n : ℕ) → under_up_to n v after ≡ under_up_to n v before
 
-pub kept_same : (o : Opening) (before after : List Entry) (turns begun : List Turn) (v : ConId) (found : Option Held) → Agree o before after v → IsKept o before turns begun v found → IsKept o after turns begun v found
-kept_same o before after turns begun v None a h = record {
-  not_open = a.opens ∙ h.not_open;
-  no_last = a.lasts ∙ h.no_last;
-  no_configure = h.no_configure;
-  no_buffer = λ n. a.buffers n ∙ h.no_buffer n;
-  no_gift = λ n. a.gifts n ∙ h.no_gift n;
-  no_under = λ n. a.unders n ∙ h.no_under n;
-}
-kept_same o before after turns begun v (Some w) a h = record {
+held_same : (o : Opening) (before after : List Entry) (turns begun : List Turn) (v : ConId) (w : Held) → Agree o before after v → IsHeld o before turns begun v w → IsHeld o after turns begun v w
+held_same o before after turns begun v w a h = record {
   live_is = a.opens ∙ h.live_is;
   last_is = a.lasts ∙ h.last_is;
   latest_is = h.latest_is;
@@ -60,14 +53,27 @@ kept_same o before after turns begun v (Some w) a h = record {
   };
 }
 
+pub kept_same : (o : Opening) (before after : List Entry) (turns begun : List Turn) (v : ConId) (found : Option Held) (left : Option Buffer) → Agree o before after v → IsKept o before turns begun v found left → IsKept o after turns begun v found left
+kept_same o before after turns begun v None None a h = record {
+  not_open = a.opens ∙ h.not_open;
+  no_last = a.lasts ∙ h.no_last;
+  no_configure = h.no_configure;
+  no_buffer = λ n. a.buffers n ∙ h.no_buffer n;
+  no_gift = λ n. a.gifts n ∙ h.no_gift n;
+  no_under = λ n. a.unders n ∙ h.no_under n;
+}
+kept_same o before after turns begun v None (Some buffer) a h =
+    gone_on o before after turns begun turns begun v buffer h.held h (held_same o before after turns begun v h.held a h.held_is) h.closed refl refl (omega arith)
+kept_same o before after turns begun v (Some w) left a h = held_same o before after turns begun v w a h
+
 -- where the windows stay and the entry says nothing of any
-pub keeps_same : (o : Opening) (before after : List Entry) (turns begun : List Turn) (number prefix : ℕ) (current : List Placed) (windows : Windows) → ((v : ConId) → Agree o before after v) → AreOpen o after
-    → Keeps o before turns begun number prefix current windows → Keeps o after turns begun number prefix current windows
-keeps_same o before after turns begun number prefix current windows agree are_open k = record {
+pub keeps_same : (o : Opening) (before after : List Entry) (turns begun : List Turn) (number prefix : ℕ) (current : List Placed) (windows : Windows) (buffers : Buffers) → ((v : ConId) → Agree o before after v) → AreOpen o after
+    → Keeps o before turns begun number prefix current windows buffers → Keeps o after turns begun number prefix current windows buffers
+keeps_same o before after turns begun number prefix current windows buffers agree are_open k = record {
   number_is = k.number_is;
   prefix_is = k.prefix_is;
   current_is = k.current_is;
-  each = λ v. kept_same o before after turns begun v (find v windows) (agree v) (k.each v);
+  each = λ v. kept_same o before after turns begun v (find v windows) (left_of v buffers) (agree v) (k.each v);
   sorted = k.sorted;
   open_contents = are_open;
 }
@@ -109,22 +115,22 @@ held_acked o history turns begun v serial w h above due due_done = record {
   };
 }
 
-kept_put : (o : Opening) (before after : List Entry) (turns begun : List Turn) (c : ConId) (w new : Held) (windows : Windows) → find c windows ≡ Some w → IsHeld o after turns begun c new
-    → (v : ConId) → (same c v ≡ false → Agree o before after v) → IsKept o before turns begun v (find v windows) → (b : Bool) → same c v ≡ b → IsKept o after turns begun v (cond b (Some new) (find v windows))
-kept_put o before after turns begun c w new windows at held v agree kept true one = subst (λ z. IsHeld o after turns begun z new) (one_id c v one) held
-kept_put o before after turns begun c w new windows at held v agree kept false other = kept_same o before after turns begun v (find v windows) (agree other) kept
+kept_put : (o : Opening) (before after : List Entry) (turns begun : List Turn) (c : ConId) (w new : Held) (windows : Windows) (left : Option Buffer) → find c windows ≡ Some w → IsHeld o after turns begun c new
+    → (v : ConId) → (same c v ≡ false → Agree o before after v) → IsKept o before turns begun v (find v windows) left → (b : Bool) → same c v ≡ b → IsKept o after turns begun v (cond b (Some new) (find v windows)) left
+kept_put o before after turns begun c w new windows left at held v agree kept true one = subst (λ z. IsHeld o after turns begun z new) (one_id c v one) held
+kept_put o before after turns begun c w new windows left at held v agree kept false other = kept_same o before after turns begun v (find v windows) left (agree other) kept
 
 -- where one window is kept anew
-pub keeps_put : (o : Opening) (before after : List Entry) (turns begun : List Turn) (number prefix : ℕ) (current : List Placed) (c : ConId) (w new : Held) (windows : Windows) → find c windows ≡ Some w
-    → IsHeld o after turns begun c new → ((v : ConId) → same c v ≡ false → Agree o before after v) → AreOpen o after → Keeps o before turns begun number prefix current windows
-    → Keeps o after turns begun number prefix current (put c new windows)
-keeps_put o before after turns begun number prefix current c w new windows at held agree are_open k = record {
+pub keeps_put : (o : Opening) (before after : List Entry) (turns begun : List Turn) (number prefix : ℕ) (current : List Placed) (c : ConId) (w new : Held) (windows : Windows) (buffers : Buffers) → find c windows ≡ Some w
+    → IsHeld o after turns begun c new → ((v : ConId) → same c v ≡ false → Agree o before after v) → AreOpen o after → Keeps o before turns begun number prefix current windows buffers
+    → Keeps o after turns begun number prefix current (put c new windows) buffers
+keeps_put o before after turns begun number prefix current c w new windows buffers at held agree are_open k = record {
   number_is = k.number_is;
   prefix_is = k.prefix_is;
   current_is = k.current_is;
   each = λ v.
-      let Kept : Option Held → Type 0 = IsKept o after turns begun v in
-      subst Kept (sym (find_put c v new w windows at)) (kept_put o before after turns begun c w new windows at held v (agree v) (k.each v) (same c v) refl);
+      let Kept : Option Held → Type 0 = λ z. IsKept o after turns begun v z (left_of v buffers) in
+      subst Kept (sym (find_put c v new w windows at)) (kept_put o before after turns begun c w new windows (left_of v buffers) at held v (agree v) (k.each v) (same c v) refl);
   sorted = subst (IsStrictlySortedBy nat_cmp) (sym (keys-set_value (is_at (nat_cmp c.0)) windows new)) k.sorted;
   open_contents = are_open;
 }

@@ -3,6 +3,7 @@ use Rattle.std.proofs.Common.{◌≡◌, ℕ, zero, suc, ◌+◌, ◌≤◌, ◌
 use Rattle.std.proofs.lemmas.Bool.{and_parts, and_right, cases_lt, false_from_ne_true, lt-leb, ne_eqb, or_from}
 use Rattle.std.specs.List.{list_all}
 use Rattle.std.specs.Option.{option_and_then}
+use Rattle.wm_base.specs.declared.ids.Buffer.{Buffer}
 use Rattle.wm_base.specs.declared.ids.ConId.{ConId}
 use Rattle.wm_arrange.specs.declared.parts.Placed.{Placed}
 use Rattle.wm_arrange.specs.Sizes.{is_content}
@@ -11,9 +12,9 @@ use Rattle.wm_txn.specs.Heard.{hear, heard}
 use Rattle.wm_txn.specs.History.{Opening, Entry, arrangement, gave, gives, is_open, last}
 use Rattle.wm_txn.specs.Lasting.{BegunStays, EndedStays, NeverFalls, EndsTwiceAtMost, SecondAwaitsNobody}
 use Rattle.wm_txn.specs.Machine.{TxnValue}
-use Rattle.wm_txn.specs.Windows.{find}
+use Rattle.wm_txn.specs.Windows.{find, left_of}
 use Rattle.wm_txn.specs.Schedule.{Turn, answered, configures, contents, differs, ended, is_named, may_end, names, next, past}
-use Rattle.wm_txn.specs.Stands.{IsKept}
+use Rattle.wm_txn.specs.Stands.{IsHeld, IsKept}
 use Rattle.wm_txn.specs.declared.held.Held.{Held}
 use Rattle.wm_txn.proofs.AnswerLemmas.{has, has_here, has_later}
 use Rattle.wm_txn.proofs.FirstLemmas.{first_within}
@@ -186,15 +187,19 @@ first_has c [] v rest h = cc
 first_has c (p ∷ parts) v rest h = first_has_step c p parts v rest (is_content p.part) (c p.con) refl (first_has c parts v rest) h
 
 module _ (o : Opening) (history : List Entry) (entry : Entry) (d : TxnValue) (e : Sees o history d) where
-  too_new : (n : ℕ) → length e.turns + 1 < n → (v : ConId) (found : Option Held) → IsKept o history e.turns e.begun v found → gave n v (entry ∷ history) ≡ false
-  too_new n above v None kept =
-      let other : eqb (last v history) n ≡ false = ne_eqb (last v history) n (λ same. omega (arith, kept.no_last)) in
-      or_from (gives v entry && eqb (last v history) n) (gave n v history) (and_right (gives v entry) _ other) (kept.no_gift n)
-  too_new n above v (Some w) kept =
+  too_new_held : (n : ℕ) → length e.turns + 1 < n → (v : ConId) (w : Held) → IsHeld o history e.turns e.begun v w → gave n v (entry ∷ history) ≡ false
+  too_new_held n above v w kept =
       let few = few_begun e.turns e.begun e.one_more in
       let other : eqb (last v history) n ≡ false = ne_eqb (last v history) n (λ same. omega (arith, kept.last_is, kept.acked_le, kept.serial_le)) in
       let none : gave n v history ≡ false = kept.gave_is n (omega arith) ∙ lt-leb n w.under (omega (arith, kept.under_le, kept.acked_le, kept.serial_le)) in
       or_from (gives v entry && eqb (last v history) n) (gave n v history) (and_right (gives v entry) _ other) none
+
+  too_new : (n : ℕ) → length e.turns + 1 < n → (v : ConId) (found : Option Held) (left : Option Buffer) → IsKept o history e.turns e.begun v found left → gave n v (entry ∷ history) ≡ false
+  too_new n above v None None kept =
+      let other : eqb (last v history) n ≡ false = ne_eqb (last v history) n (λ same. omega (arith, kept.no_last)) in
+      or_from (gives v entry && eqb (last v history) n) (gave n v history) (and_right (gives v entry) _ other) (kept.no_gift n)
+  too_new n above v None (Some buffer) kept = too_new_held n above v kept.held kept.held_is
+  too_new n above v (Some w) left kept = too_new_held n above v w kept
 
 -- a transaction with a number that no window has acknowledged awaits nobody where it ends at once
 nobody : (o : Opening) (history : List Entry) (n : ℕ) (t : Turn) (turns : List Turn) (c : ConId → Bool) → ((v : ConId) → gave n v history ≡ false) → ((v : ConId) → has v (arrangement o history) ≡ true → is_open o v history ≡ true)
@@ -226,7 +231,7 @@ second_awaits_nobody o history entry before after stood stands t turns place beg
     let done_is = e.numbers.done_is in
     let awaits : t.awaits ≡ contents (configures turns (arrangement o (e' ∷ g))) (arrangement o (e' ∷ g)) = ap (λ (z : Turn). z.awaits) new in
     nobody o (e' ∷ g) (length turns + 1) t turns (configures turns (arrangement o (e' ∷ g)))
-    (λ v. too_new o g e' before e (length turns + 1) (omega arith) v (find v before.windows) (e.keeps.each v))
+    (λ v. too_new o g e' before e (length turns + 1) (omega arith) v (find v before.windows) (left_of v before.gone) (e.keeps.each v))
     stands.keeps.open_contents t.awaits (sym awaits) all
   where
     two : (m : ℕ) → m + 2 ≡ suc (suc m)

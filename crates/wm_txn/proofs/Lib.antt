@@ -6,6 +6,7 @@ pub mod DueLemmas
 pub mod EntryLemmas
 pub mod FirstLemmas
 pub mod FollowLemmas
+pub mod GoneLemmas
 pub mod HeardLemmas
 pub mod JudgeLemmas
 pub mod KeepLemmas

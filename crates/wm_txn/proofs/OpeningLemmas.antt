@@ -5,7 +5,7 @@ use Rattle.wm_arrange.specs.declared.parts.Arrangement.{Arrangement}
 use Rattle.wm_txn.specs.Heard.{heard}
 use Rattle.wm_txn.specs.History.{Opening, Entry}
 use Rattle.wm_txn.specs.Machine.{TxnValue}
-use Rattle.wm_txn.specs.Windows.{AreSorted, HasNoContent, Windows, find}
+use Rattle.wm_txn.specs.Windows.{AreSorted, Buffers, HasNoContent, Windows, find, left_of}
 use Rattle.wm_txn.specs.Stands.{AreOpen, IsIdle, IsKept, Stands}
 use Rattle.wm_txn.proofs.SettleLemmas.{same_itself}
 
@@ -17,8 +17,8 @@ heard_length o (entry ∷ history) = ap suc (heard_length o history)
 none_open : (o : Opening) → HasNoContent o.parts → AreOpen o []
 none_open o none v there = let bad : false ≡ true = sym (ap is_some (none v)) ∙ there in cc
 
-abbrev bare : Arrangement → Windows → TxnValue
-bare first windows = record { windows = windows; number = 0; prefix = 0; current = first; waiting = None; newest = None; left = 0 }
+abbrev bare : Arrangement → Windows → Buffers → TxnValue
+bare first windows buffers = record { windows = windows; gone = buffers; number = 0; prefix = 0; current = first; waiting = None; newest = None; left = 0 }
 
 idle_start : (o : Opening) → IsIdle o [] []
 idle_start o = record {
@@ -27,10 +27,10 @@ idle_start o = record {
 }
 
 -- a machine without windows stands for the history without entries
-pub stands_start : (first : Arrangement) (windows : Windows) → HasNoContent first.parts → windows ≡ [] → AreSorted windows → Stands (record { parts = first.parts; windows = [] }) [] (bare first windows)
-stands_start first windows none no_windows sorted =
+pub stands_start : (first : Arrangement) (windows : Windows) (buffers : Buffers) → HasNoContent first.parts → windows ≡ [] → AreSorted windows → buffers ≡ [] → Stands (record { parts = first.parts; windows = [] }) [] (bare first windows buffers)
+stands_start first windows buffers none no_windows sorted no_buffers =
     let o : Opening = record { parts = first.parts; windows = [] } in
-    let Kept : Windows → Type 0 = λ z. (v : ConId) → IsKept o [] [] [] v (find v z) in
+    let Kept : Windows → Buffers → Type 0 = λ z y. (v : ConId) → IsKept o [] [] [] v (find v z) (left_of v y) in
     record {
       turns = [];
       begun = [];
@@ -38,7 +38,7 @@ stands_start first windows none no_windows sorted =
         number_is = refl;
         prefix_is = refl;
         current_is = refl;
-        each = subst Kept (sym no_windows) (λ v. record { not_open = refl; no_last = refl; no_configure = refl; no_buffer = λ n. refl; no_gift = λ n. refl; no_under = λ n. refl });
+        each = subst (λ z. Kept z buffers) (sym no_windows) (subst (Kept []) (sym no_buffers) (λ v. record { not_open = refl; no_last = refl; no_configure = refl; no_buffer = λ n. refl; no_gift = λ n. refl; no_under = λ n. refl }));
         sorted = sorted;
         open_contents = none_open o none;
       };

@@ -1,21 +1,23 @@
 -- What the machine tells is what the history says.
-use Rattle.std.proofs.Common.{◌≡◌, ℕ, ◌+◌, ◌<◌, Bool, true, false, cond, not, ◌&&◌, eqb, leb, inl, inr, List, [], ◌∷◌, length, Option, Some, None, refl, ap, sym, ◌∙◌, arith}
+use Rattle.std.proofs.Common.{◌≡◌, ℕ, ◌+◌, Bool, true, false, cond, not, ◌&&◌, ◌||◌, eqb, leb, inl, inr, List, [], ◌∷◌, length, Option, Some, None, refl, ap, sym, ◌∙◌, arith}
 use Rattle.std.proofs.lemmas.Bool.{eq-eqb, leb-false, leb-true, ne_eqb}
 use Rattle.std.specs.Option.{option_map}
 use Rattle.wm_base.specs.declared.geometry.Size.{Size}
+use Rattle.wm_base.specs.declared.ids.Buffer.{Buffer}
 use Rattle.wm_base.specs.declared.ids.ConId.{ConId}
 use Rattle.wm_arrange.specs.declared.parts.Placed.{Placed}
 use Rattle.wm_arrange.specs.Sizes.{is_content}
 use Rattle.wm_txn.specs.Commits.{asked, begun_turns, current, done, least, lesser, prefix, prefix_of, shown, started, waiting, waiting_for}
-use Rattle.wm_txn.specs.History.{Opening, Entry, buffer_up_to, last}
-use Rattle.wm_txn.specs.Machine.{TxnValue, asked_of, shown_of, waiting_in}
-use Rattle.wm_txn.specs.Windows.{Windows, find, has_acked, is_left, least_left, shown_by}
+use Rattle.wm_txn.specs.History.{Opening, Entry, buffer_up_to, gave, last}
+use Rattle.wm_txn.specs.Machine.{TxnValue, asked_of, shown_of, shown_or, waiting_in}
+use Rattle.wm_txn.specs.Windows.{Windows, find, has_acked, is_left, least_left, left_of}
 use Rattle.wm_txn.specs.Schedule.{Turn, answered, configures, contents, last_parts}
 use Rattle.wm_txn.specs.Stands.{IsHeld, IsKept, StandsFor}
 use Rattle.wm_txn.specs.declared.answers.Waiting.{Waiting}
 use Rattle.wm_txn.specs.declared.held.Held.{Held}
 use Rattle.wm_txn.specs.declared.held.Pending.{Pending}
 use Rattle.wm_txn.proofs.AnswerLemmas.{has, has_here, has_later, is_left_where}
+use Rattle.wm_txn.proofs.GoneLemmas.{left_closed}
 use Rattle.wm_txn.proofs.JudgeLemmas.{Sees, sees}
 use Rattle.wm_txn.proofs.NumberLemmas.{numbers_idle, numbers_waiting}
 use Rattle.wm_txn.proofs.StepLemmas.{Pends, known}
@@ -44,12 +46,13 @@ module _ (o : Opening) (history : List Entry) (d : TxnValue) (s : StandsFor o hi
       let later = leb-false w.under d.number at in
       sym (ap (λ n. buffer_up_to o n v history) number ∙ h.older_is (omega arith))
 
-  shown_found : (v : ConId) (found : Option Held) (turns begun : List Turn) → IsKept o history turns begun v found → d.number ≡ length turns → option_map (shown_by d.number) found ≡ buffer_up_to o d.number v history
-  shown_found v None turns begun kept number = sym (kept.no_buffer d.number)
-  shown_found v (Some w) turns begun kept number = shown_step v w turns begun kept number (leb w.under d.number) refl
+  shown_found : (v : ConId) (found : Option Held) (left : Option Buffer) (turns begun : List Turn) → IsKept o history turns begun v found left → d.number ≡ length turns → shown_or d.number found left ≡ buffer_up_to o d.number v history
+  shown_found v None None turns begun kept number = sym (kept.no_buffer d.number)
+  shown_found v None (Some buffer) turns begun kept number = ap (λ z. Some z) (sym kept.newest_is) ∙ sym (kept.held_is.newest_is d.number (omega (arith, kept.done)))
+  shown_found v (Some w) left turns begun kept number = shown_step v w turns begun kept number (leb w.under d.number) refl
 
   pub shown_is : (v : ConId) → shown_of v d ≡ shown o v history
-  shown_is v = shown_found v (find v d.windows) seen.turns seen.begun (seen.keeps.each v) seen.keeps.number_is ∙ ap (λ n. buffer_up_to o n v history) done_is
+  shown_is v = shown_found v (find v d.windows) (left_of v d.gone) seen.turns seen.begun (seen.keeps.each v) seen.keeps.number_is ∙ ap (λ n. buffer_up_to o n v history) done_is
 
   -- ---- what a window was asked
 
@@ -58,13 +61,13 @@ module _ (o : Opening) (history : List Entry) (d : TxnValue) (s : StandsFor o hi
   asked_held true true serial size = refl
   asked_held true false serial size = refl
 
-  asked_found : (v : ConId) (found : Option Held) (turns begun : List Turn) → IsKept o history turns begun v found → begun_turns o history ≡ begun → asked_of found ≡ asked o v history
-  asked_found v None turns begun kept same_begun = rw kept.not_open refl
-  asked_found v (Some w) turns begun kept same_begun =
+  asked_found : (v : ConId) (found : Option Held) (left : Option Buffer) (turns begun : List Turn) → IsKept o history turns begun v found left → begun_turns o history ≡ begun → asked_of found ≡ asked o v history
+  asked_found v None left turns begun kept same_begun = rw (left_closed o history turns begun v left kept) refl
+  asked_found v (Some w) left turns begun kept same_begun =
       asked_held w.live (eqb w.serial 0) w.serial w.size ∙ sym (rw (kept.live_is, same_begun, kept.latest_is) refl)
 
   pub asked_is : (v : ConId) → asked_of (find v d.windows) ≡ asked o v history
-  asked_is v = asked_found v (find v d.windows) seen.turns seen.begun (seen.keeps.each v) seen.numbers.begun_are
+  asked_is v = asked_found v (find v d.windows) (left_of v d.gone) seen.turns seen.begun (seen.keeps.each v) seen.numbers.begun_are
 
   -- ---- the transaction that waits
 
@@ -80,23 +83,45 @@ module _ (o : Opening) (history : List Entry) (d : TxnValue) (s : StandsFor o hi
       least_chosen test p.con (contents c parts) (least_left n windows parts) (is_content p.part) (c p.con) (is_left n (find p.con windows))
       (λ content. h p.con (has_here p parts content)) (least_parts n windows c test parts (λ v there. h v (has_later v p parts there)))
 
-  acked_found : (v : ConId) (found : Option Held) (turns begun : List Turn) (n : ℕ) → IsKept o history turns begun v found → 0 < n → has_acked n found ≡ (eqb (last v history) n)
-  acked_found v None turns begun n kept above = rw kept.no_last (sym (ne_eqb 0 n (λ e. omega arith)))
-  acked_found v (Some w) turns begun n kept above = rw kept.last_is refl
+  -- the least one that passes does
+  least_passes : (test : ConId → Bool) (v : ConId) (views : List ConId) → least test views ≡ Some v → test v ≡ true
+  least_passes test v [] at = cc
+  least_passes test v (w ∷ views) at = by (test w) refl (least test views) (least_passes test v views) at
+    where
+      by : (b : Bool) → test w ≡ b → (rest : Option ConId) → (rest ≡ Some v → test v ≡ true) → cond b (lesser w rest) rest ≡ Some v → test v ≡ true
+      by false e rest later k = later k
+      by true e None later k = let same_id : w ≡ v = cc in ap test (sym same_id) ∙ e
+      by true e (Some x) later k = between (leb w.0 x.0) k
+        where
+          between : (c : Bool) → cond c (Some w) (Some x) ≡ Some v → test v ≡ true
+          between true m = let same_id : w ≡ v = cc in ap test (sym same_id) ∙ e
+          between false m = later m
+
+  acked_found : (v : ConId) (found : Option Held) (left : Option Buffer) (turns begun : List Turn) (n : ℕ) → IsKept o history turns begun v found left → not (answered o n history v) ≡ true → has_acked n found ≡ (eqb (last v history) n)
+  acked_found v None left turns begun n kept awaited =
+      let closed = left_closed o history turns begun v left kept in
+      let gone : answered o n history v ≡ true = ap (λ b. gave n v history || not b) closed ∙ either (gave n v history) in
+      let bad : false ≡ true = ap not (sym gone) ∙ awaited in
+      cc
+    where
+      either : (b : Bool) → (b || true) ≡ true
+      either true = refl
+      either false = refl
+  acked_found v (Some w) left turns begun n kept awaited = rw kept.last_is refl
 
   waiting_here : (turns : List Turn) (t : Turn) (p : Pending) → Pends o history turns t p d → waiting_in (length turns + 1) d.windows (Some p) ≡ waiting_for o (length turns + 1) history t
   waiting_here turns t p w =
       let n = length turns + 1 in
       let test : ConId → Bool = λ v. not (answered o n history v) in
-      let chosen : (v : ConId) → has v t.parts ≡ true → (configures turns t.parts v && test v) ≡ is_left n (find v d.windows) = λ v there. is_left_where o history turns t d.windows v (find v d.windows) (w.keeps.each v) in
+      let chosen : (v : ConId) → has v t.parts ≡ true → (configures turns t.parts v && test v) ≡ is_left n (find v d.windows) = λ v there. is_left_where o history turns t d.windows d.gone v (find v d.windows) (left_of v d.gone) (w.keeps.each v) in
       let same_least : least_left n d.windows p.arrangement.parts ≡ least test t.awaits =
       ap (least_left n d.windows) w.parts_are ∙ (sym (least_parts n d.windows (configures turns t.parts) test t.parts chosen) ∙ ap (least test) (sym w.awaits_are)) in
-      rw same_least (each (least test t.awaits))
+      rw same_least (each (least test t.awaits) (λ v at. least_passes test v t.awaits at))
     where
-      each : (found : Option ConId) → option_map (λ (v : ConId). wait_of (length turns + 1) v (has_acked (length turns + 1) (find v d.windows))) found
+      each : (found : Option ConId) → ((v : ConId) → found ≡ Some v → not (answered o (length turns + 1) history v) ≡ true) → option_map (λ (v : ConId). wait_of (length turns + 1) v (has_acked (length turns + 1) (find v d.windows))) found
           ≡ option_map (λ (v : ConId). wait_of (length turns + 1) v (eqb (last v history) (length turns + 1))) found
-      each None = refl
-      each (Some v) = ap (λ b. Some (wait_of (length turns + 1) v b)) (acked_found v (find v d.windows) turns (t ∷ turns) (length turns + 1) (w.keeps.each v) (omega arith))
+      each None passes = refl
+      each (Some v) passes = ap (λ b. Some (wait_of (length turns + 1) v b)) (acked_found v (find v d.windows) (left_of v d.gone) turns (t ∷ turns) (length turns + 1) (w.keeps.each v) (passes v refl))
 
   pub waiting_is : waiting_in (d.number + 1) d.windows d.waiting ≡ waiting o history
   waiting_is = elim (known o history d s) [

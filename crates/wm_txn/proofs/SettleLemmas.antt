@@ -5,19 +5,21 @@ use Rattle.std.specs.List.Sorted.{IsStrictlySortedBy}
 use Rattle.std.specs.Option.{option_map}
 use Rattle.std.specs.Ordering.{nat_cmp}
 use Rattle.wm_base.specs.declared.geometry.Size.{Size}
+use Rattle.wm_base.specs.declared.ids.Buffer.{Buffer}
 use Rattle.wm_base.specs.declared.ids.ConId.{ConId}
 use Rattle.wm_arrange.specs.declared.parts.Placed.{Placed}
 use Rattle.wm_arrange.specs.Same.{same_parts}
 use Rattle.wm_arrange.specs.Sizes.{content_size}
 use Rattle.wm_arrange.proofs.SameLemmas.{parts-decide}
 use Rattle.wm_txn.specs.History.{Opening, Entry, arrangement, under_up_to}
-use Rattle.wm_txn.specs.Windows.{Windows, find, ask_all, count_all, count_unanswered, is_unanswered}
+use Rattle.wm_txn.specs.Windows.{Buffers, Windows, find, ask_all, count_all, count_unanswered, is_unanswered, left_of}
 use Rattle.wm_txn.specs.Schedule.{Turn, configure, is_new, same_size, turn_from}
-use Rattle.wm_txn.specs.Stands.{AreOpen, IsHeld, IsKept, IsUnknown, Keeps, configure_of, serial_of}
+use Rattle.wm_txn.specs.Stands.{AreOpen, IsGone, IsHeld, IsKept, IsUnknown, Keeps, configure_of, serial_of}
 use Rattle.wm_txn.specs.declared.held.Held.{Held}
 use Rattle.wm_txn.specs.declared.held.Pending.{Pending}
 use Rattle.wm_txn.proofs.AnswerLemmas.{serial_is, some_serial}
-use Rattle.wm_txn.proofs.AskLemmas.{after_ask, count_asked, find_asked, keys_asked}
+use Rattle.wm_txn.proofs.AskLemmas.{after_ask, asked_keeps, count_asked, find_asked, keys_asked}
+use Rattle.wm_txn.proofs.GoneLemmas.{gone_on, held_at}
 use Rattle.wm_txn.proofs.WindowLemmas.{all_answered}
 
 pub same_itself : (parts : List Placed) → same_parts parts parts ≡ true
@@ -53,18 +55,20 @@ held_commits o history turns t v w h = record {
     all_shown : under_up_to (length (t ∷ turns)) v history ≡ w.under
     all_shown = h.numbers.newest_under (length (t ∷ turns)) (omega (arith, h.under_le, h.acked_le, h.serial_le))
 
-kept_commits : (o : Opening) (history : List Entry) (turns : List Turn) (t : Turn) (v : ConId) (found : Option Held) → IsKept o history turns (t ∷ turns) v found → IsKept o history (t ∷ turns) (t ∷ turns) v found
-kept_commits o history turns t v None h = h
-kept_commits o history turns t v (Some w) h = held_commits o history turns t v w h
+kept_commits : (o : Opening) (history : List Entry) (turns : List Turn) (t : Turn) (v : ConId) (found : Option Held) (left : Option Buffer) → IsKept o history turns (t ∷ turns) v found left → IsKept o history (t ∷ turns) (t ∷ turns) v found left
+kept_commits o history turns t v None None h = h
+kept_commits o history turns t v None (Some buffer) h =
+    gone_on o history history turns (t ∷ turns) (t ∷ turns) (t ∷ turns) v buffer h.held h (held_commits o history turns t v h.held h.held_is) h.closed refl refl (omega arith)
+kept_commits o history turns t v (Some w) left h = held_commits o history turns t v w h
 
-pub keeps_committed : (o : Opening) (history : List Entry) (turns : List Turn) (t : Turn) (number prefix : ℕ) (current : List Placed) (windows : Windows) (p : Pending)
-    → Keeps o history turns (t ∷ turns) number prefix current windows → p.prefix ≡ t.prefix → p.arrangement.parts ≡ t.parts
-    → Keeps o history (t ∷ turns) (t ∷ turns) (number + 1) p.prefix p.arrangement.parts windows
-keeps_committed o history turns t number prefix current windows p k at parts = record {
+pub keeps_committed : (o : Opening) (history : List Entry) (turns : List Turn) (t : Turn) (number prefix : ℕ) (current : List Placed) (windows : Windows) (buffers : Buffers) (p : Pending)
+    → Keeps o history turns (t ∷ turns) number prefix current windows buffers → p.prefix ≡ t.prefix → p.arrangement.parts ≡ t.parts
+    → Keeps o history (t ∷ turns) (t ∷ turns) (number + 1) p.prefix p.arrangement.parts windows buffers
+keeps_committed o history turns t number prefix current windows buffers p k at parts = record {
   number_is = omega (arith, k.number_is);
   prefix_is = at;
   current_is = parts;
-  each = λ v. kept_commits o history turns t v (find v windows) (k.each v);
+  each = λ v. kept_commits o history turns t v (find v windows) (left_of v buffers) (k.each v);
   sorted = k.sorted;
   open_contents = k.open_contents;
 }
@@ -147,34 +151,41 @@ module _ (o : Opening) (history : List Entry) (turns : List Turn) where
       let Held_so : Held → Type 0 = IsHeld o history turns (t_here ∷ turns) v in
       subst Held_so (rw other refl) (held_by_test v w size h e (eqb w.serial 0 || not (same_size w.size size)) (new_test w size (eqb w.serial 0) refl))
 
-  kept_asked : (v : ConId) (found : Option Held) → AreOpen o history → IsKept o history turns turns v found → IsKept o history turns (t_here ∷ turns) v (option_map (after_ask n_here (content_size v (arrangement o history))) found)
-  kept_asked v None are_open h = unknown_begins v are_open h
-  kept_asked v (Some w) are_open h = held_asked v w h (content_size v (arrangement o history)) refl
+  gone_asked : (v : ConId) (buffer : Buffer) → IsGone o history turns turns v buffer → (found : Option Size) → content_size v (arrangement o history) ≡ found → IsGone o history turns (t_here ∷ turns) v buffer
+  gone_asked v buffer h found e =
+      let same_held = asked_keeps n_here found h.held in
+      gone_on o history history turns turns turns (t_here ∷ turns) v buffer (after_ask n_here found h.held) h (held_asked v h.held h.held_is found e) (same_held.0 ∙ h.closed) same_held.1 same_held.2 (omega arith)
+
+  kept_asked : (v : ConId) (found : Option Held) (left : Option Buffer) → AreOpen o history → IsKept o history turns turns v found left
+      → IsKept o history turns (t_here ∷ turns) v (option_map (after_ask n_here (content_size v (arrangement o history))) found) left
+  kept_asked v None None are_open h = unknown_begins v are_open h
+  kept_asked v None (Some buffer) are_open h = gone_asked v buffer h (content_size v (arrangement o history)) refl
+  kept_asked v (Some w) left are_open h = held_asked v w h (content_size v (arrangement o history)) refl
 
   -- what is kept after the windows are asked
-  pub keeps_asked : (number prefix : ℕ) (current parts : List Placed) (windows : Windows) → parts ≡ arrangement o history → Keeps o history turns turns number prefix current windows
-      → Keeps o history turns (t_here ∷ turns) number prefix current (ask_all n_here parts windows)
-  keeps_asked number prefix current parts windows same_arrangement k = record {
+  pub keeps_asked : (number prefix : ℕ) (current parts : List Placed) (windows : Windows) (buffers : Buffers) → parts ≡ arrangement o history → Keeps o history turns turns number prefix current windows buffers
+      → Keeps o history turns (t_here ∷ turns) number prefix current (ask_all n_here parts windows) buffers
+  keeps_asked number prefix current parts windows buffers same_arrangement k = record {
     number_is = k.number_is;
     prefix_is = k.prefix_is;
     current_is = k.current_is;
     each = λ v.
-        let Kept : Option Held → Type 0 = IsKept o history turns (t_here ∷ turns) v in
-        subst Kept (ap (λ z. option_map (after_ask n_here (content_size v z)) (find v windows)) (sym same_arrangement) ∙ sym (find_asked n_here v parts windows)) (kept_asked v (find v windows) k.open_contents (k.each v));
+        let Kept : Option Held → Type 0 = λ z. IsKept o history turns (t_here ∷ turns) v z (left_of v buffers) in
+        subst Kept (ap (λ z. option_map (after_ask n_here (content_size v z)) (find v windows)) (sym same_arrangement) ∙ sym (find_asked n_here v parts windows)) (kept_asked v (find v windows) (left_of v buffers) k.open_contents (k.each v));
     sorted = subst (IsStrictlySortedBy nat_cmp) (sym (keys_asked n_here parts windows)) k.sorted;
     open_contents = k.open_contents;
   }
 
-  none_before : (number prefix : ℕ) (current : List Placed) (windows : Windows) → Keeps o history turns turns number prefix current windows → (a : ConId) (w : Held) → find a windows ≡ Some w → is_unanswered n_here w ≡ false
-  none_before number prefix current windows k a w at =
-      let held : IsHeld o history turns turns a w = subst (IsKept o history turns turns a) at (k.each a) in
+  none_before : (number prefix : ℕ) (current : List Placed) (windows : Windows) (buffers : Buffers) → Keeps o history turns turns number prefix current windows buffers → (a : ConId) (w : Held) → find a windows ≡ Some w → is_unanswered n_here w ≡ false
+  none_before number prefix current windows buffers k a w at =
+      let held : IsHeld o history turns turns a w = held_at o history turns turns a (find a windows) (left_of a buffers) w at (k.each a) in
       let other : eqb w.serial n_here ≡ false = ne_eqb w.serial n_here (λ same_number. omega (arith, held.serial_le)) in
       rw other (and_right w.live false refl)
 
   -- those that it awaits are those that are left
-  pub left_asked : (number prefix : ℕ) (current parts : List Placed) (windows : Windows) → Keeps o history turns turns number prefix current windows → count_all n_here parts windows ≡ count_unanswered n_here (ask_all n_here parts windows)
-  left_asked number prefix current parts windows k =
-      let none = none_before number prefix current windows k in
+  pub left_asked : (number prefix : ℕ) (current parts : List Placed) (windows : Windows) (buffers : Buffers) → Keeps o history turns turns number prefix current windows buffers → count_all n_here parts windows ≡ count_unanswered n_here (ask_all n_here parts windows)
+  left_asked number prefix current parts windows buffers k =
+      let none = none_before number prefix current windows buffers k in
       let zero_before = all_answered n_here windows k.sorted none in
       let counted = count_asked n_here parts windows (λ a w at. inr (none a w at)) in
       omega arith

@@ -4,16 +4,17 @@ use Rattle.std.proofs.lemmas.Bool.{and_parts, eqb-true, not-false, not-true, or_
 use Rattle.std.specs.List.{list_all}
 use Rattle.std.specs.Option.{option_map}
 use Rattle.wm_base.specs.declared.geometry.Size.{Size}
+use Rattle.wm_base.specs.declared.ids.Buffer.{Buffer}
 use Rattle.wm_base.specs.declared.ids.ConId.{ConId}
 use Rattle.wm_arrange.specs.Sizes.{content_size}
 use Rattle.wm_txn.specs.Commits.{ended_turns}
 use Rattle.wm_txn.specs.Heard.{heard}
 use Rattle.wm_txn.specs.History.{Opening, Entry, gave, is_open, under_up_to}
 use Rattle.wm_txn.specs.Machine.{TxnValue}
-use Rattle.wm_txn.specs.Windows.{find}
+use Rattle.wm_txn.specs.Windows.{find, left_of}
 use Rattle.wm_txn.specs.Schedule.{Turn, answered, configure, configures, contents, ended, first_when, is_named, is_new, last_parts, may_end, or_here, past, same_size}
 use Rattle.wm_txn.specs.Shown.{HasAskedSize, ShowsAnswer, ShowsOpening}
-use Rattle.wm_txn.specs.Stands.{IsKept, serial_of}
+use Rattle.wm_txn.specs.Stands.{IsHeld, IsKept, serial_of}
 use Rattle.wm_txn.specs.declared.held.Held.{Held}
 use Rattle.wm_txn.proofs.AnswerLemmas.{configure_le, each_passes, new_some}
 use Rattle.wm_txn.proofs.JudgeLemmas.{Sees, sees}
@@ -89,11 +90,15 @@ record IsUnder (i : ℕ) (v : ConId) (number : ℕ) (history : List Entry) : Typ
   least : i ≤ under_up_to number v history
   most : under_up_to number v history ≤ i
 
-under_found : (o : Opening) (history : List Entry) (turns others : List Turn) (v : ConId) (i : ℕ) (asked : Size) (found : Option Held) → IsKept o history turns others v found → configure v turns ≡ Some (i, asked) → gave i v history ≡ true → i ≤ length turns
+under_held : (o : Opening) (history : List Entry) (turns others : List Turn) (v : ConId) (i : ℕ) (asked : Size) (w : Held) → IsHeld o history turns others v w → configure v turns ≡ Some (i, asked) → gave i v history ≡ true → i ≤ length turns
     → IsUnder i v (length turns) history
-under_found o history turns others v i asked None kept h gave_it le = let bad : false ≡ true = sym (kept.no_gift i) ∙ gave_it in cc
-under_found o history turns others v i asked (Some w) kept h gave_it le =
-    record { least = kept.numbers.gave_shown i gave_it le; most = omega (arith, kept.numbers.shown_le, ap serial_of h) }
+under_held o history turns others v i asked w kept h gave_it le = record { least = kept.numbers.gave_shown i gave_it le; most = omega (arith, kept.numbers.shown_le, ap serial_of h) }
+
+under_found : (o : Opening) (history : List Entry) (turns others : List Turn) (v : ConId) (i : ℕ) (asked : Size) (found : Option Held) (left : Option Buffer) → IsKept o history turns others v found left → configure v turns ≡ Some (i, asked) → gave i v history ≡ true → i ≤ length turns
+    → IsUnder i v (length turns) history
+under_found o history turns others v i asked None None kept h gave_it le = let bad : false ≡ true = sym (kept.no_gift i) ∙ gave_it in cc
+under_found o history turns others v i asked None (Some buffer) kept h gave_it le = under_held o history turns others v i asked kept.held kept.held_is h gave_it le
+under_found o history turns others v i asked (Some w) left kept h gave_it le = under_held o history turns others v i asked w kept h gave_it le
 
 module _ (o : Opening) (history : List Entry) (d : TxnValue) (e : Sees o history d) (v : ConId) (asked : Size) (i : ℕ) (h : configure v e.turns ≡ Some (i, asked)) (done_known : past o (length e.turns) history ≡ Some e.turns) where
   shown_by_answer : (t : Turn) (turns : List Turn) (place : List Entry) → past o i history ≡ Some (t ∷ turns) → ended o (t ∷ turns) history ≡ Some place
@@ -117,7 +122,7 @@ module _ (o : Opening) (history : List Entry) (d : TxnValue) (e : Sees o history
               | inr closed ↦ inr (inr (not-true (is_open o v place) closed))
               | inl gave_it ↦
                   let since : gave (length turns + 1) v history ≡ true = gave_since test t.prefix (length turns + 1) v history place ended_at gave_it in
-                  let bounds = under_found o history e.turns e.begun v i asked (find v d.windows) (e.keeps.each v) h (ap (λ z. gave z v history) (sym n_is) ∙ since) le in
+                  let bounds = under_found o history e.turns e.begun v i asked (find v d.windows) (left_of v d.gone) (e.keeps.each v) h (ap (λ z. gave z v history) (sym n_is) ∙ since) le in
                   inl (omega (arith, bounds.least, bounds.most))
             ]
       ]
@@ -142,9 +147,13 @@ none_ended : (o : Opening) (v : ConId) (turns : List Turn) (size : Size) → con
 none_ended o v [] size content h = refl
 none_ended o v (t ∷ turns) size content h = absurd (some_chosen (length turns + 1) size (configure v turns) (is_new (Some size) (configure v turns)) refl (rw content at h))
 
-opening_under : (o : Opening) (history : List Entry) (turns others : List Turn) (v : ConId) (found : Option Held) → IsKept o history turns others v found → turns ≡ [] → under_up_to (length turns) v history ≡ 0
-opening_under o history turns others v None kept none = kept.no_under (length turns)
-opening_under o history turns others v (Some w) kept none = omega (arith, kept.numbers.shown_le, ap (λ z. serial_of (configure v z)) none)
+opening_held : (o : Opening) (history : List Entry) (turns others : List Turn) (v : ConId) (w : Held) → IsHeld o history turns others v w → turns ≡ [] → under_up_to (length turns) v history ≡ 0
+opening_held o history turns others v w kept none = omega (arith, kept.numbers.shown_le, ap (λ z. serial_of (configure v z)) none)
+
+opening_under : (o : Opening) (history : List Entry) (turns others : List Turn) (v : ConId) (found : Option Held) (left : Option Buffer) → IsKept o history turns others v found left → turns ≡ [] → under_up_to (length turns) v history ≡ 0
+opening_under o history turns others v None None kept none = kept.no_under (length turns)
+opening_under o history turns others v None (Some buffer) kept none = opening_held o history turns others v kept.held kept.held_is none
+opening_under o history turns others v (Some w) left kept none = opening_held o history turns others v w kept none
 
 pub shows_opening : ShowsOpening
 shows_opening o history d s v size content h =
@@ -152,4 +161,4 @@ shows_opening o history d s v size content h =
     let e = sees o g d s in
     let none : e.turns ≡ [] = none_ended o v e.turns size (ap (λ z. content_size v (last_parts o z)) (sym e.numbers.ended_are) ∙ content) (ap (configure v) (sym e.numbers.ended_are) ∙ h) in
     let Under : ℕ → Type 0 = λ z. under_up_to z v g ≡ 0 in
-    (e.numbers.done_is ∙ ap length none, subst Under (sym e.numbers.done_is) (opening_under o g e.turns e.begun v (find v d.windows) (e.keeps.each v) none))
+    (e.numbers.done_is ∙ ap length none, subst Under (sym e.numbers.done_is) (opening_under o g e.turns e.begun v (find v d.windows) (left_of v d.gone) (e.keeps.each v) none))

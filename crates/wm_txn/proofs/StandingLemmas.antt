@@ -1,5 +1,5 @@
 -- What holds of each machine that stands for a history.
-use Rattle.std.proofs.Common.{◌≡◌, ◌≤◌, true, false, not, ◌&&◌, ◌||◌, inl, inr, List, [], ◌∷◌, length, Option, Some, None, is_some, refl, ap, sym, ◌∙◌, arith}
+use Rattle.std.proofs.Common.{◌≡◌, ℕ, ◌≤◌, true, false, not, ◌&&◌, ◌||◌, inl, inr, List, [], ◌∷◌, length, Option, Some, None, is_some, refl, ap, sym, ◌∙◌, arith}
 use Rattle.std.proofs.lemmas.Bool.{false_from_ne_true}
 use Rattle.std.specs.List.{list_any}
 use Rattle.wm_base.specs.declared.ids.Buffer.{Buffer}
@@ -10,14 +10,15 @@ use Rattle.wm_txn.proofs.KeepLemmas.{same_id}
 use Rattle.wm_txn.specs.Commits.{prefix_of}
 use Rattle.wm_txn.specs.Heard.{heard}
 use Rattle.wm_txn.specs.History.{Opening, Entry, is_fresh, is_open, was_open}
-use Rattle.wm_txn.specs.Machine.{TxnValue, last_prefix, prefix_with}
-use Rattle.wm_txn.specs.Windows.{IsNewcomer, ShowsOpen, find, is_live}
+use Rattle.wm_txn.specs.Machine.{TxnValue, last_prefix, prefix_with, shown_or}
+use Rattle.wm_txn.specs.Windows.{IsNewcomer, ShowsOpen, find, is_live, left_of}
 use Rattle.wm_txn.specs.Schedule.{Turn, begun, differs, first_when, next, past, turn_from}
-use Rattle.wm_txn.specs.Stands.{IsFit, IsKept, Stands}
+use Rattle.wm_txn.specs.Stands.{IsFit, IsHeld, IsKept, Stands}
 use Rattle.wm_txn.specs.Standing.{StillStands, BeginsWithin, KnowsWindows, KnowsOpen}
 use Rattle.wm_txn.specs.declared.held.Held.{Held}
 use Rattle.wm_txn.proofs.EntryLemmas.{stands_still}
 use Rattle.wm_txn.proofs.FirstLemmas.{first_within}
+use Rattle.wm_txn.proofs.GoneLemmas.{left_closed}
 use Rattle.wm_txn.proofs.HeardLemmas.{heard_opens, some_was, was_some}
 use Rattle.wm_txn.proofs.OpeningLemmas.{heard_length}
 use Rattle.wm_txn.proofs.ScheduleLemmas.{mapped_some, then_some}
@@ -55,34 +56,39 @@ begins_within o history d s =
           omega arith
     ]
 
-knows_found : (o : Opening) (history : List Entry) (turns others : List Turn) (v : ConId) (found : Option Held) → IsKept o (heard o history) turns others v found → is_some found ≡ was_open o v history
-knows_found o history turns others v None kept =
+knows_held : (o : Opening) (history : List Entry) (turns others : List Turn) (v : ConId) (w : Held) → IsHeld o (heard o history) turns others v w → true ≡ was_open o v history
+knows_held o history turns others v w kept = sym (some_was o v w.under history (ap is_some (kept.newest_is w.under (omega arith))))
+
+knows_found : (o : Opening) (history : List Entry) (turns others : List Turn) (v : ConId) (done : ℕ) (found : Option Held) (left : Option Buffer) → IsKept o (heard o history) turns others v found left → is_some (shown_or done found left) ≡ was_open o v history
+knows_found o history turns others v done None None kept =
     sym (false_from_ne_true (was_open o v history) (λ was. let bad : false ≡ true = sym (ap is_some (kept.no_buffer 0)) ∙ was_some o v 0 history was in cc))
-knows_found o history turns others v (Some w) kept = sym (some_was o v w.under history (ap is_some (kept.newest_is w.under (omega arith))))
+knows_found o history turns others v done None (Some buffer) kept = knows_held o history turns others v kept.held kept.held_is
+knows_found o history turns others v done (Some w) left kept = knows_held o history turns others v w kept
 
 pub knows_windows : KnowsWindows
-knows_windows o history d s v = knows_found o history s.turns s.begun v (find v d.windows) (s.keeps.each v)
+knows_windows o history d s v = knows_found o history s.turns s.begun v d.number (find v d.windows) (left_of v d.gone) (s.keeps.each v)
 
-open_found : (o : Opening) (history : List Entry) (turns others : List Turn) (v : ConId) (found : Option Held) → IsKept o history turns others v found → is_live found ≡ is_open o v history
-open_found o history turns others v None kept = sym kept.not_open
-open_found o history turns others v (Some w) kept = sym kept.live_is
+open_found : (o : Opening) (history : List Entry) (turns others : List Turn) (v : ConId) (found : Option Held) (left : Option Buffer) → IsKept o history turns others v found left → is_live found ≡ is_open o v history
+open_found o history turns others v None left kept = sym (left_closed o history turns others v left kept)
+open_found o history turns others v (Some w) left kept = sym kept.live_is
 
 pub knows_open : KnowsOpen
-knows_open o history d s v = open_found o (heard o history) s.turns s.begun v (find v d.windows) (s.keeps.each v) ∙ heard_opens o v history
+knows_open o history d s v = open_found o (heard o history) s.turns s.begun v (find v d.windows) (left_of v d.gone) (s.keeps.each v) ∙ heard_opens o v history
 
 -- ---- an arrangement that may come
 
-newcomer : (o : Opening) (history : List Entry) (d : TxnValue) → Stands o history d → (fresh : Option (ConId × Buffer)) → ((v : ConId) → is_fresh v fresh ≡ true → was_open o v history ≡ false) → IsNewcomer fresh d.windows
+newcomer : (o : Opening) (history : List Entry) (d : TxnValue) → Stands o history d → (fresh : Option (ConId × Buffer)) → ((v : ConId) → is_fresh v fresh ≡ true → was_open o v history ≡ false) → IsNewcomer fresh d.windows d.gone
 newcomer o history d s None new = tt
 newcomer o history d s (Some window) new =
-    none (find window.0 d.windows) (knows_windows o history d s window.0 ∙ new window.0 (same_id window.0))
+    none (find window.0 d.windows) (left_of window.0 d.gone) (knows_windows o history d s window.0 ∙ new window.0 (same_id window.0))
   where
-    none : (found : Option Held) → is_some found ≡ false → found ≡ None
-    none None h = refl
-    none (Some w) h = let bad : true ≡ false = h in cc
+    none : (found : Option Held) (left : Option Buffer) → is_some (shown_or d.number found left) ≡ false → (found ≡ None) × (left ≡ None)
+    none None None h = (refl, refl)
+    none None (Some buffer) h = let bad : true ≡ false = h in cc
+    none (Some w) left h = let bad : true ≡ false = h in cc
 
 -- where the arrangement may come, the window that is mapped is none that is kept, and each content is of one that stays open
 pub fit_windows : (o : Opening) (history : List Entry) (d : TxnValue) (newest : List Placed) (fresh : Option (ConId × Buffer)) (gone : List ConId) → Stands o history d → IsFit o history newest fresh gone
-    → IsNewcomer fresh d.windows × ShowsOpen newest fresh gone d.windows
+    → IsNewcomer fresh d.windows d.gone × ShowsOpen newest fresh gone d.windows
 fit_windows o history d newest fresh gone s fit =
     (newcomer o history d s fresh fit.new, λ v there. ap (λ z. (is_fresh v fresh || z) && not (list_any (same v) gone)) (knows_open o history d s v) ∙ fit.shows v there)

@@ -19,7 +19,7 @@ use Rattle.wm_txn.proofs.ScheduleLemmas.{was_idle, was_waiting}
 
 -- the transaction t waits
 pub record Pends (o : Opening) (history : List Entry) (turns : List Turn) (t : Turn) (p : Pending) (d : TxnValue) : Type 0 where
-  pub keeps : Keeps o history turns (t ∷ turns) d.number d.prefix d.current.parts d.windows
+  pub keeps : Keeps o history turns (t ∷ turns) d.number d.prefix d.current.parts d.windows d.gone
   pub pending_is : d.waiting ≡ Some p
   pub waiting_is : IsWaiting o history t turns
   pub prefix_is : p.prefix ≡ t.prefix
@@ -32,7 +32,7 @@ pub record Pends (o : Opening) (history : List Entry) (turns : List Turn) (t : T
 
 -- none waits
 pub record Rests (o : Opening) (history : List Entry) (turns : List Turn) (d : TxnValue) : Type 0 where
-  pub keeps : Keeps o history turns turns d.number d.prefix d.current.parts d.windows
+  pub keeps : Keeps o history turns turns d.number d.prefix d.current.parts d.windows d.gone
   pub none_waits : d.waiting ≡ None
   pub idle_is : IsIdle o history turns
   pub none_newest : d.newest ≡ None
@@ -44,10 +44,10 @@ abbrev pub Known : Opening → List Entry → TxnValue → Type 0
 Known o history d = ((turns : List Turn) × Rests o history turns d) ⊎ ((turns : List Turn) × (t : Turn) × (p : Pending) × Pends o history turns t p d)
 
 module _ (o : Opening) (history : List Entry) (d : TxnValue) where
-  known_idle : (turns begun : List Turn) → Keeps o history turns begun d.number d.prefix d.current.parts d.windows → IsNewest (arrangement o history) (last_parts o begun) d.newest → d.waiting ≡ None
+  known_idle : (turns begun : List Turn) → Keeps o history turns begun d.number d.prefix d.current.parts d.windows d.gone → IsNewest (arrangement o history) (last_parts o begun) d.newest → d.waiting ≡ None
       → Idles o history turns begun d.newest d.left → length begun ≤ length history → Rests o history turns d
   known_idle turns begun k newest none i within =
-      let Kept : List Turn → Type 0 = λ z. Keeps o history turns z d.number d.prefix d.current.parts d.windows in
+      let Kept : List Turn → Type 0 = λ z. Keeps o history turns z d.number d.prefix d.current.parts d.windows d.gone in
       let New : List Turn → Type 0 = λ z. IsNewest (arrangement o history) (last_parts o z) d.newest in
       let Few : List Turn → Type 0 = λ z. length z ≤ length history in
       record {
@@ -60,10 +60,10 @@ module _ (o : Opening) (history : List Entry) (d : TxnValue) where
         within = subst Few i.begun_are within;
       }
 
-  known_waiting : (turns begun : List Turn) (p : Pending) → Keeps o history turns begun d.number d.prefix d.current.parts d.windows → IsNewest (arrangement o history) (last_parts o begun) d.newest → d.waiting ≡ Some p
+  known_waiting : (turns begun : List Turn) (p : Pending) → Keeps o history turns begun d.number d.prefix d.current.parts d.windows d.gone → IsNewest (arrangement o history) (last_parts o begun) d.newest → d.waiting ≡ Some p
       → (w : Waits o history turns begun p d.left d.windows) → length begun ≤ length history → Pends o history turns w.t p d
   known_waiting turns begun p k newest some w within =
-      let Kept : List Turn → Type 0 = λ z. Keeps o history turns z d.number d.prefix d.current.parts d.windows in
+      let Kept : List Turn → Type 0 = λ z. Keeps o history turns z d.number d.prefix d.current.parts d.windows d.gone in
       let New : List Turn → Type 0 = λ z. IsNewest (arrangement o history) (last_parts o z) d.newest in
       let Few : List Turn → Type 0 = λ z. length z ≤ length history in
       let few : suc (length turns) ≤ length history = subst Few w.begun_are within in
@@ -80,7 +80,7 @@ module _ (o : Opening) (history : List Entry) (d : TxnValue) where
         within = omega arith;
       }
 
-  known_by : (found : Option Pending) → d.waiting ≡ found → (turns begun : List Turn) → Keeps o history turns begun d.number d.prefix d.current.parts d.windows → IsNewest (arrangement o history) (last_parts o begun) d.newest
+  known_by : (found : Option Pending) → d.waiting ≡ found → (turns begun : List Turn) → Keeps o history turns begun d.number d.prefix d.current.parts d.windows d.gone → IsNewest (arrangement o history) (last_parts o begun) d.newest
       → IsScheduled o history turns begun found d → length begun ≤ length history → Known o history d
   known_by None at turns begun k newest s within = inl (turns, known_idle turns begun k newest at s within)
   known_by (Some p) at turns begun k newest s within = inr (turns, s.t, p, known_waiting turns begun p k newest at s within)
@@ -91,7 +91,7 @@ module _ (o : Opening) (history : List Entry) (d : TxnValue) where
 -- ---- one more entry
 
 module _ (o : Opening) (history : List Entry) (entry : Entry) (d : TxnValue) (windows : Windows) (left : ℕ) (newest : Option Arrangement)
-    (keeps : (turns begun : List Turn) → OneMore turns begun → Keeps o history turns begun d.number d.prefix d.current.parts d.windows → Keeps o (entry ∷ history) turns begun d.number d.prefix d.current.parts windows)
+    (keeps : (turns begun : List Turn) → OneMore turns begun → Keeps o history turns begun d.number d.prefix d.current.parts d.windows d.gone → Keeps o (entry ∷ history) turns begun d.number d.prefix d.current.parts windows d.gone)
     (news : (last : List Placed) → IsNewest (arrangement o history) last d.newest → IsNewest (arrangement o (entry ∷ history)) last newest)
     (fewer : d.left ≡ 0 → left ≡ 0)
     (counted : d.left ≡ count_unanswered (d.number + 1) d.windows → left ≡ count_unanswered (d.number + 1) windows)
@@ -114,7 +114,7 @@ module _ (o : Opening) (history : List Entry) (entry : Entry) (d : TxnValue) (wi
           parts_are = w.parts_are;
           awaits_are = w.awaits_are;
           ends_is = or_none _ (is_named n t.prefix (entry ∷ history)) (unnamed turns t p w)
-              ∙ (answered_is o (entry ∷ history) turns t windows d.number d.prefix d.current.parts kept w.awaits_are ∙ ap (λ z. eqb z 0) (sym left_is));
+              ∙ (answered_is o (entry ∷ history) turns t windows d.gone d.number d.prefix d.current.parts kept w.awaits_are ∙ ap (λ z. eqb z 0) (sym left_is));
           left_is = λ above. left_is;
           newest_is = news t.parts w.newest_is;
         }

@@ -9,7 +9,7 @@ use Rattle.wm_arrange.specs.Sizes.{content_size, is_content}
 use Rattle.wm_txn.specs.Commits.{done, lesser, started, waiting}
 use Rattle.wm_txn.specs.History.{Opening, Entry}
 use Rattle.wm_txn.specs.Machine.{TxnValue}
-use Rattle.wm_txn.specs.Windows.{Windows, is_unanswered, find, is_left, least_left}
+use Rattle.wm_txn.specs.Windows.{Windows, is_unanswered, find, is_left, least_left, left_of}
 use Rattle.wm_txn.specs.Schedule.{Turn, answered, configure, configures}
 use Rattle.wm_txn.specs.Stands.{StandsFor}
 use Rattle.wm_txn.specs.declared.held.Held.{Held}
@@ -60,7 +60,7 @@ module _ (o : Opening) (history : List Entry) (d : TxnValue) (s : StandsFor o hi
       let each : (a : ConId) (x : Held) → find a d.windows ≡ Some x → is_unanswered n x ≡ false = λ a x at.
       false_from_ne_true (is_unanswered n x) (λ left.
       let left_a : is_left n (find a d.windows) ≡ true = ap (is_left n) at ∙ left in
-      let asks = and_parts (configures turns t.parts a) (not (answered o n history a)) (is_left_where o history turns t d.windows a (find a d.windows) (w.keeps.each a) ∙ left_a) in
+      let asks = and_parts (configures turns t.parts a) (not (answered o n history a)) (is_left_where o history turns t d.windows d.gone a (find a d.windows) (left_of a d.gone) (w.keeps.each a) ∙ left_a) in
       let there = ap (λ z. has a z) w.parts_are ∙ new_some (content_size a t.parts) (configure a turns) asks.0 in
       let bad : true ≡ false = sym (least_some n d.windows a p.arrangement.parts there left_a) ∙ none in
       cc) in

@@ -1,5 +1,5 @@
 -- The windows by id: one that is looked up, and how many have not answered.
-use Rattle.std.proofs.Common.{◌≡◌, ℕ, ◌+◌, Bool, true, false, cond, eqb, [], ◌∷◌, Option, Some, None, refl, ap, sym, ◌∙◌, arith}
+use Rattle.std.proofs.Common.{◌≡◌, ℕ, ◌+◌, Bool, true, false, cond, eqb, List, [], ◌∷◌, Option, Some, None, refl, ap, sym, ◌∙◌, arith}
 use Rattle.std.proofs.lemmas.Bool.{eqb-true}
 use Rattle.std.proofs.lemmas.Bool.Decides.{nat_tests}
 use Rattle.std.proofs.lemmas.Cmp.{nat_cmp_total}
@@ -9,7 +9,7 @@ use Rattle.std.proofs.lemmas.Map.Keys.{sorted_tail, IsDistinct-from_sorted}
 use Rattle.std.specs.BTreeMap.{insert_entry, is_at}
 use Rattle.std.specs.Cmp.{eq_by_cmp_equiv}
 use Rattle.std.specs.List.Sorted.{IsStrictlySortedBy}
-use Rattle.std.specs.Map.{keys_of}
+use Rattle.std.specs.Map.{keys_of, lookup}
 use Rattle.std.specs.Ordering.{nat_cmp, is_eq, match_ordering}
 use Rattle.std.specs.declared.cmp.Ordering.{Ordering}
 use Rattle.std.specs.declared.cmp.Ordering.TheVariants.{Less, Equal, Greater}
@@ -27,11 +27,11 @@ one_id a b h = let of : ℕ → ConId = λ n. record { 0 = n } in ap of (eqb-tru
 
 -- ---- one that is looked up
 
-both : (s : Bool) (w x : Held) (y : Option Held) → cond s (Some w) y ≡ cond s (Some w) (cond s (Some x) y)
+both : {X : Type 0} (s : Bool) (w x : X) (y : Option X) → cond s (Some w) y ≡ cond s (Some w) (cond s (Some x) y)
 both true w x y = refl
 both false w x y = refl
 
-swap : (t s : Bool) (x w : Held) (y : Option Held) → (t ≡ true → s ≡ true → t ≡ false) → cond t (Some x) (cond s (Some w) y) ≡ cond s (Some w) (cond t (Some x) y)
+swap : {X : Type 0} (t s : Bool) (x w : X) (y : Option X) → (t ≡ true → s ≡ true → t ≡ false) → cond t (Some x) (cond s (Some w) y) ≡ cond s (Some w) (cond t (Some x) y)
 swap true true x w y h = let bad : true ≡ false = h refl refl in cc
 swap true false x w y h = refl
 swap false true x w y h = refl
@@ -111,19 +111,22 @@ all_answered n (e ∷ windows) sorted h =
 
 -- ---- one that is inserted
 
-insert_step : (a v : ConId) (w : Held) (e : ℕ × Held) (windows inserted : Windows) (r : Ordering) → nat_cmp a.0 e.0 ≡ r → find v inserted ≡ cond (same a v) (Some w) (find v windows)
-    → find v (match_ordering r ((a.0, w) ∷ e ∷ windows) ((e.0, w) ∷ windows) (e ∷ inserted)) ≡ cond (same a v) (Some w) (find v (e ∷ windows))
+abbrev value_at : {X : Type 0} → ConId → List (ℕ × X) → Option X
+value_at v entries = lookup (is_at (nat_cmp v.0)) entries
+
+insert_step : {X : Type 0} (a v : ConId) (w : X) (e : ℕ × X) (windows inserted : List (ℕ × X)) (r : Ordering) → nat_cmp a.0 e.0 ≡ r → value_at v inserted ≡ cond (same a v) (Some w) (value_at v windows)
+    → value_at v (match_ordering r ((a.0, w) ∷ e ∷ windows) ((e.0, w) ∷ windows) (e ∷ inserted)) ≡ cond (same a v) (Some w) (value_at v (e ∷ windows))
 insert_step a v w e windows inserted Less at rest =
     let t : is_at (nat_cmp v.0) a.0 ≡ same a v = test_same v.0 a.0 ∙ grind (arith, nat_tests) in
-    ap (λ b. cond b (Some w) (find v (e ∷ windows))) t
+    ap (λ b. cond b (Some w) (value_at v (e ∷ windows))) t
 insert_step a v w e windows inserted Equal at rest =
     let key : a.0 ≡ e.0 = eqb-true a.0 e.0 (sym (test_same a.0 e.0) ∙ ap is_eq at) in
     let t : is_at (nat_cmp v.0) e.0 ≡ same a v = test_same v.0 e.0 ∙ grind (arith, nat_tests) in
-    rw t (both (same a v) w e.1 (find v windows))
+    rw t (both (same a v) w e.1 (value_at v windows))
 insert_step a v w e windows inserted Greater at rest =
-    ap (cond (is_at (nat_cmp v.0) e.0) (Some e.1)) rest ∙ swap (is_at (nat_cmp v.0) e.0) (same a v) e.1 w (find v windows) (apart a v e.0 (ap is_eq at))
+    ap (cond (is_at (nat_cmp v.0) e.0) (Some e.1)) rest ∙ swap (is_at (nat_cmp v.0) e.0) (same a v) e.1 w (value_at v windows) (apart a v e.0 (ap is_eq at))
 
-pub find_insert : (a v : ConId) (w : Held) (windows : Windows) → find v (insert_entry nat_cmp windows a.0 w) ≡ cond (same a v) (Some w) (find v windows)
+pub find_insert : {X : Type 0} (a v : ConId) (w : X) (windows : List (ℕ × X)) → value_at v (insert_entry nat_cmp windows a.0 w) ≡ cond (same a v) (Some w) (value_at v windows)
 find_insert a v w [] = let t : is_at (nat_cmp v.0) a.0 ≡ same a v = test_same v.0 a.0 ∙ grind (arith, nat_tests) in ap (λ b. cond b (Some w) None) t
 find_insert a v w (e ∷ windows) = insert_step a v w e windows (insert_entry nat_cmp windows a.0 w) (nat_cmp a.0 e.0) refl (find_insert a v w windows)
 

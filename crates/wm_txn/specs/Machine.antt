@@ -1,10 +1,14 @@
 -- The machine of transactions: what it keeps, and its steps. It never looks back.
 use Rattle.std.specs.Prelude.{ℕ, ◌+◌, ◌-◌, ◌==◌, nat_le, nat_lt, Bool, false, not, ◌&&◌, ◌||◌, if◌then◌else◌, List, Option, None, Some, Result, Ok, Err, is_ok, refl}
+use Rattle.std.specs.BTreeMap.{insert_entry, is_at}
 use Rattle.std.specs.Coded.{Coded, code_by, coded×, coded_ℕ, coded_list, coded_option}
+use Rattle.std.specs.Map.{remove_entry}
+use Rattle.std.specs.Ordering.{nat_cmp}
 use Rattle.std.specs.Option.{option_map}
 use Rattle.wm_base.specs.declared.geometry.Size.{Size}
 use Rattle.wm_base.specs.declared.ids.Buffer.{Buffer}
 use Rattle.wm_base.specs.declared.ids.ConId.{ConId}
+use Rattle.wm_base.specs.contracts.ids.Buffer as buffer
 use Rattle.wm_arrange.specs.contracts.parts.Arrangement as arrangement
 use Rattle.wm_txn.specs.contracts.held.Held as held
 use Rattle.wm_txn.specs.contracts.held.Pending as pending
@@ -18,13 +22,15 @@ use Rattle.wm_txn.specs.declared.answers.BufferRefusal.{BufferRefusal}
 use Rattle.wm_txn.specs.declared.answers.BufferRefusal.TheVariants as buffers
 use Rattle.wm_txn.specs.declared.held.Held.{Held}
 use Rattle.wm_txn.specs.declared.held.Pending.{Pending}
-use Rattle.wm_txn.specs.Windows.{Windows, acked_with, ask_all, buffered_with, close_all, committed_serial, count_all, count_closed, find, has_acked, is_unanswered, least_left, one_if, open_fresh, put, shown_by}
+use Rattle.wm_txn.specs.Windows.{Buffers, Windows, acked_with, ask_all, buffered_with, close_all, committed_serial, count_all, count_closed, find, has_acked, is_unanswered, least_left, left_of, one_if, open_fresh, put, shown_by}
 
 -- ---- the machine
 
 pub record TxnValue : Type 0 where
-  -- the windows that were ever open, by id
+  -- the windows that are open, and those closed ones whose newest buffer may still be under a number that is not done, by id
   pub windows : Windows
+  -- the other windows that were ever open, by id: what each shows
+  pub gone : Buffers
   -- the last transaction that has ended: its number, how many entries had come when it began, and its arrangement
   pub number : ℕ
   pub prefix : ℕ
@@ -138,6 +144,13 @@ is_over place n number (Some p) = n == number + 1 && nat_le p.prefix place
 abbrev pub timed_out : ℕ → ℕ → TxnValue → TxnValue
 timed_out place n d = if is_over place n d.number d.waiting then settled (place + 1) (record d { left = 0 }) else d
 
+-- what is left of the closed window v is its newest buffer
+abbrev pub tucked : ConId → Held → TxnValue → TxnValue
+tucked v w d = record d {
+  windows = remove_entry (is_at (nat_cmp v.0)) d.windows;
+  gone = insert_entry nat_cmp d.gone v.0 w.newest;
+}
+
 abbrev pub prefix_with : Option Pending → ℕ → ℕ
 prefix_with None before = before
 prefix_with (Some p) before = p.prefix
@@ -148,8 +161,13 @@ last_prefix d = prefix_with d.waiting d.prefix
 
 -- ---- what it tells
 
+abbrev pub shown_or : ℕ → Option Held → Option Buffer → Option Buffer
+shown_or done None left = left
+shown_or done (Some w) left = Some (shown_by done w)
+
+-- the buffer that v shows, as it is kept or as it was left
 abbrev pub shown_of : ConId → TxnValue → Option Buffer
-shown_of v d = option_map (shown_by d.number) (find v d.windows)
+shown_of v d = shown_or d.number (find v d.windows) (left_of v d.gone)
 
 abbrev pub asked_of : Option Held → Option (ℕ × Size)
 asked_of None = None
@@ -164,7 +182,7 @@ waiting_in n windows (Some p) =
 
 abbrev pub txn_code : Coded TxnValue
 txn_code =
-    code_by ((Windows × (ℕ × ℕ)) × (Arrangement × (Option Pending × (Option Arrangement × ℕ))))
-    (coded× (coded× (coded_list (coded× coded_ℕ held.the_row.coded)) (coded× coded_ℕ coded_ℕ)) (coded× arrangement.the_row.coded (coded× (coded_option pending.the_row.coded) (coded× (coded_option arrangement.the_row.coded) coded_ℕ))))
-    (λ d. ((d.windows, (d.number, d.prefix)), (d.current, (d.waiting, (d.newest, d.left)))))
-    (λ p. record { windows = p.0.0; number = p.0.1.0; prefix = p.0.1.1; current = p.1.0; waiting = p.1.1.0; newest = p.1.1.1.0; left = p.1.1.1.1 }) (λ _. refl)
+    code_by (((Windows × Buffers) × (ℕ × ℕ)) × (Arrangement × (Option Pending × (Option Arrangement × ℕ))))
+    (coded× (coded× (coded× (coded_list (coded× coded_ℕ held.the_row.coded)) (coded_list (coded× coded_ℕ buffer.the_row.coded))) (coded× coded_ℕ coded_ℕ)) (coded× arrangement.the_row.coded (coded× (coded_option pending.the_row.coded) (coded× (coded_option arrangement.the_row.coded) coded_ℕ))))
+    (λ d. (((d.windows, d.gone), (d.number, d.prefix)), (d.current, (d.waiting, (d.newest, d.left)))))
+    (λ p. record { windows = p.0.0.0; gone = p.0.0.1; number = p.0.1.0; prefix = p.0.1.1; current = p.1.0; waiting = p.1.1.0; newest = p.1.1.1.0; left = p.1.1.1.1 }) (λ _. refl)

@@ -4,7 +4,7 @@ use Rattle.wm_base.specs.declared.ids.ConId.{ConId}
 use Rattle.wm_txn.specs.Commits.{done, started, waiting}
 use Rattle.wm_txn.specs.Heard.{heard}
 use Rattle.wm_txn.specs.History.{Opening, Entry, Still, is_open, was_open}
-use Rattle.wm_txn.specs.Machine.{TxnValue, last_prefix}
+use Rattle.wm_txn.specs.Machine.{TxnValue, last_prefix, shown_of}
 use Rattle.wm_txn.specs.Windows.{find, is_live}
 use Rattle.wm_txn.specs.Stands.{Stands}
 
@@ -18,7 +18,7 @@ BeginsWithin = (o : Opening) (history : List Entry) (d : TxnValue) → Stands o 
 
 -- the machine knows each window that was ever open, and no other
 abbrev pub KnowsWindows : Type 0
-KnowsWindows = (o : Opening) (history : List Entry) (d : TxnValue) → Stands o history d → (v : ConId) → is_some (find v d.windows) ≡ was_open o v history
+KnowsWindows = (o : Opening) (history : List Entry) (d : TxnValue) → Stands o history d → (v : ConId) → is_some (shown_of v d) ≡ was_open o v history
 
 -- and which of them are open
 abbrev pub KnowsOpen : Type 0

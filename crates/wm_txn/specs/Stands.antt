@@ -16,7 +16,7 @@ use Rattle.wm_txn.specs.Commits.{prefix_of}
 use Rattle.wm_txn.specs.Heard.{heard}
 use Rattle.wm_txn.specs.History.{Opening, Entry, Arranged, arrangement, buffer_up_to, gave, is_fresh, is_open, last, under_up_to, was_open}
 use Rattle.wm_txn.specs.Machine.{TxnValue}
-use Rattle.wm_txn.specs.Windows.{Windows, count_unanswered, find}
+use Rattle.wm_txn.specs.Windows.{Buffers, Windows, count_unanswered, find, left_of}
 use Rattle.wm_txn.specs.Schedule.{Turn, configure, configures, contents, ended, last_parts, past}
 
 -- these transactions have ended in the history
@@ -80,20 +80,34 @@ pub record IsUnknown (o : Opening) (history : List Entry) (begun : List Turn) (v
   pub no_gift : (n : ℕ) → gave n v history ≡ false
   pub no_under : (n : ℕ) → under_up_to n v history ≡ 0
 
-abbrev pub IsKept : Opening → List Entry → List Turn → List Turn → ConId → Option Held → Type 0
-IsKept o history turns begun v None = IsUnknown o history begun v
-IsKept o history turns begun v (Some w) = IsHeld o history turns begun v w
+-- v is closed, and its newest buffer, which is under a number that is done, is this one
+pub record IsGone (o : Opening) (history : List Entry) (turns begun : List Turn) (v : ConId) (buffer : Buffer) : Type 0 where
+  pub held : Held
+  pub held_is : IsHeld o history turns begun v held
+  pub closed : held.live ≡ false
+  pub done : held.under ≤ length turns
+  pub newest_is : held.newest ≡ buffer
+
+-- what is left of v is what the history says of it
+abbrev pub IsLeft : Opening → List Entry → List Turn → List Turn → ConId → Option Buffer → Type 0
+IsLeft o history turns begun v None = IsUnknown o history begun v
+IsLeft o history turns begun v (Some buffer) = IsGone o history turns begun v buffer
+
+-- what is kept of v, or else left of it, is
+abbrev pub IsKept : Opening → List Entry → List Turn → List Turn → ConId → Option Held → Option Buffer → Type 0
+IsKept o history turns begun v None left = IsLeft o history turns begun v left
+IsKept o history turns begun v (Some w) left = IsHeld o history turns begun v w
 
 -- each content of the arrangement is of an open window
 abbrev pub AreOpen : Opening → List Entry → Type 0
 AreOpen o history = (v : ConId) → is_some (content_size v (arrangement o history)) ≡ true → is_open o v history ≡ true
 
 -- the windows, and what has ended, are what the history says
-pub record Keeps (o : Opening) (history : List Entry) (turns begun : List Turn) (number prefix : ℕ) (current : List Placed) (windows : Windows) : Type 0 where
+pub record Keeps (o : Opening) (history : List Entry) (turns begun : List Turn) (number prefix : ℕ) (current : List Placed) (windows : Windows) (buffers : Buffers) : Type 0 where
   pub number_is : number ≡ length turns
   pub prefix_is : prefix ≡ prefix_of turns
   pub current_is : current ≡ last_parts o turns
-  pub each : (v : ConId) → IsKept o history turns begun v (find v windows)
+  pub each : (v : ConId) → IsKept o history turns begun v (find v windows) (left_of v buffers)
   pub sorted : IsStrictlySortedBy nat_cmp (keys_of windows)
   pub open_contents : AreOpen o history
 
@@ -130,7 +144,7 @@ IsScheduled o history turns begun (Some p) d = Waits o history turns begun p d.l
 pub record StandsFor (o : Opening) (history : List Entry) (d : TxnValue) : Type 0 where
   pub turns : List Turn
   pub begun : List Turn
-  pub keeps : Keeps o history turns begun d.number d.prefix d.current.parts d.windows
+  pub keeps : Keeps o history turns begun d.number d.prefix d.current.parts d.windows d.gone
   pub newest_is : IsNewest (arrangement o history) (last_parts o begun) d.newest
   pub schedule : IsScheduled o history turns begun d.waiting d
   pub within : length begun ≤ length history

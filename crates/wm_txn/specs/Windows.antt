@@ -1,4 +1,5 @@
--- The windows that the transactions keep, by id: what is asked of them, and those that are mapped and close.
+-- The windows that the transactions keep, by id: what is asked of them, those that are mapped and close, and the buffers
+-- of those that are gone.
 use Rattle.std.specs.Prelude.{◌≡◌, ℕ, ◌+◌, ◌==◌, nat_le, nat_lt, Bool, true, false, not, ◌&&◌, ◌||◌, if◌then◌else◌, List, [], ◌∷◌, Option, None, Some, is_some}
 use Rattle.std.specs.BTreeMap.{insert_entry, is_at}
 use Rattle.std.specs.List.{list_any}
@@ -54,6 +55,14 @@ AreSorted windows = IsStrictlySortedBy nat_cmp (keys_of windows)
 
 abbrev pub find : ConId → Windows → Option Held
 find v windows = lookup (is_at (nat_cmp v.0)) windows
+
+-- the buffers of windows that are gone, by id: of each, the one that it shows
+abbrev pub Buffers : Type 0
+Buffers = List (ℕ × Buffer)
+
+-- what is left of v where it is gone
+abbrev pub left_of : ConId → Buffers → Option Buffer
+left_of v buffers = lookup (is_at (nat_cmp v.0)) buffers
 
 -- the windows with another value for v, which is there
 abbrev pub put : ConId → Held → Windows → Windows
@@ -133,10 +142,15 @@ is_live (Some w) = w.live
 abbrev pub stays_open : Option (ConId × Buffer) → List ConId → Windows → ConId → Bool
 stays_open fresh gone windows v = (is_fresh v fresh || is_live (find v windows)) && not (list_any (same v) gone)
 
+-- the ids of the windows that are closed
+abbrev pub closed_ids : Windows → List ConId
+closed_ids [] = []
+closed_ids (e ∷ windows) = if e.1.live then closed_ids windows else record { 0 = e.0 } ∷ closed_ids windows
+
 -- the window was never there
-abbrev pub IsNewcomer : Option (ConId × Buffer) → Windows → Type 0
-IsNewcomer None windows = Unit {0}
-IsNewcomer (Some window) windows = find window.0 windows ≡ None
+abbrev pub IsNewcomer : Option (ConId × Buffer) → Windows → Buffers → Type 0
+IsNewcomer None windows buffers = Unit {0}
+IsNewcomer (Some window) windows buffers = (find window.0 windows ≡ None) × (left_of window.0 buffers ≡ None)
 
 abbrev pub HasNoContent : List Placed → Type 0
 HasNoContent parts = (v : ConId) → content_size v parts ≡ None

@@ -22,7 +22,9 @@ impl Txn {
         ensures prefix { IfOk result (λ txn. last_prefix txn ≡ 0) }
     {
         Ok(Txn {
+            alloc,
             windows: BTreeMap::new(alloc),
+            gone: BTreeMap::new(alloc),
             number: 0,
             prefix: 0,
             current: first,
@@ -52,6 +54,7 @@ impl Txn {
         self.open(fresh)?;
         self.arrange(newest, gone);
         self.settle(place + 1);
+        self.sweep(gone);
         Ok(())
     }
 

@@ -6,6 +6,7 @@ mod calls;
 mod held;
 mod laws;
 mod readings;
+mod sweeping;
 #[cfg(test)]
 mod tests;
 mod txn;

@@ -66,8 +66,10 @@ impl Txn {
     fn shown_of(&self, view: ConId) -> Option<Buffer>
         ensures { result ≡ shown_of view self.now }
     {
-        let held = self.windows.get(&view.0)?;
-        Some(held.shown_by(self.number))
+        match self.windows.get(&view.0) {
+            Some(held) => Some(held.shown_by(self.number)),
+            None => self.gone.get(&view.0).copied(),
+        }
     }
 
     fn asked_of(&self, view: ConId) -> Option<(u64, Size)>

@@ -1,4 +1,4 @@
-//! A window that is mapped, answers and closes, and another that is timed out.
+//! A window that is mapped, answers and closes, another that is timed out, and what is left of one that is gone.
 ghost use Rattle.std.specs.Prelude.{◌≡◌, ◌≤◌, ◌∷◌, [], pos, IfOk};
 ghost use Rattle.wm_txn.specs.Machine.{last_prefix};
 ghost use Rattle.wm_arrange.specs.declared.parts.PlacedPart.TheVariants.{Content};
@@ -109,5 +109,19 @@ fn a_window_is_timed_out_and_closes(rt: HostRuntime) -> Result<(), Fail> {
     txn.admit(7, empty, None, &[VIEW])?;
     assert_eq!(rt; (txn.done(), txn.prefix(), txn.waiting()), (2, 8, None));
     assert_eq!(rt; txn.ack(VIEW, 1), Err(AckRefusal::NoView));
+    Ok(())
+}
+
+#[test]
+fn a_gone_window_shows_its_buffer(rt: HostRuntime) -> Result<(), Fail> {
+    let alloc = rt.alloc();
+    let mut txn = mapped(alloc)?;
+    let empty = Arrangement {
+        parts: List::of(Vec::new(alloc)),
+    };
+    txn.admit(1, empty, None, &[VIEW])?;
+    assert_eq!(rt; (txn.windows.len(), txn.gone.len()), (0, 1));
+    assert_eq!(rt; txn.shown(VIEW), Some(buffer(1, 640, 480)));
+    assert_eq!(rt; txn.asked(VIEW), None);
     Ok(())
 }

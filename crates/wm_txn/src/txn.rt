@@ -12,10 +12,13 @@ use std::marker::Model;
 use wm_arrange::Arrangement;
 use wm_base::{Buffer, ConId, NoMemory, Size};
 
-/// Layout transactions. The machine stands for a history: the entries that it took, from an opening on.
+/// Layout transactions. The machine stands for a history: the entries that it took, from an opening on. Of a window that
+/// is gone only its id and the buffer that it shows are kept.
 #[derive(Drop)]
 pub struct Txn {
+    pub(crate) alloc: Global,
     pub(crate) windows: BTreeMap<u32, Held>,
+    pub(crate) gone: BTreeMap<u32, Buffer>,
     pub(crate) number: u64,
     pub(crate) prefix: u64,
     pub(crate) current: Arrangement,
@@ -32,7 +35,7 @@ impl Model for Txn {
 
     ghost coded = { txn_code };
 
-    ghost view = { λ d. record { windows = d.windows.entries; number = d.number; prefix = d.prefix; current = d.current; waiting = d.waiting; newest = d.newest; left = d.left } };
+    ghost view = { λ d. record { windows = d.windows.entries; gone = d.gone.entries; number = d.number; prefix = d.prefix; current = d.current; waiting = d.waiting; newest = d.newest; left = d.left } };
 
     ghost invariant = { λ d. (d.number ≤ d.prefix) × (d.prefix ≤ 2 ^ 48) × IfSome d.waiting (λ p. (d.number < p.prefix) × (p.prefix ≤ 2 ^ 48)) };
 }
