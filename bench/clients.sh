@@ -1,6 +1,7 @@
 #!/bin/sh
 # Takes the processor's time of buffers over 20, 200 and 4,000 open windows, and 10,000 windows that come and go with 200 open, each step
-# followed by its answers, and prints the cost of an answer, how it grows, steps a second, and the memory.
+# followed by its answers, and 1,000,000 that come and go by twenties, and prints the cost of an answer, how it grows, steps a second, and
+# the memory.
 # usage: bench/clients.sh [PROGRAM]
 set -eu
 . "$(dirname "$0")/program.sh"
@@ -51,10 +52,29 @@ few, memory_few = measured(program, "replay", folder, traffic(5000, 200))
 many, memory_many = measured(program, "replay", folder, traffic(10000, 200))
 print("10,000 windows with 200 open: %d steps a second; twice the windows take %.2f times as long"
       % (len(traffic(10000, 200)) / many, many / few))
-few, memory_few = measured(program, "replay", folder, traffic(50000, 20))
-many, memory_many = measured(program, "replay", folder, traffic(100000, 20))
-_, idle_few = measured(program, "replay", folder, ["urgent 1 on"] * len(traffic(50000, 20)))
-_, idle_many = measured(program, "replay", folder, ["urgent 1 on"] * len(traffic(100000, 20)))
+
+
+def crowds(windows):
+    """Twenty windows come, and then all go, again and again."""
+    return (["map ff0000 1x1"] * 20 + ["gone"]) * (windows // 20)
+
+
+def idle(lines):
+    """As many lines, each of the same length, that map nothing: what input and output take."""
+    return ["deadline ".ljust(len(line), "9") if line.startswith("map") else line for line in lines]
+
+
+def kept(few, many, windows):
+    """How many times as long the second takes, and the bytes of memory for each of so many more windows that are gone."""
+    time_few, memory_few = measured(program, "replay", folder, few)
+    time_many, memory_many = measured(program, "replay", folder, many)
+    _, idle_few = measured(program, "replay", folder, idle(few))
+    _, idle_many = measured(program, "replay", folder, idle(many))
+    return time_many / time_few, (memory_many - memory_few - (idle_many - idle_few)) / windows
+
+
 print("with 20 open, 100,000 windows take %.2f times as long as 50,000, and %.0f bytes of memory for each window gone"
-      % (many / few, (memory_many - memory_few - (idle_many - idle_few)) / 50000))
+      % kept(traffic(50000, 20), traffic(100000, 20), 50000))
+print("with up to 20 open, 1,000,000 windows take %.2f times as long as 500,000, and %.0f bytes of memory for each window gone"
+      % kept(crowds(500000), crowds(1000000), 500000))
 PROGRAM
