@@ -1,0 +1,17 @@
+pub mod BothLast
+pub mod EachLemmas
+pub mod FlagLasts
+pub mod FlagLemmas
+pub mod LastCommands
+pub mod LastFloats
+pub mod LastSizes
+pub mod LastSpaces
+pub mod LastSteps
+pub mod LastTexts
+pub mod ScratchpadLemmas
+pub mod SingleLasts
+pub mod StowedHiding
+pub mod StowedLasts
+pub mod StowedLemmas
+pub mod StowedMoves
+pub mod StowedWords

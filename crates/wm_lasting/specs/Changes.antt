@@ -1,0 +1,26 @@
+-- Changes of nodes, and places to which containers move, as commands use them.
+use Rattle.std.specs.Prelude.{◌≡◌, Bool, true, false, is_some}
+use Rattle.wm_tree.specs.declared.kind.KindEdit.{KindEdit}
+use Rattle.wm_tree.specs.declared.kind.KindEdit.TheVariants as edits
+use Rattle.wm_tree.specs.declared.part.ConState.{ConState}
+use Rattle.wm_tree.specs.declared.place.Place.{Place}
+use Rattle.wm_tree.specs.declared.place.Place.TheVariants.{After, Before, First, Last, Float, Scratchpad}
+
+-- the change is neither of a container's state nor makes a window of a placeholder
+abbrev pub is_plain : KindEdit → Bool
+is_plain (edits.State s) = false
+is_plain (edits.Fill props owner natural) = false
+is_plain other = true
+
+-- the new state is fullscreen and flagged as the old one is, and has an outer rectangle where that has one
+abbrev pub KeepsState : ConState → ConState → Type 0
+KeepsState old now = (now.fullscreen ≡ old.fullscreen) × (now.flagged ≡ old.flagged) × (is_some old.rect ≡ true → is_some now.rect ≡ true)
+
+-- the place is in the scratchpad
+abbrev pub stows : Place → Bool
+stows (After c) = false
+stows (Before c) = false
+stows (First c) = false
+stows (Last c) = false
+stows (Float w r) = false
+stows (Scratchpad r) = true
