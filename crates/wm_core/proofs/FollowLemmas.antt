@@ -121,7 +121,7 @@ module _ (p : Place) (props : Props) (who : ℕ) (natural : Size) (buffer : Buff
 
 -- ---- lists of ids
 
-any_filter : (test : ConId → Bool) (v : ConId) (ids : List ConId) → list_any (same v) (filter test ids) ≡ (list_any (same v) ids && test v)
+pub any_filter : (test : ConId → Bool) (v : ConId) (ids : List ConId) → list_any (same v) (filter test ids) ≡ (list_any (same v) ids && test v)
 any_filter test v [] = refl
 any_filter test v (w ∷ ids) = step (test w) (same v w) refl refl (any_filter test v ids)
   where
@@ -171,7 +171,7 @@ swapped a b = by_test (same a b) (same b a) refl refl
 
 module _ (old new : TreeValue) (fresh : Option (ConId × Buffer)) (sound_old : IsSound old) (sound_new : IsSound new) (f : Follows old new fresh) where
   -- v was a window, or is the fresh one
-  abbrev was : ConId → Bool
+  abbrev pub was : ConId → Bool
   was v = is_fresh v fresh || is_window_of old v
 
   windows_listed : (v : ConId) → list_any (same v) (filter (is_window_of old) old.recency) ≡ is_window_of old v
@@ -200,10 +200,15 @@ module _ (old new : TreeValue) (fresh : Option (ConId × Buffer)) (sound_old : I
   kept_bool false true h = let bad : false ≡ true = h refl in cc
   kept_bool false false h = refl
 
+  -- those that closed are those that the new tree has not
+  pub closed_are : (v : ConId) → list_any (same v) (closed old new fresh) ≡ (was v && not (is_window_of new v))
+  closed_are v = any_filter (λ w. not (is_window_of new w)) v (fresh_ids fresh ++ filter (is_window_of old) old.recency) ∙ ap (λ b. b && not (is_window_of new v)) (listed_by v fresh)
+
+  pub comes : (v : ConId) → is_window_of new v ≡ true → was v ≡ true
+  comes v h = comes_by v (is_fresh v fresh) refl h
+
   pub opens : (v : ConId) → (was v && not (list_any (same v) (closed old new fresh))) ≡ is_window_of new v
-  opens v =
-      ap (λ b. was v && not b) (any_filter (λ w. not (is_window_of new w)) v (fresh_ids fresh ++ filter (is_window_of old) old.recency) ∙ ap (λ b. b && not (is_window_of new v)) (listed_by v fresh))
-      ∙ kept_bool (was v) (is_window_of new v) (comes_by v (is_fresh v fresh) refl)
+  opens v = ap (λ b. was v && not b) (closed_are v) ∙ kept_bool (was v) (is_window_of new v) (comes v)
 
   stays_by : (v : ConId) (b : Bool) → window_count new ≡ window_count old + one_if_some fresh → is_fresh v fresh ≡ b → (b || is_window_of old v) ≡ true → is_window_of new v ≡ true
   stays_by v true most e h = counted_is_found v new sound_new (omega (arith, some fresh e, rw e at (f.others v)))

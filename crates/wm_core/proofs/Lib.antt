@@ -7,6 +7,7 @@ pub mod LawLemmas
 pub mod LookLemmas
 pub mod OpenLemmas
 pub mod OpeningLemmas
+pub mod OwnedLemmas
 pub mod ScreenLemmas
 pub mod StandsLemmas
 pub mod StepLemmas

@@ -1,5 +1,6 @@
 -- A desk that stood for a history stands for it with one more entry.
-use Rattle.std.proofs.Common.{◌≡◌, ℕ, suc, ◌+◌, ◌≤◌, Bool, true, false, cond, not, ◌&&◌, ◌||◌, List, [], ◌∷◌, length, Option, Some, None, is_some, refl, ap, ap₂, sym, subst, ◌++◌, ◌∙◌, arith}
+use Rattle.std.proofs.Common.{◌≡◌, ℕ, suc, ◌+◌, ◌≤◌, Bool, true, false, cond, not, ◌&&◌, ◌||◌, leb, List, [], ◌∷◌, length, Option, Some, None, is_some, refl, ap, ap₂, sym, subst, ◌++◌, ◌∙◌, arith}
+use Rattle.std.proofs.lemmas.Bool.{false_from_ne_true, le-leb, leb-true, or_right}
 use Rattle.std.specs.List.{list_any}
 use Rattle.wm_base.specs.declared.ids.Buffer.{Buffer}
 use Rattle.wm_base.specs.declared.ids.ConId.{ConId}
@@ -14,14 +15,16 @@ use Rattle.wm_txn.specs.History as commits
 use Rattle.wm_txn.specs.History.{is_fresh, is_open, maps, open_after, was_open}
 use Rattle.wm_txn.specs.Machine.{TxnValue, asked_of}
 use Rattle.wm_txn.specs.Stands as transactions
+use Rattle.wm_txn.proofs.HeardLemmas.{open_was}
 use Rattle.wm_txn.proofs.StandingLemmas.{still_stands}
 use Rattle.wm_opens.specs.Opens.{is_window_of, window_at, windows_at}
-use Rattle.wm_core.specs.DeskValue.{DeskValue, Follows, Stands, kill_after, kill_in}
+use Rattle.wm_core.specs.DeskValue.{DeskValue, Follows, Stands, kill_after, kill_in, may_come}
 use Rattle.wm_core.specs.Frame.{quad_of, quads, what_of}
 use Rattle.wm_core.specs.History.{Beside, Entry, beside, closed, entries, first, kill_of, left, nothing, opening_of, said, tree, tree_after}
 use Rattle.wm_core.proofs.ContentLemmas.{content_held, contents_held}
-use Rattle.wm_core.proofs.FollowLemmas.{opens}
+use Rattle.wm_core.proofs.FollowLemmas.{closed_are, comes, opens}
 use Rattle.wm_core.proofs.LookLemmas.{wants_same}
+use Rattle.wm_core.proofs.OwnedLemmas.{owned_window}
 use Rattle.wm_core.proofs.OpenLemmas.{counted_is_found, found_is_counted}
 use Rattle.wm_core.proofs.ScreenLemmas.{last_sound}
 use Rattle.wm_core.specs.Look.{wants}
@@ -59,7 +62,7 @@ module _ (d : DeskValue) (history : List Entry) (s : Stands d history) where
   -- a step that says this to the transactions, leaves this tree, and stops the desk or not
   module _ (entry : Entry) (e : commits.Entry) (t : TreeValue) (txn : TxnValue) (stops : Bool) (ids : List ConId) (kills : List (ℕ × ℕ)) (says : said d.plan.env.homes d.tree entry.who entry.act ≡ e)
       (after : t ≡ tree_after d.plan.env.homes d.tree entry.who entry.act) (does : beside d.plan.env.homes d.tree entry.act ≡ record { stops = stops; asked = ids })
-      (noted : (v : ConId) → kill_in kills v ≡ kill_after ids (d.steps + 1) v (kill_in d.kills v))
+      (noted : (v : ConId) → may_come t v ≡ true → kill_in kills v ≡ kill_after ids (d.steps + 1) v (kill_in d.kills v)) (came : (v : ConId) → may_come t v ≡ true → may_come d.tree v ≡ true)
       (stands : transactions.Stands o (e ∷ h) txn) (same_open : (v : ConId) → open_after e v (is_window_of d.tree v) ≡ is_window_of t v)
       (new : (v : ConId) → t.next_id ≤ v.0 → maps v e ≡ false) (next : d.tree.next_id ≤ t.next_id) (sound_next : IsSound t)
     where
@@ -78,11 +81,11 @@ module _ (d : DeskValue) (history : List Entry) (s : Stands d history) where
       does_there : record { stops = stops; asked = ids } ≡ beside d.plan.env.homes there entry.act
       does_there = sym does ∙ ap (λ z. beside d.plan.env.homes z entry.act) s.tree_is
 
-      kill_there : (v : ConId) → kill_in kills v ≡ kill_after (beside d.plan.env.homes there entry.act).asked (length history + 1) v (kill_of (opening_of d.plan) history v)
-      kill_there v =
-          noted v
+      kill_there : (v : ConId) → may_come t v ≡ true → kill_in kills v ≡ kill_after (beside d.plan.env.homes there entry.act).asked (length history + 1) v (kill_of (opening_of d.plan) history v)
+      kill_there v may =
+          noted v may
           ∙ (ap (λ b. kill_after (asked_by b) (d.steps + 1) v (kill_in d.kills v)) does_there
-          ∙ ap₂ (λ n k. kill_after (beside d.plan.env.homes there entry.act).asked (n + 1) v k) s.counted (s.kills_are v))
+          ∙ ap₂ (λ n k. kill_after (beside d.plan.env.homes there entry.act).asked (n + 1) v k) s.counted (s.kills_are v (came v may)))
 
       tree_there : t ≡ tree (opening_of d.plan) (entry ∷ history)
       tree_there = after ∙ ap (λ z. tree_after d.plan.env.homes z entry.who entry.act) s.tree_is
@@ -109,7 +112,7 @@ module _ (d : DeskValue) (history : List Entry) (s : Stands d history) where
       → Stands (record { plan = d.plan; steps = d.steps + 1; tree = d.tree; txn = txn; stopped = d.stopped; kills = d.kills }) (entry ∷ history)
   stands_told entry e txn says after does same_open new stands =
       subst (λ b. Stands (record { plan = d.plan; steps = d.steps + 1; tree = d.tree; txn = txn; stopped = b; kills = d.kills }) (entry ∷ history)) (or_false d.stopped)
-      (stands_next entry e d.tree txn false [] d.kills says after does (λ v. refl) stands (λ v. same_open v (is_window_of d.tree v)) (λ v above. new v) (omega arith)
+      (stands_next entry e d.tree txn false [] d.kills says after does (λ v may. refl) (λ v may. may) stands (λ v. same_open v (is_window_of d.tree v)) (λ v above. new v) (omega arith)
       (subst IsSound (sym s.tree_is) (last_sound (opening_of d.plan) history s.sounds)))
 
   -- a step that changes nothing is counted
@@ -133,11 +136,42 @@ module _ (d : DeskValue) (history : List Entry) (s : Stands d history) where
     not_fresh v above true e = absurd (omega (arith, (f.fresh_id v e).1))
     not_fresh v above false e = refl
 
+    -- an id of the old tree that is still to be given is none of its windows
+    not_yet : (v : ConId) → d.tree.next_id ≤ v.0 → is_window_of d.tree v ≡ false
+    not_yet v late = sym (s.open_is v) ∙ false_from_ne_true (is_open o v h) (λ opened. let bad : false ≡ true = sym (s.given v late) ∙ open_was o v h opened in cc)
+
+    -- a window of the new tree was one, or its id was still to be given
+    came : (v : ConId) (b c : Bool) → is_window_of t v ≡ b → leb t.next_id v.0 ≡ c → (b || c) ≡ true → may_come d.tree v ≡ true
+    came v true c there late may = by (is_fresh v fresh) refl (comes d.tree t fresh sound sound_new f v there)
+      where
+        by : (b : Bool) → is_fresh v fresh ≡ b → (b || is_window_of d.tree v) ≡ true → may_come d.tree v ≡ true
+        by true e was = or_right (is_window_of d.tree v) (leb d.tree.next_id v.0) (le-leb d.tree.next_id v.0 (f.fresh_id v e).0)
+        by false e was = ap (λ b. b || leb d.tree.next_id v.0) was
+    came v false true there late may =
+        let above = leb-true t.next_id v.0 late in
+        or_right (is_window_of d.tree v) (leb d.tree.next_id v.0) (le-leb d.tree.next_id v.0 (omega (arith, f.next)))
+    came v false false there late may = cc
+
+    -- and is none of those that went
+    pub not_gone : (v : ConId) → may_come t v ≡ true → list_any (same v) (closed d.tree t fresh) ≡ false
+    not_gone v may = closed_are d.tree t fresh sound sound_new f v ∙ by (is_window_of t v) (leb t.next_id v.0) refl refl may
+      where
+        none : (a : Bool) → (a && false) ≡ false
+        none true = refl
+        none false = refl
+
+        by : (b c : Bool) → is_window_of t v ≡ b → leb t.next_id v.0 ≡ c → (b || c) ≡ true → ((is_fresh v fresh || is_window_of d.tree v) && not b) ≡ false
+        by true c there late may = none (is_fresh v fresh || is_window_of d.tree v)
+        by false true there late may =
+            let above = leb-true t.next_id v.0 late in
+            rw (not_fresh v above (is_fresh v fresh) refl, not_yet v (omega (arith, f.next))) refl
+        by false false there late may = cc
+
     pub stands_left : (entry : Entry) (txn : TxnValue) (stops : Bool) (ids : List ConId) (kills : List (ℕ × ℕ)) → said d.plan.env.homes d.tree entry.who entry.act ≡ left d.tree t fresh → t ≡ tree_after d.plan.env.homes d.tree entry.who entry.act
-        → beside d.plan.env.homes d.tree entry.act ≡ record { stops = stops; asked = ids } → ((v : ConId) → kill_in kills v ≡ kill_after ids (d.steps + 1) v (kill_in d.kills v)) → transactions.Stands o (left d.tree t fresh ∷ h) txn
+        → beside d.plan.env.homes d.tree entry.act ≡ record { stops = stops; asked = ids } → ((v : ConId) → may_come t v ≡ true → kill_in kills v ≡ kill_after ids (d.steps + 1) v (kill_in d.kills v)) → transactions.Stands o (left d.tree t fresh ∷ h) txn
         → Stands (record { plan = d.plan; steps = d.steps + 1; tree = t; txn = txn; stopped = d.stopped || stops; kills = kills }) (entry ∷ history)
     stands_left entry txn stops ids kills says after does noted stands =
-        stands_next entry (left d.tree t fresh) t txn stops ids kills says after does noted stands (opens d.tree t fresh sound sound_new f) (λ v above. not_fresh v above (is_fresh v fresh) refl) f.next sound_new
+        stands_next entry (left d.tree t fresh) t txn stops ids kills says after does noted (λ v may. came v (is_window_of t v) (leb t.next_id v.0) refl refl may) stands (opens d.tree t fresh sound sound_new f) (λ v above. not_fresh v above (is_fresh v fresh) refl) f.next sound_new
 
   -- ---- what is asked of windows
 
@@ -145,9 +179,10 @@ module _ (d : DeskValue) (history : List Entry) (s : Stands d history) where
       → found ≡ wants (λ v. asked o v (heard o h)) (kill_of (opening_of d.plan) history) serial kill (owned_in_order who (tree (opening_of d.plan) history))
   wants_seen who serial kill windows found listed made =
       made
-      ∙ (ap (wants (λ v. asked_of (find v d.txn.windows)) (kill_in d.kills) serial kill) (listed ∙ ap (owned_in_order who) s.tree_is)
-      ∙ wants_same (λ v. asked_of (find v d.txn.windows)) (λ v. asked o v (heard o h)) (kill_in d.kills) (kill_of (opening_of d.plan) history) serial kill (owned_in_order who (tree (opening_of d.plan) history))
-      (asked_is o (heard o h) d.txn s.commits) s.kills_are)
+      ∙ (ap (wants (λ v. asked_of (find v d.txn.windows)) (kill_in d.kills) serial kill) listed
+      ∙ (wants_same (λ v. asked_of (find v d.txn.windows)) (λ v. asked o v (heard o h)) (kill_in d.kills) (kill_of (opening_of d.plan) history) serial kill (owned_in_order who d.tree)
+      (asked_is o (heard o h) d.txn s.commits) (λ v there. s.kills_are v (ap (λ b. b || leb d.tree.next_id v.0) (owned_window who d.tree v there)))
+      ∙ ap (λ z. wants (λ v. asked o v (heard o h)) (kill_of (opening_of d.plan) history) serial kill (owned_in_order who z)) s.tree_is))
 
 -- ---- the opening
 
@@ -185,7 +220,7 @@ stands_start plan t txn kills parts opened sound none laid stands = record {
   tree_is = opened;
   sounds = subst IsSound opened sound;
   stopped_is = refl;
-  kills_are = λ v. ap (λ m. kill_in m v) none;
+  kills_are = λ v may. ap (λ m. kill_in m v) none;
   commits = subst (λ z. transactions.Stands (record { parts = z; windows = [] }) [] txn) (laid ∙ ap arranged opened) stands;
   open_is = λ v. not_window t v sound (ap (windows_at v) opened ∙ opens_empty plan v) (is_window_of t v) refl;
   given = λ v above. refl;

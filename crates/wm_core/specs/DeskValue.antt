@@ -1,5 +1,5 @@
 -- The value of a desk, and the histories that it stands for.
-use Rattle.std.specs.Prelude.{◌≡◌, ◌<◌, ◌≤◌, ℕ, ◌+◌, true, false, if◌then◌else◌, Bool, List, [], ◌∷◌, length, Option, None, Some, refl}
+use Rattle.std.specs.Prelude.{◌≡◌, ◌<◌, ◌≤◌, ℕ, ◌+◌, nat_le, true, false, ◌||◌, if◌then◌else◌, Bool, List, [], ◌∷◌, length, Option, None, Some, refl}
 use Rattle.std.specs.Coded.{Coded, code_by, coded×, coded_ℕ, coded_bool, coded_list}
 use Rattle.std.specs.BTreeMap.{is_at}
 use Rattle.std.specs.List.{list_any}
@@ -31,7 +31,7 @@ pub record DeskValue : Type 0 where
   pub txn : TxnValue
   -- whether a command said that the desk is to stop
   pub stopped : Bool
-  -- by the id of a window, the number of the last step that asked it to close
+  -- by the id of a window, the number of the last step that asked it to close, where it is not forgotten
   pub kills : List (ℕ × ℕ)
 
 abbrev pub kill_in : List (ℕ × ℕ) → ConId → Option ℕ
@@ -44,6 +44,14 @@ kills_or (Some after) before = after
 -- what is kept of v after the step of this number asked these windows to close
 abbrev pub kill_after : List ConId → ℕ → ConId → Option ℕ → Option ℕ
 kill_after asked number v before = if list_any (same v) asked then Some number else before
+
+-- what is kept of v after these windows went
+abbrev pub kill_left : List ConId → ConId → Option ℕ → Option ℕ
+kill_left gone v before = if list_any (same v) gone then None else before
+
+-- v is a window of the tree, or its id is still to be given
+abbrev pub may_come : TreeValue → ConId → Bool
+may_come t v = is_window_of t v || nat_le t.next_id v.0
 
 -- what the transactions answer to an acknowledgement
 abbrev pub judge_of : TxnValue → Judge
@@ -60,7 +68,8 @@ pub record Stands (d : DeskValue) (history : List Entry) : Type 0 where
   pub tree_is : d.tree ≡ tree (opening_of d.plan) history
   pub sounds : AreSound (opening_of d.plan) history
   pub stopped_is : d.stopped ≡ stopped (opening_of d.plan) history
-  pub kills_are : (v : ConId) → kill_in d.kills v ≡ kill_of (opening_of d.plan) history v
+  -- of a window that is gone the number may be forgotten
+  pub kills_are : (v : ConId) → may_come d.tree v ≡ true → kill_in d.kills v ≡ kill_of (opening_of d.plan) history v
   pub commits : transactions.Stands (first (opening_of d.plan)) (entries (opening_of d.plan) history) d.txn
   -- the windows of the tree are those that are open, and none had an id that is still to be given
   pub open_is : (v : ConId) → is_open (first (opening_of d.plan)) v (entries (opening_of d.plan) history) ≡ is_window_of d.tree v

@@ -14,7 +14,7 @@ ghost use Rattle.wm_txn.specs.History as commits;
 
 use crate::counting::closed;
 use crate::frame::painted;
-use crate::kills::{note, noted};
+use crate::kills::{forget, note, noted};
 use crate::step::{Answer, Step};
 use std::alloc::Global;
 use std::collections::BTreeMap;
@@ -189,6 +189,7 @@ impl Desk {
         self.tree = tree;
         self.stopped = either(self.stopped, stops);
         note(&mut self.kills, noted);
+        forget(&mut self.kills, &gone);
         Ok(())
     }
 }

@@ -1,8 +1,8 @@
-//! Windows that were asked to close, each with the number of the last step that asked it.
+//! Open windows that were asked to close, each with the number of the last step that asked it.
 ghost use Rattle.std.specs.Prelude.{◌≡◌, ◌∷◌, [], IfOk, OnOk};
 ghost use Rattle.std.specs.Option.{option_map, option_to_list};
 ghost use Rattle.wm_base.specs.declared.ids.ConId.{ConId};
-ghost use Rattle.wm_core.specs.DeskValue.{kill_after, kill_in, kills_or};
+ghost use Rattle.wm_core.specs.DeskValue.{kill_after, kill_in, kill_left, kills_or};
 ghost use Rattle.wm_core.specs.Look.{kill_above};
 
 use crate::state::Want;
@@ -52,6 +52,24 @@ pub fn note(kills: &mut BTreeMap<u32, u64>, noted: Option<BTreeMap<u32, u64>>)
     if let Some(after) = noted {
         *kills = after;
     }
+}
+
+/// Takes the numbers of these windows out.
+pub fn forget(kills: &mut BTreeMap<u32, u64>, gone: &[ConId])
+    ensures { (v : ConId) → kill_in kills.new.entries v ≡ kill_left gone.now v (kill_in kills.old.entries v) }
+{
+    let mut rest = gone;
+    while let [con, after @ ..] = rest {
+        take(kills, *con);
+        rest = after;
+    }
+}
+
+/// Takes the number of the window out.
+fn take(kills: &mut BTreeMap<u32, u64>, con: ConId)
+    ensures { (v : ConId) → kill_in kills.new.entries v ≡ kill_left (con ∷ []) v (kill_in kills.old.entries v) }
+{
+    kills.remove(&con.0);
 }
 
 /// What asked a window to close, where its number is above this one.
