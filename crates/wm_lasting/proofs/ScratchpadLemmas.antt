@@ -63,13 +63,13 @@ scratchpad_windows t h = hidden_row (scratchpad t) h.row (second_row t.nodes h.f
 
 -- ---- both properties last
 
-both_lasts : Lasts (λ t. Holds t × FlagsOnlyWindows t)
+pub both_lasts : Lasts (λ t. Holds t × FlagsOnlyWindows t)
 both_lasts = both_last stowed_lasts flags_last
 
-from : (t : TreeValue) → IsSound t → HasScratchpad t → HasLast (λ z. Holds z × FlagsOnlyWindows z) t
+pub from : (t : TreeValue) → IsSound t → HasScratchpad t → HasLast (λ z. Holds z × FlagsOnlyWindows z) t
 from t s h = record { sound = s; held = (stowed_sound t s h.row, h.flags) }
 
-back : (t : TreeValue) → HasLast (λ z. Holds z × FlagsOnlyWindows z) t → HasScratchpad t
+pub back : (t : TreeValue) → HasLast (λ z. Holds z × FlagsOnlyWindows z) t → HasScratchpad t
 back t g = record { flags = g.held.1; row = row_of t.nodes g.held.0 }
 
 -- ---- steps
