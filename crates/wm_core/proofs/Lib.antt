@@ -3,6 +3,7 @@ pub mod BeginningLemmas
 pub mod ContentLemmas
 pub mod FollowLemmas
 pub mod GoneLemmas
+pub mod LastingLemmas
 pub mod LawLemmas
 pub mod LookLemmas
 pub mod OpenLemmas

@@ -2,6 +2,7 @@ pub mod Act
 pub mod DeskValue
 pub mod Frame
 pub mod History
+pub mod LastingLaws
 pub mod Laws
 pub mod Look
 pub mod Outputs
