@@ -10,7 +10,7 @@ arrange-requires c =
 
 -- the opening has no windows
 pub start-requires-2 : goal.start-requires-2
-start-requires-2 c = no_content c.args.plan c.in_ok-tree.tree c.in_ok-first.first.parts (rw c.items-outputs.ensures at c.in_ok-tree.ensures.tree) c.in_ok-first.ensures
+start-requires-2 c = no_content c.args.plan c.in_ok-tree.tree c.in_ok-first.first.parts (rw c.items-outputs.ensures at c.in_ok-tree.ensures.tree) c.in_ok-first.ensures.parts
 
 pub invariant_of-result : goal.invariant_of-result
 invariant_of-result c =
@@ -21,4 +21,4 @@ pub returns-clause-stands : goal.returns-clause-stands
 returns-clause-stands c =
     let fit = fit_plans c.args.plan.outputs c.items-outputs.result.now c.items-outputs.ensures c.requires.fit in
     let sound : IsSound c.in_ok-tree.tree = c.in_ok-tree.ensures.sound (rw c.items-outputs.ensures c.requires.some) fit in
-    stands_start c.args.plan c.in_ok-tree.tree c.in_ok-txn.txn c.new.result.entries c.in_ok-first.first.parts (rw c.items-outputs.ensures at c.in_ok-tree.ensures.tree) sound c.new.ensures.empty c.in_ok-first.ensures c.in_ok-txn.ensures.stands
+    stands_start c.args.plan c.in_ok-tree.tree c.in_ok-txn.txn c.new.result.entries c.in_ok-first.first.parts (rw c.items-outputs.ensures at c.in_ok-tree.ensures.tree) sound c.new.ensures.empty c.in_ok-first.ensures.parts c.in_ok-txn.ensures.stands
