@@ -60,8 +60,8 @@ def crowds(windows):
 
 
 def idle(lines):
-    """As many lines, each of the same length, that map nothing: what input and output take."""
-    return ["deadline ".ljust(len(line), "9") if line.startswith("map") else line for line in lines]
+    """The same lines, each as long as it was, but that no window opens: its buffer is empty."""
+    return [line.replace(" 1x1", " 0x1").replace(" 64x48", " 0x480") for line in lines]
 
 
 def kept(few, many, windows):
