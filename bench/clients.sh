@@ -29,11 +29,13 @@ def opened(windows):
 costs = []
 for windows in [20, 200, 4000]:
     lines = opened(windows)
-    base, _ = measured(program, "replay", folder, lines)
-    total, _ = measured(program, "replay", folder, lines + ["buffer 4 00ff00 64x48"] * ANSWERS)
+    base = total = float("inf")
+    for _ in range(5):
+        base = min(base, measured(program, "replay", folder, lines, 1)[0])
+        total = min(total, measured(program, "replay", folder, lines + ["buffer 4 00ff00 64x48"] * ANSWERS, 1)[0])
     costs.append((total - base) / ANSWERS)
     print("a buffer with %d open windows: %.2f microseconds" % (windows, 1e6 * costs[-1]))
-print("growth from 20 to 4,000 windows: %.2f" % (costs[2] / costs[0]))
+print("growth from 20 to 4,000 windows: %.2f (on a busy machine 4,000 windows take longer to open than their buffers to be answered: run it again)" % (costs[2] / costs[0]))
 
 
 def traffic(windows, shown):
@@ -61,20 +63,16 @@ def crowds(windows):
 
 def idle(lines):
     """The same lines, each as long as it was, but that no window opens: its buffer is empty."""
-    return [line.replace(" 1x1", " 0x1").replace(" 64x48", " 0x480") for line in lines]
+    return [line.replace(" 1x1", " 0x1") for line in lines]
 
 
-def kept(few, many, windows):
-    """How many times as long the second takes, and the bytes of memory for each of so many more windows that are gone."""
-    time_few, memory_few = measured(program, "replay", folder, few)
-    time_many, memory_many = measured(program, "replay", folder, many)
-    _, idle_few = measured(program, "replay", folder, idle(few))
-    _, idle_many = measured(program, "replay", folder, idle(many))
-    return time_many / time_few, (memory_many - memory_few - (idle_many - idle_few)) / windows
-
-
-print("with 20 open, 100,000 windows take %.2f times as long as 50,000, and %.0f bytes of memory for each window gone"
-      % kept(traffic(50000, 20), traffic(100000, 20), 50000))
+few, _ = measured(program, "replay", folder, traffic(50000, 20))
+many, _ = measured(program, "replay", folder, traffic(100000, 20))
+print("with 20 open, 100,000 windows take %.2f times as long as 50,000" % (many / few))
+few, memory_few = measured(program, "replay", folder, crowds(500000))
+many, memory_many = measured(program, "replay", folder, crowds(1000000))
+_, idle_few = measured(program, "replay", folder, idle(crowds(500000)))
+_, idle_many = measured(program, "replay", folder, idle(crowds(1000000)))
 print("with up to 20 open, 1,000,000 windows take %.2f times as long as 500,000, and %.0f bytes of memory for each window gone"
-      % kept(crowds(500000), crowds(1000000), 500000))
+      % (many / few, (memory_many - memory_few - (idle_many - idle_few)) / 500000))
 PROGRAM
