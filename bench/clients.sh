@@ -35,7 +35,7 @@ for windows in [20, 200, 4000]:
         total = min(total, measured(program, "replay", folder, lines + ["buffer 4 00ff00 64x48"] * ANSWERS, 1)[0])
     costs.append((total - base) / ANSWERS)
     print("a buffer with %d open windows: %.2f microseconds" % (windows, 1e6 * costs[-1]))
-print("growth from 20 to 4,000 windows: %.2f (on a busy machine 4,000 windows take longer to open than their buffers to be answered: run it again)" % (costs[2] / costs[0]))
+print("growth from 20 to 4,000 windows: %.2f (opening 4,000 windows takes longer than answering their buffers, and its noise may hide them)" % (costs[2] / costs[0]))
 
 
 def traffic(windows, shown):
