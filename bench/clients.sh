@@ -1,41 +1,34 @@
 #!/bin/sh
-# Takes the processor's time of buffers over 20, 200 and 4,000 open windows, and 10,000 windows that come and go with 200 open, each step
-# followed by its answers, and 1,000,000 that come and go by twenties, and prints the cost of an answer, how it grows, steps a second, and
-# the memory.
+# Takes what an acknowledgement, a buffer and a deadline cost with 20, 200 and 4,000 open windows, and how that grows; and with
+# i3replay 10,000 windows that come and go with 200 open, each step followed by its answers, and 1,000,000 that come and go by
+# twenties: steps a second, and the memory.
 # usage: bench/clients.sh [PROGRAM]
 set -eu
 . "$(dirname "$0")/program.sh"
+desk=$here/crates/deskbench/out/deskbench
+if [ ! -x "$desk" ]; then
+    (cd "$here/crates/deskbench" && rt run -- 20 give >/dev/null)
+fi
 
-python3 - "$program" "$folder" "$here/bench" <<'PROGRAM'
-import sys
+python3 - "$program" "$folder" "$here/bench" "$desk" <<'PROGRAM'
+import subprocess, sys
 
-program, folder, here = sys.argv[1:]
+program, folder, here, desk = sys.argv[1:]
 sys.path.insert(0, here)
 sys.dont_write_bytecode = True
 from measure import measured
 
-ANSWERS = 700000
+
+def answered(windows, call):
+    """The least processor time of an answer in nanoseconds, of five runs."""
+    words = [desk, str(windows), call]
+    return min(float(subprocess.run(words, capture_output=True, check=True).stdout) for _ in range(5))
 
 
-def opened(windows):
-    lines = []
-    for n in range(windows):
-        if n % 200 == 0:
-            lines.append("run workspace %d" % (n // 200 + 1))
-        lines.append("map ff0000 64x48")
-    return lines + ["deadline %d" % n for n in range(1, 60)]
-
-
-costs = []
-for windows in [20, 200, 4000]:
-    lines = opened(windows)
-    base = total = float("inf")
-    for _ in range(5):
-        base = min(base, measured(program, "replay", folder, lines, 1)[0])
-        total = min(total, measured(program, "replay", folder, lines + ["buffer 4 00ff00 64x48"] * ANSWERS, 1)[0])
-    costs.append((total - base) / ANSWERS)
-    print("a buffer with %d open windows: %.2f microseconds" % (windows, 1e6 * costs[-1]))
-print("growth from 20 to 4,000 windows: %.2f (opening 4,000 windows takes longer than answering their buffers, and its noise may hide them)" % (costs[2] / costs[0]))
+for call in ["acknowledge", "give", "time-out"]:
+    costs = [answered(windows, call) for windows in [20, 200, 4000]]
+    print("%s: %.0f, %.0f and %.0f nanoseconds with 20, 200 and 4,000 open windows, %.2f times as long at the end"
+          % (call, *costs, costs[2] / costs[0]))
 
 
 def traffic(windows, shown):

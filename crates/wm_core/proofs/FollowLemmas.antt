@@ -18,9 +18,10 @@ use Rattle.wm_tree.specs.TreeValue.{TreeValue, id}
 use Rattle.wm_tree.specs.Words.{attached}
 use Rattle.wm_tree.proofs.RecencyLemmas.{same_is}
 use Rattle.wm_txn.specs.History.{is_fresh}
-use Rattle.wm_opens.specs.Opens.{is_window_of, window_at, windows, windows_at}
+use Rattle.wm_opens.specs.Opens.{is_window_of, owned_at, window_at, windows, windows_at}
 use Rattle.wm_opens.proofs.KeptLemmas.{Kept}
 use Rattle.wm_opens.proofs.MeasureLemmas.{IsFresh, IsMeasure, windows_fresh, windows_measured}
+use Rattle.wm_opens.proofs.OwnerLemmas.{owned_fewer}
 use Rattle.wm_opens.proofs.WordLemmas.{put_most}
 use Rattle.wm_core.specs.DeskValue.{Follows, one_if_some}
 use Rattle.wm_core.specs.History.{closed, fresh_ids}
@@ -71,13 +72,17 @@ others_fresh v n = record { nothing = λ p below none. nothing_else (same p.id v
 -- ---- trees that follow
 
 -- one that opens no window
-pub follows_kept : (old new : TreeValue) → Kept old new → Follows old new None
+follows_kept : (old new : TreeValue) → Kept old new → Follows old new None
 follows_kept old new k = record {
   next = k.next;
   fresh_id = λ v h. cc;
   fewer = λ v h. (k.fewer (window_at v) (windows_measured v)).fewer (windows_fresh v old.next_id);
+  owned = λ who v h. owned_fewer who v old new k;
   others = λ v. omega (arith, apart v old, apart v new, (k.fewer (other_at v) (others_measured v)).fewer (others_fresh v old.next_id));
 }
+
+pub follows_made : (old word new : TreeValue) → new ≡ word → Kept old word → Follows old new None
+follows_made old word new made k = subst (λ z. Follows old z None) (sym made) (follows_kept old word k)
 
 -- and one of which no measure rises follows what the first one did
 pub follows_then : (old mid new : TreeValue) (fresh : Option (ConId × Buffer)) → Follows old mid fresh → Kept mid new → Follows old new fresh
@@ -85,6 +90,7 @@ follows_then old mid new fresh f k = record {
   next = omega (arith, f.next, k.next);
   fresh_id = λ v h. ((f.fresh_id v h).0, omega (arith, (f.fresh_id v h).1, k.next));
   fewer = λ v h. omega (arith, f.fewer v h, (k.fewer (window_at v) (windows_measured v)).fewer (windows_fresh v mid.next_id));
+  owned = λ who v h. omega (arith, f.owned who v h, owned_fewer who v mid new k);
   others = λ v. rise v (cond (is_fresh v fresh) 0 (one_if_some fresh)) (f.others v);
 }
   where
@@ -105,6 +111,11 @@ module _ (p : Place) (props : Props) (who : ℕ) (natural : Size) (buffer : Buff
   put_others : (v : ConId) → others_at v with_window ≤ others_at v t + cond (same (id t.next_id) v) 0 1
   put_others v = omega (arith, put_most (other_at v) p (con window end end end) t.nodes)
 
+  put_owned : (other : ℕ) (v : ConId) → same (id t.next_id) v ≡ false → count (owned_at other v) with_window.nodes ≤ count (owned_at other v) t.nodes
+  put_owned other v apart =
+      let none : owned_at other v window ≡ 0 = rw apart refl in
+      omega (arith, none, put_most (owned_at other v) p (con window end end end) t.nodes)
+
   left_windows : (v : ConId) → windows_at v new ≤ windows_at v with_window
   left_windows v = (k.fewer (window_at v) (windows_measured v)).fewer (windows_fresh v with_window.next_id)
 
@@ -116,6 +127,7 @@ module _ (p : Place) (props : Props) (who : ℕ) (natural : Size) (buffer : Buff
     next = omega (arith, k.next);
     fresh_id = λ v h. let at : t.next_id ≡ v.0 = eqb-true t.next_id v.0 h in (omega arith, omega (arith, k.next));
     fewer = λ v h. omega (arith, rw h at (put_windows v), left_windows v);
+    owned = λ other v h. omega (arith, put_owned other v h, owned_fewer other v with_window new k);
     others = λ v. omega (arith, apart v t, apart v new, put_others v, left_others v);
   }
 
@@ -159,7 +171,7 @@ counted_any v (w ∷ ids) h = step (same w v) refl (counted_any v ids) h
         later true b h = refl
         later false b h = h
 
-swapped : (a b : ConId) → same a b ≡ same b a
+pub swapped : (a b : ConId) → same a b ≡ same b a
 swapped a b = by_test (same a b) (same b a) refl refl
   where
     by_test : (x y : Bool) → same a b ≡ x → same b a ≡ y → same a b ≡ same b a

@@ -12,7 +12,7 @@ use Rattle.wm_tree.specs.declared.part.ConPart.{ConPart}
 use Rattle.wm_tree.proofs.CountLemmas.{count-without, counted, there}
 use Rattle.wm_tree.proofs.LookLemmas.{seen-without}
 use Rattle.wm_opens.proofs.KeptLemmas.{Kept, kept_detached, kept_refl, kept_trans}
-use Rattle.wm_core.specs.Windows.{AreContainers, is_window, owned, owned_by, without_windows}
+use Rattle.wm_core.specs.Windows.{AreContainers, is_caller, is_window, owned, part_owner, without_windows}
 
 -- a row of windows is its first one and the others
 pub first_of : (w d : ConId) (rest : List ConId) → 1 ≤ length rest → w ≡ get_or rest 0 d → rest ≡ w ∷ take (length rest - 1) (drop 1 rest)
@@ -46,16 +46,17 @@ one_out whole w d rest t new left some is same cons sound =
 
 -- ---- the windows of a caller
 
-owned_kind : (who : ℕ) (o : Option ConPart) → owned_by who o ≡ true → o ≢ None
-owned_kind who None h none = cc
-owned_kind who (Some c) h none = cc
+-- a window of a caller is a container
+pub some_part : (who : ℕ) (part : Option ConPart) → is_caller who (part_owner part) ≡ true → part ≢ None
+some_part who None h none = cc
+some_part who (Some p) h none = cc
 
 owned_some : (who : ℕ) (t : TreeValue) (ids : List ConId) → AreContainers (filter (is_window t who) ids) t
 owned_some who t [] = tt
 owned_some who t (v ∷ ids) = step (is_window t who v) refl (owned_some who t ids)
   where
     step : (b : Bool) → is_window t who v ≡ b → AreContainers (filter (is_window t who) ids) t → AreContainers (cond b (v ∷ filter (is_window t who) ids) (filter (is_window t who) ids)) t
-    step true e others = (λ _. owned_kind who (kind_of con_kind v t.nodes) e, others)
+    step true e others = (λ _. some_part who (kind_of con_kind v t.nodes) e, others)
     step false e others = others
 
 pub owned_containers : (who : ℕ) (t : TreeValue) → AreContainers (owned who t) t

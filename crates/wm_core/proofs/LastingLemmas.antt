@@ -6,7 +6,7 @@ use Rattle.wm_base.specs.declared.geometry.Size.{Size}
 use Rattle.wm_base.specs.declared.ids.ConId.{ConId}
 use Rattle.wm_base.specs.declared.plan.OutputPlan.{OutputPlan}
 use Rattle.wm_base.specs.declared.properties.Props.{Props}
-use Rattle.wm_core.proofs.GoneLemmas.{owned_containers, still_containers}
+use Rattle.wm_core.proofs.GoneLemmas.{owned_containers, some_part, still_containers}
 use Rattle.wm_core.proofs.OpeningLemmas.{fit_plans}
 use Rattle.wm_core.specs.Act.{Act, Run, Map, Close, Retitle, Urgent, Gone, OutputAdd, OutputRemove, Reserve, Ack, Give, Deadline, Still}
 use Rattle.wm_core.specs.declared.step.Answer.{Answer}
@@ -14,7 +14,7 @@ use Rattle.wm_core.specs.declared.step.Answer.TheVariants as answers
 use Rattle.wm_core.specs.History.{Entry, Start, has_no_pixels, if_done, limit_of, map_tree, opening_of, tree, tree_after, window_answer}
 use Rattle.wm_core.specs.LastingLaws.{IsInOrder}
 use Rattle.wm_core.specs.Outputs.{add_answer, added, remove_answer, removed, reserve_answer, reserved, reserved_at, unless_full}
-use Rattle.wm_core.specs.Windows.{AreContainers, is_window, owned, owned_by, retitled, with_urgency, with_urgent, without_urgent, without_windows}
+use Rattle.wm_core.specs.Windows.{AreContainers, is_window, owned, retitled, with_urgency, with_urgent, without_urgent, without_windows}
 use Rattle.wm_floats.specs.Fullscreen.{fills_alone}
 use Rattle.wm_fullscreen.proofs.SingleLemmas.{has_of, single_of, single_opening}
 use Rattle.wm_lasting.proofs.LastSteps.{has_added, has_closed, has_detached, has_mapped, has_removed, has_reserved, has_titled, has_urgent}
@@ -30,7 +30,6 @@ use Rattle.wm_spaces.specs.Names.{output_named}
 use Rattle.wm_tree.proofs.ForestLemmas.{at_absent, only_absent, outside_end}
 use Rattle.wm_tree.proofs.OutputLemmas.{sound-with_output}
 use Rattle.wm_tree.proofs.StartLemmas.{sound-opening}
-use Rattle.wm_tree.specs.declared.part.ConPart.{ConPart}
 use Rattle.wm_tree.specs.declared.place.NewCon.TheVariants as new
 use Rattle.wm_tree.specs.Change.{without}
 use Rattle.wm_tree.specs.Forest.{end}
@@ -52,10 +51,6 @@ none_out v t none =
     let urgent : outside (only v t.nodes) t.urgent ≡ t.urgent = ap (λ f. outside f t.urgent) alone ∙ outside_end t.urgent in
     ap (λ f. record t { nodes = f; recency = outside (only v t.nodes) t.recency; urgent = outside (only v t.nodes) t.urgent }) nodes
     ∙ (ap (λ r. record t { recency = r; urgent = outside (only v t.nodes) t.urgent }) recent ∙ ap (λ u. record t { urgent = u }) urgent)
-
-a_window : (who : ℕ) (o : Option ConPart) → owned_by who o ≡ true → o ≢ None
-a_window who None h = cc
-a_window who (Some part) h = λ e. cc
 
 -- an output that is added has a rectangle within the limits, and passes none
 may_add : (taken fit : Bool) (passed : Option Limit) → cond taken answers.NameTaken (cond (not fit) answers.BadRect (unless_full passed)) ≡ answers.Done → (fit ≡ true) × (passed ≡ None)
@@ -114,7 +109,7 @@ module _ {P : TreeValue → Type 0} (k : Lasts P) where
       is_con h = by (is_window t who v) refl h
         where
           by : (b : Bool) → is_window t who v ≡ b → cond b answers.Done answers.NoView ≡ answers.Done → kind_of con_kind v t.nodes ≢ None
-          by true e z = a_window who (kind_of con_kind v t.nodes) e
+          by true e z = some_part who (kind_of con_kind v t.nodes) e
           by false e z = cc
   has_after homes t who (Retitle v title) g = has_done (window_answer t who v) (retitled v title t) t g (λ h. has_settled k _ (has_titled k v title t g))
   has_after homes t who (Urgent v on) g = has_done (window_answer t who v) (with_urgency v on t) t g (λ h. has_urgency v on t g)

@@ -9,6 +9,7 @@ pub mod LookLemmas
 pub mod OpenLemmas
 pub mod OpeningLemmas
 pub mod OwnedLemmas
+pub mod OwnerLemmas
 pub mod ScreenLemmas
 pub mod StandsLemmas
 pub mod StepLemmas

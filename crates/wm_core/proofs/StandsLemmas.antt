@@ -212,6 +212,9 @@ not_window : (t : TreeValue) (v : ConId) → IsSound t → windows_at v t ≡ 0 
 not_window t v sound none true e = absurd (omega (arith, found_is_counted v t sound e))
 not_window t v sound none false e = refl
 
+pub opens_no_window : (plan : Plan) (t : TreeValue) → t ≡ (opening_of plan).opened → IsSound t → (v : ConId) → is_window_of t v ≡ false
+opens_no_window plan t opened sound v = sym (not_window t v sound (ap (windows_at v) opened ∙ opens_empty plan v) (is_window_of t v) refl)
+
 -- a desk at the opening of its plan stands for the history without entries
 pub stands_start : (plan : Plan) (t : TreeValue) (txn : TxnValue) (kills : List (ℕ × ℕ)) (parts : List Placed) → t ≡ (opening_of plan).opened → IsSound t → kills ≡ [] → parts ≡ arranged t → transactions.Stands (record { parts = parts; windows = [] }) [] txn
     → Stands (record { plan = plan; steps = 0; tree = t; txn = txn; stopped = false; kills = kills }) []
@@ -222,7 +225,7 @@ stands_start plan t txn kills parts opened sound none laid stands = record {
   stopped_is = refl;
   kills_are = λ v may. ap (λ m. kill_in m v) none;
   commits = subst (λ z. transactions.Stands (record { parts = z; windows = [] }) [] txn) (laid ∙ ap arranged opened) stands;
-  open_is = λ v. not_window t v sound (ap (windows_at v) opened ∙ opens_empty plan v) (is_window_of t v) refl;
+  open_is = λ v. sym (opens_no_window plan t opened sound v);
   given = λ v above. refl;
 }
 

@@ -1,11 +1,7 @@
 -- The value of a desk, and the histories that it stands for.
 use Rattle.std.specs.Prelude.{◌≡◌, ◌<◌, ◌≤◌, ℕ, ◌+◌, nat_le, true, false, ◌||◌, if◌then◌else◌, Bool, List, [], ◌∷◌, length, Option, None, Some, refl}
 use Rattle.std.specs.Coded.{Coded, code_by, coded×, coded_ℕ, coded_bool, coded_list}
-use Rattle.std.specs.BTreeMap.{is_at}
-use Rattle.std.specs.List.{list_any}
-use Rattle.std.specs.Map.{lookup}
-use Rattle.std.specs.Ordering.{nat_cmp}
-use Rattle.wm_tree.specs.Look.{same}
+use Rattle.wm_tree.specs.Counts.{count}
 use Rattle.wm_tree.specs.Sound.{IsSound}
 use Rattle.wm_base.specs.declared.ids.Buffer.{Buffer}
 use Rattle.wm_base.specs.declared.ids.ConId.{ConId}
@@ -16,8 +12,9 @@ use Rattle.wm_txn.specs.History.{is_fresh, is_open, was_open}
 use Rattle.wm_txn.specs.Machine.{TxnValue, judge_ack, txn_code}
 use Rattle.wm_txn.specs.Stands as transactions
 use Rattle.wm_txn.specs.Windows.{find}
-use Rattle.wm_opens.specs.Opens.{is_window_of, windows_at}
-use Rattle.wm_core.specs.Windows.{window_count}
+use Rattle.wm_opens.specs.Opens.{is_window_of, owned_at, windows_at}
+use Rattle.wm_core.specs.ByWindow.{put_at, value_at}
+use Rattle.wm_core.specs.Windows.{owner_of, window_count}
 use Rattle.wm_core.specs.History.{Entry, Judge, Start, entries, first, kill_of, opening_of, stopped, tree}
 
 pub record DeskValue : Type 0 where
@@ -35,19 +32,15 @@ pub record DeskValue : Type 0 where
   pub kills : List (ℕ × ℕ)
 
 abbrev pub kill_in : List (ℕ × ℕ) → ConId → Option ℕ
-kill_in kills v = lookup (is_at (nat_cmp v.0)) kills
-
-abbrev pub kills_or : Option (List (ℕ × ℕ)) → List (ℕ × ℕ) → List (ℕ × ℕ)
-kills_or None before = before
-kills_or (Some after) before = after
+kill_in kills v = value_at kills v
 
 -- what is kept of v after the step of this number asked these windows to close
 abbrev pub kill_after : List ConId → ℕ → ConId → Option ℕ → Option ℕ
-kill_after asked number v before = if list_any (same v) asked then Some number else before
+kill_after asked number v before = put_at asked number v before
 
--- what is kept of v after these windows went
-abbrev pub kill_left : List ConId → ConId → Option ℕ → Option ℕ
-kill_left gone v before = if list_any (same v) gone then None else before
+-- the map has the caller of each window of the tree, and no other window
+abbrev pub AreOwners : List (ℕ × ℕ) → TreeValue → Type 0
+AreOwners owners t = (v : ConId) → value_at owners v ≡ owner_of t v
 
 -- v is a window of the tree, or its id is still to be given
 abbrev pub may_come : TreeValue → ConId → Bool
@@ -80,11 +73,12 @@ one_if_some None = 0
 one_if_some (Some window) = 1
 
 -- The new tree has no window that the old one had not but the fresh one, whose id was still to be given: of each id it has
--- no more windows, and of all other ids together no more, but for the fresh one.
+-- no more windows, nor more of any one caller, and of all other ids together no more, but for the fresh one.
 pub record Follows (old new : TreeValue) (fresh : Option (ConId × Buffer)) : Type 0 where
   pub next : old.next_id ≤ new.next_id
   pub fresh_id : (v : ConId) → is_fresh v fresh ≡ true → (old.next_id ≤ v.0) × (v.0 < new.next_id)
   pub fewer : (v : ConId) → is_fresh v fresh ≡ false → windows_at v new ≤ windows_at v old
+  pub owned : (who : ℕ) (v : ConId) → is_fresh v fresh ≡ false → count (owned_at who v) new.nodes ≤ count (owned_at who v) old.nodes
   pub others : (v : ConId) → window_count new + windows_at v old ≤ window_count old + windows_at v new + (if is_fresh v fresh then 0 else one_if_some fresh)
 
 -- ---- how the logic stores it

@@ -1,4 +1,5 @@
 pub mod Act
+pub mod ByWindow
 pub mod DeskValue
 pub mod Frame
 pub mod History

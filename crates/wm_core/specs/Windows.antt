@@ -2,7 +2,9 @@
 use Rattle.std.specs.Prelude.{◌≡◌, ◌≢◌, ℕ, ◌+◌, ◌==◌, nat_lt, Bool, true, false, if◌then◌else◌, List, [], ◌∷◌, ◌++◌, filter, Option, None, Some, is_some}
 use Rattle.std.specs.BTreeMap.{is_at}
 use Rattle.std.specs.Map.{lookup}
+use Rattle.std.specs.Option.{option_or}
 use Rattle.std.specs.Ordering.{nat_cmp}
+use Rattle.wm_base.specs.declared.ids.Buffer.{Buffer}
 use Rattle.wm_base.specs.declared.ids.ConId.{ConId}
 use Rattle.wm_opens.specs.Opens.{windows}
 use Rattle.wm_tree.specs.declared.kind.KindEdit.TheVariants as edits
@@ -15,19 +17,33 @@ use Rattle.wm_tree.specs.Look.{con_kind, has, kind_of}
 use Rattle.wm_tree.specs.Recency.{lists, without_id}
 use Rattle.wm_tree.specs.TreeValue.{TreeValue}
 use Rattle.wm_tree.specs.Words.{detached, edited, settled}
+use Rattle.wm_txn.specs.History.{is_fresh}
 
-abbrev pub is_owned : ℕ → ConKind → Bool
-is_owned who (Split layout last) = false
-is_owned who (Window props owner natural) = owner == who
-is_owned who (Placeholder props swallows) = false
+-- the caller of a window
+abbrev pub kind_owner : ConKind → Option ℕ
+kind_owner (Split layout last) = None
+kind_owner (Window props owner natural) = Some owner
+kind_owner (Placeholder props swallows) = None
 
-abbrev pub owned_by : ℕ → Option ConPart → Bool
-owned_by who None = false
-owned_by who (Some con) = is_owned who con.kind
+abbrev pub part_owner : Option ConPart → Option ℕ
+part_owner None = None
+part_owner (Some con) = kind_owner con.kind
+
+-- the caller of v, where v is an open window
+abbrev pub owner_of : TreeValue → ConId → Option ℕ
+owner_of t v = part_owner (kind_of con_kind v t.nodes)
+
+abbrev pub is_caller : ℕ → Option ℕ → Bool
+is_caller who None = false
+is_caller who (Some owner) = owner == who
+
+-- the caller of v after a step that opened this window, if any, and left this tree
+abbrev pub owner_then : TreeValue → Option (ConId × Buffer) → ConId → Option ℕ → Option ℕ
+owner_then t fresh v before = if is_fresh v fresh then option_or (owner_of t v) before else before
 
 -- v is an open window of the caller
 abbrev pub is_window : TreeValue → ℕ → ConId → Bool
-is_window t who v = owned_by who (kind_of con_kind v t.nodes)
+is_window t who v = is_caller who (owner_of t v)
 
 -- the open windows of the caller, the most recent first
 abbrev pub owned : ℕ → TreeValue → List ConId

@@ -7,7 +7,6 @@ ghost use Rattle.wm_core.specs.History.{ack_said, answer, answer_to, opening_of,
 use crate::desk::Desk;
 use crate::mapping::has_no_pixels;
 use crate::step::Answer;
-use crate::windows::is_window;
 use wm_base::{Buffer, ConId};
 use wm_txn::AckRefusal;
 
@@ -53,7 +52,7 @@ impl Desk {
         ensures plan { self.new.plan ≡ self.old.plan }
         ensures count { self.new.steps ≡ self.old.steps + 1 }
     {
-        if !is_window(&self.tree, who, con) {
+        if !self.is_window(who, con) {
             return self.stay(Answer::NoView);
         }
         let acked = self.txn.ack(con, serial);
@@ -72,7 +71,7 @@ impl Desk {
         ensures plan { self.new.plan ≡ self.old.plan }
         ensures count { self.new.steps ≡ self.old.steps + 1 }
     {
-        if !is_window(&self.tree, who, con) {
+        if !self.is_window(who, con) {
             return self.stay(Answer::NoView);
         }
         if has_no_pixels(buffer.size) {

@@ -12,9 +12,11 @@ ghost use Rattle.wm_tree.specs.Sound as trees;
 ghost use Rattle.wm_tree.specs.Words.{settled};
 ghost use Rattle.wm_txn.specs.History as commits;
 
+use crate::by_window::{forget, renew};
 use crate::counting::closed;
 use crate::frame::painted;
-use crate::kills::{forget, note, noted};
+use crate::kills::noted;
+use crate::owners::with_opened;
 use crate::step::{Answer, Step};
 use std::alloc::Global;
 use std::collections::BTreeMap;
@@ -36,12 +38,14 @@ pub struct Desk {
     pub(crate) txn: Txn,
     pub(crate) stopped: bool,
     pub(crate) kills: BTreeMap<u32, u64>,
+    /// By the id of each open window, the number of its caller.
+    pub(crate) owners: BTreeMap<u32, u32>,
 }
 
 impl Model for Desk {
     ghost use Rattle.std.specs.Prelude.{◌≤◌};
     ghost use Rattle.wm_tree.specs.Sound as trees;
-    ghost use Rattle.wm_core.specs.DeskValue.{DeskValue, desk_code};
+    ghost use Rattle.wm_core.specs.DeskValue.{AreOwners, DeskValue, desk_code};
     ghost use Rattle.wm_txn.specs.Machine.{last_prefix};
 
     ghost Value = { DeskValue };
@@ -50,7 +54,7 @@ impl Model for Desk {
 
     ghost view = { λ d. record { plan = d.plan; steps = d.steps; tree = d.tree; txn = d.txn; stopped = d.stopped; kills = d.kills.entries } };
 
-    ghost invariant = { λ d. (last_prefix d.txn ≤ d.steps) × trees.IsSound d.tree };
+    ghost invariant = { λ d. ((last_prefix d.txn ≤ d.steps) × AreOwners d.owners.entries d.tree) × trees.IsSound d.tree };
 }
 
 impl Desk {
@@ -72,6 +76,7 @@ impl Desk {
             txn,
             stopped: false,
             kills: BTreeMap::new(alloc),
+            owners: BTreeMap::new(alloc),
         })
     }
 
@@ -143,12 +148,12 @@ impl Desk {
     pub(crate) fn finish(&mut self, tree: Tree) -> Result<Answer, NoMemory>
         requires few { self.old.steps < 2 ^ 48 }
         requires sound { trees.IsSound tree }
+        requires follows { Follows self.old.tree tree None }
         ensures answer { IfOk result (λ a. a ≡ Done) }
         ensures stands { (history : History) → (entry : Entry) → Stands self.old history →
             settled tree ≡ tree_after self.old.plan.env.homes self.old.tree entry.who entry.act →
             said self.old.plan.env.homes self.old.tree entry.who entry.act ≡ left self.old.tree (settled tree) None →
             beside self.old.plan.env.homes self.old.tree entry.act ≡ nothing →
-            Follows self.old.tree tree None →
             OnOk result (Stands self.new (entry ∷ history)) }
         ensures plan { self.new.plan ≡ self.old.plan }
         ensures count { OnOk result (self.new.steps ≡ self.old.steps + 1) }
@@ -171,11 +176,11 @@ impl Desk {
     ) -> Result<(), NoMemory>
         requires few { self.old.steps < 2 ^ 48 }
         requires sound { trees.IsSound tree }
+        requires follows { Follows self.old.tree tree opened }
         ensures stands { (history : History) → (entry : Entry) → Stands self.old history →
             tree ≡ tree_after self.old.plan.env.homes self.old.tree entry.who entry.act →
             said self.old.plan.env.homes self.old.tree entry.who entry.act ≡ left self.old.tree tree opened →
             beside self.old.plan.env.homes self.old.tree entry.act ≡ record { stops = stops; asked = asked.now } →
-            Follows self.old.tree tree opened →
             OnOk result (Stands self.new (entry ∷ history)) }
         ensures plan { self.new.plan ≡ self.old.plan }
         ensures count { OnOk result (self.new.steps ≡ self.old.steps + 1) }
@@ -184,12 +189,15 @@ impl Desk {
         let noted = noted(&self.kills, asked, self.steps + 1)?;
         let newest = arrange(self.alloc, &tree)?;
         let gone = closed(self.alloc, &self.tree, &tree, opened)?;
+        let owners = with_opened(&self.owners, &tree, opened)?;
         self.txn.admit(self.steps, newest, opened, &gone)?;
         self.steps += 1;
         self.tree = tree;
         self.stopped = either(self.stopped, stops);
-        note(&mut self.kills, noted);
+        renew(&mut self.kills, noted);
         forget(&mut self.kills, &gone);
+        renew(&mut self.owners, owners);
+        forget(&mut self.owners, &gone);
         Ok(())
     }
 }

@@ -1,6 +1,7 @@
 //! The desk: one history of steps, what each answers, and the frames that are painted.
 #![tactic(auto)]
 
+mod by_window;
 mod client;
 mod counting;
 mod desk;
@@ -11,6 +12,7 @@ mod laws;
 mod look;
 mod mapping;
 mod outputs;
+mod owners;
 mod replies;
 mod running;
 mod screen;

@@ -4,16 +4,17 @@ ghost use Rattle.std.specs.Bool.{OnTrue};
 ghost use Rattle.wm_core.specs.Act.{Close, Gone, Retitle, Urgent};
 ghost use Rattle.wm_core.specs.DeskValue.{judge_of, Stands};
 ghost use Rattle.wm_core.specs.History.{answer_to, History};
-ghost use Rattle.wm_core.specs.Windows.{AreContainers, is_owned, is_window, owned, with_urgent, without_urgent, without_windows};
+ghost use Rattle.wm_core.specs.Windows.{AreContainers, is_window, owned, with_urgent, without_urgent, without_windows};
 ghost use Rattle.wm_tree.specs.Look.{con_kind, has, kind_of};
 ghost use Rattle.wm_tree.specs.Recency.{lists};
 ghost use Rattle.wm_tree.specs.Sound as trees;
 
 use crate::desk::Desk;
+use crate::owners::is_caller;
 use crate::step::Answer;
-use std::alloc::{AllocError, Global};
+use std::alloc::AllocError;
 use wm_base::{ConId, NoMemory, Text};
-use wm_tree::{ConKind, Tree};
+use wm_tree::Tree;
 
 impl Desk {
     /// Closes the caller's window.
@@ -26,7 +27,7 @@ impl Desk {
         ensures count { OnOk result (self.new.steps ≡ self.old.steps + 1) }
         ensures err { OnErr result (self.new ≡ self.old) }
     {
-        if !is_window(&self.tree, who, con) {
+        if !self.is_window(who, con) {
             return Ok(self.stay(Answer::NoView));
         }
         let mut tree = self.tree.copy()?;
@@ -44,7 +45,7 @@ impl Desk {
         ensures count { OnOk result (self.new.steps ≡ self.old.steps + 1) }
         ensures err { OnErr result (self.new ≡ self.old) }
     {
-        let windows = owned(self.alloc, &self.tree, who)?;
+        let windows = self.owned(who)?;
         let mut tree = self.tree.copy()?;
         detach_all(&mut tree, &windows);
         self.finish(tree)
@@ -60,7 +61,7 @@ impl Desk {
         ensures count { OnOk result (self.new.steps ≡ self.old.steps + 1) }
         ensures err { OnErr result (self.new ≡ self.old) }
     {
-        if !is_window(&self.tree, who, con) {
+        if !self.is_window(who, con) {
             return Ok(self.stay(Answer::NoView));
         }
         let mut tree = self.tree.copy()?;
@@ -78,49 +79,36 @@ impl Desk {
         ensures count { OnOk result (self.new.steps ≡ self.old.steps + 1) }
         ensures err { OnErr result (self.new ≡ self.old) }
     {
-        if !is_window(&self.tree, who, con) {
+        if !self.is_window(who, con) {
             return Ok(self.stay(Answer::NoView));
         }
         let mut tree = self.tree.copy()?;
         set_urgent(&mut tree, con, on)?;
         self.finish(tree)
     }
-}
 
-/// Whether this is an open window of the caller.
-pub(crate) fn is_window(tree: &Tree, who: u32, con: ConId) -> bool
-    ensures value { result ≡ is_window tree.now who con }
-    ensures there { OnTrue result ((has con tree.now.nodes ≡ true) × (kind_of con_kind con tree.now.nodes ≢ None)) }
-{
-    match tree.container(con) {
-        Some(part) => is_owned(who, &part.kind),
-        None => false,
+    /// Whether this is an open window of the caller.
+    pub(crate) fn is_window(&self, who: u32, con: ConId) -> bool
+        ensures value { result ≡ is_window self.now.tree who con }
+        ensures there { OnTrue result ((has con self.now.tree.nodes ≡ true) × (kind_of con_kind con self.now.tree.nodes ≢ None)) }
+    {
+        is_caller(&self.owners, who, con)
     }
-}
 
-/// Whether this is a window of the caller.
-fn is_owned(who: u32, kind: &ConKind) -> bool
-    ensures { result ≡ is_owned who kind.now }
-{
-    match kind {
-        ConKind::Window { owner, .. } => *owner == who,
-        ConKind::Split { .. } | ConKind::Placeholder { .. } => false,
-    }
-}
-
-/// The open windows of the caller, the most recent first.
-pub(crate) fn owned(alloc: Global, tree: &Tree, who: u32) -> Result<Vec<ConId>, AllocError>
-    ensures { IfOk result (λ windows. windows.items ≡ owned who tree.now) }
-{
-    let mut windows = Vec::new(alloc);
-    let mut rest = tree.recent_ids();
-    while let [con, after @ ..] = rest {
-        if is_window(tree, who, *con) {
-            windows.push(*con)?;
+    /// The open windows of the caller, the most recent first.
+    pub(crate) fn owned(&self, who: u32) -> Result<Vec<ConId>, AllocError>
+        ensures { IfOk result (λ windows. windows.items ≡ owned who self.now.tree) }
+    {
+        let mut windows = Vec::new(self.alloc);
+        let mut rest = self.tree.recent_ids();
+        while let [con, after @ ..] = rest {
+            if self.is_window(who, *con) {
+                windows.push(*con)?;
+            }
+            rest = after;
         }
-        rest = after;
+        Ok(windows)
     }
-    Ok(windows)
 }
 
 /// Takes the windows out of the tree, those that are there.

@@ -85,7 +85,7 @@ owned_fresh : (who : ℕ) (v : ConId) (n : ℕ) → IsFresh (kinds_at (owned who
 owned_fresh who v n = record { nothing = λ p below none. nothing_by (same p.id v) (owned who p.kind) (owned_none who p.kind none) }
 
 -- no more windows of the caller
-owned_fewer : (who : ℕ) (v : ConId) (t new : TreeValue) → Kept t new → count (kinds_at (owned who) v) new.nodes ≤ count (kinds_at (owned who) v) t.nodes
+pub owned_fewer : (who : ℕ) (v : ConId) (t new : TreeValue) → Kept t new → count (kinds_at (owned who) v) new.nodes ≤ count (kinds_at (owned who) v) t.nodes
 owned_fewer who v t new k = (k.fewer (kinds_at (owned who) v) (kinds_measured (owned who) v (owned_kept who))).fewer (owned_fresh who v t.next_id)
 
 -- ---- looking it up
@@ -122,7 +122,8 @@ seen_at who v (con part kids floats rest) h once =
     let is : one_of v part ≡ 1 = ap (λ b. cond {A = ℕ} b 1 0) h.0 in
     omega (arith, here, is, once, kind_seen who part.kind, owned_tallied who v kids, owned_tallied who v floats, owned_tallied who v rest)
 
-owned_seen : (who : ℕ) (v : ConId) (f : Forest) → tally v f ≤ 1 → count (kinds_at (owned who) v) f ≡ one_if who (only v f)
+-- a window of a caller is counted once
+pub owned_seen : (who : ℕ) (v : ConId) (f : Forest) → tally v f ≤ 1 → count (kinds_at (owned who) v) f ≡ one_if who (only v f)
 owned_seen who v f once = by_test (has v f) refl
   where
     by_test : (b : Bool) → has v f ≡ b → count (kinds_at (owned who) v) f ≡ one_if who (only v f)

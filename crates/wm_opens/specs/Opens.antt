@@ -75,6 +75,10 @@ owned who (Output o) = 0
 owned who (Space s) = 0
 owned who (Con c) = if is_owned_kind who c.kind then 1 else 0
 
+-- one for a window of the caller with the id v
+abbrev pub owned_at : ℕ → ConId → Part → ℕ
+owned_at who v p = if same p.id v then owned who p.kind else 0
+
 abbrev pub is_owned_part : ℕ → Option ConPart → Bool
 is_owned_part who None = false
 is_owned_part who (Some part) = is_owned_kind who part.kind

@@ -8,7 +8,8 @@ use Rattle.wm_tool.specs.Drawing.{drawn_from, picture}
 use Rattle.wm_tool.specs.Output.{after, after_effect, line_step, line_texts, told}
 use Rattle.wm_tool.specs.Refusals.{IsBacked, refusal_at}
 use Rattle.wm_tool.specs.Running.{Backs, Draws, Grows, Holds, Leads}
-use Rattle.wm_tool.proofs.RunLemmas.{begins, line_longer, line_same, made, plays_step, rest_is, stops_step}
+use Rattle.wm_tool.proofs.LineLemmas.{line_longer, line_same, rest_is}
+use Rattle.wm_tool.proofs.RunLemmas.{begins, made, plays_step, stops_step}
 
 -- what leads on leads on where it tells nothing
 quiet : (old new : DeskValue) (step : History → History) (says : History → List ℕ) (before text : List ℕ) → Leads old new step says before text → Leads old new step (λ h. []) [] []

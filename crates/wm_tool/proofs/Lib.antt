@@ -4,6 +4,8 @@ pub mod EndLemmas
 pub mod FieldLemmas
 pub mod FramesLemmas
 pub mod LawLemmas
+pub mod LineLemmas
+pub mod MessageLemmas
 pub mod OrderLemmas
 pub mod PlanLemmas
 pub mod PropertyLemmas

@@ -1,24 +1,16 @@
 -- A desk takes steps one after another, and what they tell is written in pieces.
-use Rattle.std.proofs.Common.{◌≡◌, ◌∙◌, refl, ap, ap₂, sym, subst, ℕ, zero, suc, ◌+◌, ◌-◌, get_or, ◌<◌, ◌≤◌, inl, inr, List, [], ◌∷◌, ◌++◌, Option, None, Some, Result, Ok, Err, length, take, drop, arith, length-append, append_assoc}
+use Rattle.std.proofs.Common.{◌≡◌, ◌∙◌, refl, ap, ap₂, sym, subst, ℕ, zero, suc, ◌+◌, ◌-◌, inl, inr, List, [], ◌∷◌, ◌++◌, Option, None, Some, Result, Ok, Err, length, take, drop, arith, length-append, append_assoc}
 use Rattle.std.specs.Prelude.{OnErr, OnOk}
 use Rattle.std.proofs.lemmas.List.{append-nil, drop_all, take_all, take-append-drop}
-use Rattle.wm_frames.specs.declared.message.Message.{Message}
-use Rattle.wm_base.specs.declared.plan.Border.TheVariants.{Bare}
-use Rattle.wm_layouts.specs.Plan.{IsStandard, default_outputs}
-use Rattle.wm_tree.specs.TreeValue.{TreeValue, opening}
 use Rattle.wm_core.specs.DeskValue.{DeskValue, Stands}
 use Rattle.wm_criteria.specs.Building.{Tells}
-use Rattle.wm_core.specs.History.{History, Start, answer, opening_of}
+use Rattle.wm_core.specs.History.{History}
 use Rattle.wm_ports.specs.Told.{TakesAll, TakesPart}
-use Rattle.wm_tool.specs.declared.line.Deed.{Deed}
-use Rattle.wm_tool.specs.declared.line.Deed.TheVariants as deed
-use Rattle.wm_tool.specs.declared.line.Line.{Line}
 use Rattle.wm_tool.specs.declared.status.Refused.{Refused}
-use Rattle.wm_tool.specs.Ipc.{after_message, entry_by, framed, message_step, message_texts, payload, replied, replies_from, request_of, text_of_request, text_step}
-use Rattle.wm_tool.specs.Output.{act_in, after, after_effect, after_entry, answer_text, deed_step, effect_of, effect_text, line_step, one_if_some, takes, Takes, entry_of, line_texts, out_from, run_entry, start, told}
+use Rattle.wm_tool.specs.Output.{after, takes, entry_of, run_entry, told}
 use Rattle.wm_tool.specs.Refusals.{IsBacked, IsRising, refusal_at, verdict_of}
 use Rattle.wm_tool.specs.Running.{Backs, Grows, Holds, IsBackedTo, Leads, Plays, Runs, Stops, Writes, fresh}
-use Rattle.wm_core.specs.Act.{Act, Run, act_of}
+use Rattle.wm_core.specs.Act.{Run, act_of}
 use Rattle.wm_core.specs.declared.step.Step.TheVariants as steps_of
 use Rattle.wm_criteria.specs.declared.prepared.Prepared.{Prepared}
 use Rattle.wm_criteria.specs.Verdict.{IsVerdict}
@@ -215,13 +207,8 @@ module _ (old now : Option (List ℕ)) (desk : DeskValue) (before later_refused 
           left = ap (λ n. drop n texts) moved ∙ (drop_more desk.steps (length steps) texts ∙ (ap (drop (length steps)) p.left ∙ drop_front steps ahead));
         }
 
-abbrev opening_with : TreeValue → List (List ℕ × List ℕ) → Start
-opening_with t homes = record { opened = t; homes = homes; windows = [] }
-
-opens : (desk : DeskValue) → IsStandard desk.plan → start ≡ opening_of desk.plan
-opens desk plan = sym (ap₂ (λ t h. opening_with t h) (ap (λ outputs. opening outputs desk.plan.border desk.plan.inner desk.plan.outer) plan.outputs ∙ (ap (λ border. opening default_outputs border desk.plan.inner desk.plan.outer) plan.border ∙ ap₂ (λ inner outer. opening default_outputs Bare inner outer) plan.inner plan.outer)) plan.homes)
-
-run_same : (who : ℕ) (rs more : List Refused) (h : History) (text : List ℕ) → IsRising (suc (length h)) more → run_entry who (rs ++ more) h text ≡ run_entry who rs h text
+-- a text is run as before, whatever is refused behind it
+pub run_same : (who : ℕ) (rs more : List Refused) (h : History) (text : List ℕ) → IsRising (suc (length h)) more → run_entry who (rs ++ more) h text ≡ run_entry who rs h text
 run_same who rs more h text rising = rw (verdict_same (length h) rs more text rising) refl
 
 -- ---- a text that is run
@@ -243,128 +230,3 @@ on_ok (Err e) p = tt
 pub ok_weaker : {A : Type 0} {E : Type 0} {P Q : Type 0} (r : Result A E) → OnOk r P → (P → Q) → OnOk r Q
 ok_weaker (Ok x) p weaker = weaker p
 ok_weaker (Err e) p weaker = tt
-
--- ---- lines
-
-deed_longer : (who : ℕ) (d : Deed) (rs : List Refused) (h : History) → length (after_effect (effect_of who rs h d) h) ≡ length h + length (deed_step d)
-deed_longer who (deed.Run text) rs h = omega arith
-deed_longer who deed.Paint rs h = omega arith
-deed_longer who deed.Marks rs h = omega arith
-deed_longer who (deed.Wants serial kill) rs h = omega arith
-deed_longer who other rs h = omega arith
-
-pub line_longer : (l : Line) (rs : List Refused) (h : History) → length (after l rs h) ≡ length h + length (line_step l)
-line_longer l rs h = deed_longer l.who l.deed rs h
-
-deed_same : (who : ℕ) (d : Deed) (rs more : List Refused) (h : History) → IsRising (length (after_effect (effect_of who rs h d) h)) more → effect_of who (rs ++ more) h d ≡ effect_of who rs h d
-deed_same who (deed.Run text) rs more h rising = ap (λ e. Takes e) (run_same who rs more h text rising)
-deed_same who deed.Paint rs more h rising = refl
-deed_same who deed.Marks rs more h rising = refl
-deed_same who (deed.Wants serial kill) rs more h rising = refl
-deed_same who other rs more h rising = refl
-
-pub line_same : (l : Line) (rs more : List Refused) (h : History) → IsRising (length (after l rs h)) more → effect_of l.who (rs ++ more) h l.deed ≡ effect_of l.who rs h l.deed
-line_same l rs more h rising = deed_same l.who l.deed rs more h rising
-
--- a line that takes a step and runs no text
-step_effect : (who : ℕ) (d : Deed) (act : Act) → act_in d ≡ Some act → (rs : List Refused) (h : History) → effect_of who rs h d ≡ Takes (entry_of who act)
-step_effect who (deed.Run text) act e rs h = cc
-step_effect who deed.Paint act e rs h = cc
-step_effect who deed.Marks act e rs h = cc
-step_effect who (deed.Wants serial kill) act e rs h = cc
-step_effect who other act e rs h = ap (takes who) e
-
-pub step_count : (d : Deed) (act : Act) → act_in d ≡ Some act → deed_step d ≡ None ∷ []
-step_count (deed.Run text) act e = cc
-step_count other act e = ap one_if_some e
-
-pub step_leads : (start : Start) (old new : DeskValue) (l : Line) (act : Act) (rs : List Refused) (before text : List ℕ) → act_in l.deed ≡ Some act
-    → Leads old new (λ h. entry_of l.who act ∷ h) (λ h. answer_text (answer start h (entry_of l.who act))) before text → Leads old new (after l rs) (told start l rs) before text
-step_leads start old new l act rs before text e leads =
-    λ history stands. subst (λ d. Stands new (after_effect d history) × (text ≡ before ++ effect_text start history d)) (sym (step_effect l.who l.deed act e rs history)) (leads history stands)
-
--- what is said of what is written from an opening tree, of the same tree
-pub from_start : (P : List ℕ → Type 0) (a b : Start) (lines : List Line) (refused : List Refused) → a ≡ b → P (out_from a lines refused []) → P (out_from b lines refused [])
-from_start P a b lines refused same p = subst (λ start. P (out_from start lines refused [])) same p
-
-pub none_left : (rest : List Line) → length rest < 1 → rest ≡ []
-none_left [] few = refl
-none_left (l ∷ rest) few = absurd (omega (arith, few))
-
-one_deed : (d : Deed) → length (deed_step d) ≤ 1
-one_deed (deed.Run text) = omega arith
-one_deed other = omega arith
-
-pub one_step : (l : Line) → length (line_step l) ≤ 1
-one_step l = one_deed l.deed
-
-pub rest_is : (g d : Line) (rest : List Line) → 1 ≤ length rest → g ≡ get_or rest 0 d → rest ≡ g ∷ take (length rest - 1) (drop 1 rest)
-rest_is g d [] some is = absurd (omega arith)
-rest_is g d (l ∷ rest) some is = ap (λ x. x ∷ rest) (sym is) ∙ ap (λ xs. g ∷ xs) (sym (take_all (suc (length rest) - 1) rest (omega arith)))
-
-module _ (start : Start) (old now : Option (List ℕ)) (desk : DeskValue) (before after_refused : List Refused) (piece : List ℕ) (whole : List Refused → List ℕ) (texts : List (Option (List ℕ)))
-    (count c1 c2 : ℕ) (told_first t1 t2 : Option (List (List ℕ))) (g d : Line) (rest : List Line) (some : 1 ≤ length rest) (is : g ≡ get_or rest 0 d)
-    (p : Plays old now desk before piece (out_from start rest) whole texts (line_texts rest) count c1 told_first t1)
-    (grown : Grows desk.steps (line_step g) before after_refused) (backs : Backs desk.steps (line_step g) before after_refused c1 c2 t1 t2)
-  where
-    abbrev pub others : List Line
-    others = take (length rest - 1) (drop 1 rest)
-
-    first_line : Plays old now desk before piece (out_from start (g ∷ others)) whole texts (line_step g ++ line_texts others) count c1 told_first t1
-    first_line = subst (λ ls. Plays old now desk before piece (out_from start ls) whole texts (line_texts ls) count c1 told_first t1) (rest_is g d rest some is) p
-
-    pub stops_line : Stops old now whole after_refused texts count c2 told_first t2
-    stops_line =
-        stops_step old now desk before after_refused piece (after g) (told start g) (out_from start (g ∷ others)) (out_from start others) whole texts (line_step g) (line_texts others) count c1 c2 told_first t1 t2
-        (line_longer g) first_line grown backs
-
-    pub plays_line : (next : DeskValue) (text : List ℕ) → start ≡ opening_of desk.plan
-        → (refusal_at desk.steps before ≡ None → Leads desk next (after g after_refused) (told (opening_of desk.plan) g after_refused) piece text)
-        → next.steps ≡ desk.steps + length (line_step g) → Plays old now next after_refused text (out_from start others) whole texts (line_texts others) count c2 told_first t2
-    plays_line next text plan leads moved =
-        plays_step old now desk before after_refused piece (after g) (told start g) (out_from start (g ∷ others)) (out_from start others) whole texts (line_step g) (line_texts others) count c1 c2 told_first t1 t2
-        (line_longer g) first_line grown backs
-        next text (λ rs h. refl)
-        (λ rs more h rising. let same = line_same g rs more h rising in (ap (λ d. after_effect d h) same, ap (effect_text start h) same))
-        (subst (λ tree. refusal_at desk.steps before ≡ None → Leads desk next (after g after_refused) (told tree g after_refused) piece text) (sym plan) leads)
-        moved
-
--- ---- messages
-
-by_text_longer : (o : Option (List ℕ)) (rs : List Refused) (h : History) → length (after_entry (entry_by rs h o) h) ≡ length h + length (text_step o)
-by_text_longer None rs h = omega arith
-by_text_longer (Some text) rs h = omega arith
-
-pub one_text : (o : Option (List ℕ)) → length (text_step o) ≤ 1
-one_text None = omega arith
-one_text (Some text) = omega arith
-
-by_text_same : (o : Option (List ℕ)) (rs more : List Refused) (h : History) → IsRising (length (after_entry (entry_by rs h o) h)) more → entry_by (rs ++ more) h o ≡ entry_by rs h o
-by_text_same None rs more h rising = refl
-by_text_same (Some text) rs more h rising = ap (λ e. Some e) (run_same 0 rs more h text rising)
-
-module _ (old now : Option (List ℕ)) (desk : DeskValue) (before after_refused : List Refused) (piece : List ℕ) (whole : List Refused → List ℕ) (texts : List (Option (List ℕ)))
-    (count c1 c2 : ℕ) (told_first t1 t2 : Option (List (List ℕ))) (m : Message) (queue others : List Message) (is : queue ≡ m ∷ others)
-    (p : Plays old now desk before piece (replies_from queue) whole texts (message_texts queue) count c1 told_first t1)
-    (grown : Grows desk.steps (message_step m) before after_refused) (backs : Backs desk.steps (message_step m) before after_refused c1 c2 t1 t2)
-  where
-    first_message : Plays old now desk before piece (replies_from (m ∷ others)) whole texts (message_step m ++ message_texts others) count c1 told_first t1
-    first_message = subst (λ ms. Plays old now desk before piece (replies_from ms) whole texts (message_texts ms) count c1 told_first t1) is p
-
-    pub stops_message : Stops old now whole after_refused texts count c2 told_first t2
-    stops_message =
-        stops_step old now desk before after_refused piece (after_message m) (replied start m) (replies_from (m ∷ others)) (replies_from others) whole texts (message_step m) (message_texts others) count c1 c2 told_first t1 t2
-        (by_text_longer (text_of_request (request_of m))) first_message grown backs
-
-    pub plays_message : (next : DeskValue) (text : List ℕ) → IsStandard desk.plan
-        → (refusal_at desk.steps before ≡ None → Leads desk next (after_message m after_refused) (replied (opening_of desk.plan) m after_refused) piece text)
-        → next.steps ≡ desk.steps + length (message_step m) → Plays old now next after_refused text (replies_from others) whole texts (message_texts others) count c2 told_first t2
-    plays_message next text plan leads moved =
-        plays_step old now desk before after_refused piece (after_message m) (replied start m) (replies_from (m ∷ others)) (replies_from others) whole texts (message_step m) (message_texts others) count c1 c2 told_first t1 t2
-        (by_text_longer (text_of_request (request_of m))) first_message grown backs
-        next text (λ rs h. refl)
-        (λ rs more h rising.
-        let same = by_text_same (text_of_request (request_of m)) rs more h rising in
-        (ap (λ e. after_entry e h) same, ap (λ e. framed m.kind (payload start h (request_of m) e)) same))
-        (subst (λ tree. refusal_at desk.steps before ≡ None → Leads desk next (after_message m after_refused) (replied tree m after_refused) piece text) (sym (opens desk plan)) leads)
-        moved

@@ -2,6 +2,7 @@
 use crate::client_tests::{is_painted, tells};
 use crate::line_tests::replayed;
 use std::alloc::Global;
+use std::process::Abort;
 use std::test::Fail;
 
 /// The line of replies in which an empty text stands for success.
@@ -31,20 +32,40 @@ pub fn is_answered(alloc: Global, lines: &str, text: &str, errors: &[&str]) -> R
     Ok(ended == 0 && written.ends_with(line.as_bytes()))
 }
 
+/// That each text of three commands, run behind these lines, has these errors, none where a text is empty.
+pub fn expect_answers(
+    rt: &impl Abort,
+    alloc: Global,
+    lines: &str,
+    cases: &[(&str, &str, &str, &str)],
+) -> Result<(), Fail> {
+    for (text, first, second, third) in cases {
+        let answered = is_answered(alloc, lines, text, &[*first, *second, *third])?;
+        assert!(rt; answered, "{text}");
+    }
+    Ok(())
+}
+
 #[test]
 fn texts_on_an_empty_workspace(rt: HostRuntime) -> Result<(), Fail> {
     let none = "nothing in that direction";
     let empty = "the focus is a workspace";
     let cases = [
-        ("focus left, focus parent, focus child", none),
-        ("move up, mark a, swap with con_id 3", empty),
-        ("split v, layout tabbed, layout toggle", ""),
+        (
+            "focus left, focus parent, focus child",
+            none,
+            none,
+            none,
+        ),
+        (
+            "move up, mark a, swap with con_id 3",
+            empty,
+            empty,
+            empty,
+        ),
+        ("split v, layout tabbed, layout toggle", "", "", ""),
     ];
-    for (text, error) in cases {
-        let answered = is_answered(rt.alloc(), "", text, &[error, error, error])?;
-        assert!(rt; answered, "{text}");
-    }
-    Ok(())
+    expect_answers(&rt, rt.alloc(), "", &cases)
 }
 
 #[test]
@@ -76,11 +97,7 @@ fn texts_on_three_windows(rt: HostRuntime) -> Result<(), Fail> {
         ("split v; focus parent; focus parent", "", "", ""),
     ];
     let lines = "map 000001 9x9\nmap 000002 9x9\nmap 000003 9x9\n";
-    for (text, first, second, third) in cases {
-        let answered = is_answered(rt.alloc(), lines, text, &[first, second, third])?;
-        assert!(rt; answered, "{text}");
-    }
-    Ok(())
+    expect_answers(&rt, rt.alloc(), lines, &cases)
 }
 
 #[test]
@@ -175,16 +192,7 @@ fn texts_on_workspaces(rt: HostRuntime) -> Result<(), Fail> {
             "",
         ),
     ];
-    for (text, first, second, third) in cases {
-        let answered = is_answered(
-            rt.alloc(),
-            "map 000001 9x9\n",
-            text,
-            &[first, second, third],
-        )?;
-        assert!(rt; answered, "{text}");
-    }
-    Ok(())
+    expect_answers(&rt, rt.alloc(), "map 000001 9x9\n", &cases)
 }
 
 #[test]

@@ -1,6 +1,6 @@
 //! Runs of the tool over commands on floating windows and the scratchpad: their replies, and the frames that they leave.
 use crate::client_tests::{is_painted, tells};
-use crate::command_tests::is_answered;
+use crate::command_tests::expect_answers;
 use std::test::Fail;
 
 /// Two windows, of which the second one is focused.
@@ -43,11 +43,7 @@ fn texts_on_floating_windows(rt: HostRuntime) -> Result<(), Fail> {
             "",
         ),
     ];
-    for (text, first, second, third) in cases {
-        let answered = is_answered(rt.alloc(), LINES, text, &[first, second, third])?;
-        assert!(rt; answered, "{text}");
-    }
-    Ok(())
+    expect_answers(&rt, rt.alloc(), LINES, &cases)
 }
 
 #[test]
@@ -86,11 +82,7 @@ fn texts_on_what_fills_and_stays(rt: HostRuntime) -> Result<(), Fail> {
             "",
         ),
     ];
-    for (text, first, second, third) in cases {
-        let answered = is_answered(rt.alloc(), LINES, text, &[first, second, third])?;
-        assert!(rt; answered, "{text}");
-    }
-    Ok(())
+    expect_answers(&rt, rt.alloc(), LINES, &cases)
 }
 
 #[test]
@@ -131,11 +123,7 @@ fn texts_on_floating_windows_in_a_direction(rt: HostRuntime) -> Result<(), Fail>
             hidden,
         ),
     ];
-    for (text, first, second, third) in cases {
-        let answered = is_answered(rt.alloc(), LINES, text, &[first, second, third])?;
-        assert!(rt; answered, "{text}");
-    }
-    Ok(())
+    expect_answers(&rt, rt.alloc(), LINES, &cases)
 }
 
 #[test]

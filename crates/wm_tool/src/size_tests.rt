@@ -1,25 +1,10 @@
 //! Runs of the tool over commands on sizes and looks: their replies, and the frames that they leave.
 use crate::client_tests::is_painted;
-use crate::command_tests::is_answered;
-use std::alloc::Global;
-use std::process::Abort;
+use crate::command_tests::expect_answers;
 use std::test::Fail;
 
 /// Two windows side by side, of which the second one is focused.
 const LINES: &str = "map 000001 640x480\nmap 000002 9x9\n";
-
-/// That each text of three commands has these errors, none where a text is empty.
-fn expect_answers(
-    rt: &impl Abort,
-    alloc: Global,
-    cases: &[(&str, &str, &str, &str)],
-) -> Result<(), Fail> {
-    for (text, first, second, third) in cases {
-        let answered = is_answered(alloc, LINES, text, &[*first, *second, *third])?;
-        assert!(rt; answered, "{text}");
-    }
-    Ok(())
-}
 
 #[test]
 fn texts_on_sizes(rt: HostRuntime) -> Result<(), Fail> {
@@ -65,7 +50,7 @@ fn texts_on_sizes(rt: HostRuntime) -> Result<(), Fail> {
             "",
         ),
     ];
-    expect_answers(&rt, rt.alloc(), &cases)
+    expect_answers(&rt, rt.alloc(), LINES, &cases)
 }
 
 #[test]
@@ -97,7 +82,7 @@ fn texts_on_looks(rt: HostRuntime) -> Result<(), Fail> {
             "",
         ),
     ];
-    expect_answers(&rt, rt.alloc(), &cases)
+    expect_answers(&rt, rt.alloc(), LINES, &cases)
 }
 
 #[test]

@@ -1,5 +1,5 @@
 //! Runs of the tool over commands on workspaces of several outputs: their replies, and the frames that they leave.
-use crate::command_tests::is_answered;
+use crate::command_tests::{expect_answers, is_answered};
 use crate::line_tests::replayed;
 use std::alloc::Global;
 use std::test::Fail;
@@ -31,11 +31,7 @@ fn texts_that_focus_outputs(rt: HostRuntime) -> Result<(), Fail> {
             none,
         ),
     ];
-    for (text, first, second, third) in cases {
-        let answered = is_answered(rt.alloc(), PLACES, text, &[first, second, third])?;
-        assert!(rt; answered, "{text}");
-    }
-    Ok(())
+    expect_answers(&rt, rt.alloc(), PLACES, &cases)
 }
 
 #[test]
@@ -67,11 +63,7 @@ fn texts_that_move_to_outputs(rt: HostRuntime) -> Result<(), Fail> {
             "",
         ),
     ];
-    for (text, first, second, third) in cases {
-        let answered = is_answered(rt.alloc(), PLACES, text, &[first, second, third])?;
-        assert!(rt; answered, "{text}");
-    }
-    Ok(())
+    expect_answers(&rt, rt.alloc(), PLACES, &cases)
 }
 
 #[test]
@@ -110,11 +102,7 @@ fn texts_on_three_workspaces(rt: HostRuntime) -> Result<(), Fail> {
             "that name is taken",
         ),
     ];
-    for (text, first, second, third) in cases {
-        let answered = is_answered(rt.alloc(), PLACES, text, &[first, second, third])?;
-        assert!(rt; answered, "{text}");
-    }
-    Ok(())
+    expect_answers(&rt, rt.alloc(), PLACES, &cases)
 }
 
 #[test]

@@ -6,7 +6,8 @@ use Rattle.wm_tool.specs.Output.{line_texts}
 use Rattle.wm_tool.specs.Running.{Draws}
 use Rattle.wm_tool.specs.Script.{IsFitLine}
 use Rattle.wm_tool.proofs.DrawLemmas.{draws_line, stops_line}
-use Rattle.wm_tool.proofs.RunLemmas.{none_left, on_err, one_step}
+use Rattle.wm_tool.proofs.LineLemmas.{none_left, one_step}
+use Rattle.wm_tool.proofs.RunLemmas.{on_err}
 use Rattle.wm_tool.proofs.drawing.play_lines.Goals as goal
 
 pub returns-in_err-run_line-clause-part : goal.returns-in_err-run_line-clause-part

@@ -6,7 +6,8 @@ use Rattle.wm_core.specs.History.{opening_of}
 use Rattle.wm_ports.specs.Told.{TakesAll, TakesPart}
 use Rattle.wm_tool.specs.Ipc.{after_message, message_texts, replied, replies_from, request_of, text_of_request}
 use Rattle.wm_tool.specs.Running.{Leads, Plays}
-use Rattle.wm_tool.proofs.RunLemmas.{fails, on_err, one_text, plays_message, stops_message, writes, writes_all}
+use Rattle.wm_tool.proofs.MessageLemmas.{one_text, plays_message, stops_message}
+use Rattle.wm_tool.proofs.RunLemmas.{fails, on_err, writes, writes_all}
 use Rattle.wm_tool.proofs.ipc.answer_queue.Goals as goal
 
 pub returns-in_err-answer_message-clause-part : goal.returns-in_err-answer_message-clause-part

@@ -4,7 +4,8 @@ use Rattle.wm_ports.specs.Told.{TakesAll, TakesPart}
 use Rattle.wm_tool.specs.Output.{line_texts, out_from}
 use Rattle.wm_tool.specs.declared.status.Refused.{Refused}
 use Rattle.wm_tool.specs.Running.{Plays}
-use Rattle.wm_tool.proofs.RunLemmas.{begins, ends, fails, from_start, on_err}
+use Rattle.wm_tool.proofs.LineLemmas.{from_start}
+use Rattle.wm_tool.proofs.RunLemmas.{begins, ends, fails, on_err}
 use Rattle.wm_tool.proofs.replay.replay.Goals as goal
 
 pub returns-in_err-run_lines-clause-part : goal.returns-in_err-run_lines-clause-part

@@ -5,7 +5,8 @@ use Rattle.wm_core.specs.Act.{act_of}
 use Rattle.wm_core.specs.History.{opening_of}
 use Rattle.wm_tool.specs.Running.{Backs}
 use Rattle.wm_tool.specs.Output.{act_in, deed_step, line_step}
-use Rattle.wm_tool.proofs.RunLemmas.{ok_weaker, step_count, step_leads, unchanged}
+use Rattle.wm_tool.proofs.LineLemmas.{step_count, step_leads}
+use Rattle.wm_tool.proofs.RunLemmas.{ok_weaker, unchanged}
 use Rattle.wm_tool.proofs.replay.run_line.Goals as goal
 
 pub returns-in_err-answer-in-Run-clause-backs : goal.returns-in_err-answer-in-Run-clause-backs

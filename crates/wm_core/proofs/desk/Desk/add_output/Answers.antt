@@ -1,4 +1,4 @@
-use Rattle.std.proofs.Common.{◌≡◌, true, false, is_some, Some, None, ap, refl, subst, sym, ◌∙◌}
+use Rattle.std.proofs.Common.{◌≡◌, true, false, is_some, Some, None, ap, refl, sym, ◌∙◌}
 use Rattle.wm_layouts.specs.Plan.{is_fit_rect}
 use Rattle.wm_spaces.specs.Coming.{output_added_tree}
 use Rattle.wm_spaces.specs.Names.{output_named}
@@ -7,9 +7,9 @@ use Rattle.wm_tree.specs.Outputs.{passed_by_output}
 use Rattle.wm_tree.specs.TreeValue.{TreeValue}
 use Rattle.wm_tree.specs.Words.{settled}
 use Rattle.wm_core.specs.Act.{OutputAdd}
-use Rattle.wm_core.specs.DeskValue.{DeskValue, Follows}
+use Rattle.wm_core.specs.DeskValue.{DeskValue}
 use Rattle.wm_core.specs.History.{left}
-use Rattle.wm_core.proofs.FollowLemmas.{follows_kept}
+use Rattle.wm_core.proofs.FollowLemmas.{follows_made}
 use Rattle.wm_core.proofs.StepLemmas.{has_limit, has_room, is_added, never_taken, not_added, says_added, says_not_added}
 use Rattle.wm_core.proofs.desk.Desk.add_output.Goals as goal
 
@@ -46,7 +46,6 @@ returns-in-Ok-clause-stands c = λ history s.
     (ap settled made ∙ is_added c.args.plan.now t free fit room)
     (says_added c.args.plan.now t free fit room ∙ ap (λ z. left t (settled z) None) (sym made))
     refl
-    (subst (λ z. Follows t z None) (sym made) (follows_kept t (output_added_tree c.args.plan.now t) (kept_output_added c.args.plan.now t)))
 
 -- no room, so nothing changes
 pub returns-in-Err-Full-clause-stands : goal.returns-in-Err-Full-clause-stands
@@ -68,3 +67,10 @@ unreachable-requires c =
     let free : is_some (output_named c.args.plan.now.name c.in_ok-tree.tree) ≡ false =
     sym (c.if-is_some.ensures ∙ ap is_some (c.in_ok-output_named.ensures ∙ ap (output_named c.args.plan.now.name) (sym c.in_ok-tree.ensures))) in
     never_taken c.args.plan.now c.in_ok-tree.tree free (rw c.in-Err-NameTaken.field-0-is at c.in-Err-NameTaken.ensures.cause)
+
+-- an output that comes opens no window
+pub finish-requires-clause-follows : goal.finish-requires-clause-follows
+finish-requires-clause-follows c =
+    let t = c.args.self.now.tree in
+    let made = c.in-Ok.ensures.tree ∙ ap (output_added_tree c.args.plan.now) (c.in_ok-tree.ensures ∙ ap (λ (d : DeskValue). d.tree) c.self.view_is) in
+    follows_made t (output_added_tree c.args.plan.now t) c.output_added.new.t made (kept_output_added c.args.plan.now t)

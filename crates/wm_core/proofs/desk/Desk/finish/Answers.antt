@@ -6,9 +6,13 @@ use Rattle.wm_core.specs.History.{left}
 use Rattle.wm_core.proofs.FollowLemmas.{follows_then}
 use Rattle.wm_core.proofs.desk.Desk.finish.Goals as goal
 
-pub returns-clause-stands : goal.returns-clause-stands
-returns-clause-stands c = λ history entry s after says ends follows.
+-- settling opens no window
+pub commit-requires-clause-follows : goal.commit-requires-clause-follows
+commit-requires-clause-follows c =
     let t = c.args.self.now.tree in
+    subst (λ z. Follows t z None) (sym c.settle.ensures.tree) (follows_then t c.args.tree (settled c.args.tree) None c.requires.follows (kept_settled c.args.tree))
+
+pub returns-clause-stands : goal.returns-clause-stands
+returns-clause-stands c = λ history entry s after says ends.
     let made = c.settle.ensures.tree in
-    c.in_ok-commit.ensures.stands history entry s (made ∙ after) (says ∙ ap (λ z. left t z None) (sym made)) ends
-    (subst (λ z. Follows t z None) (sym made) (follows_then t c.args.tree (settled c.args.tree) None follows (kept_settled c.args.tree)))
+    c.in_ok-commit.ensures.stands history entry s (made ∙ after) (says ∙ ap (λ z. left c.args.self.now.tree z None) (sym made)) ends

@@ -1,19 +1,20 @@
 use Rattle.std.proofs.Common.{None, ap, refl, subst, sym, ◌∙◌}
 use Rattle.wm_tree.specs.Words.{settled}
 use Rattle.wm_core.specs.Act.{Gone}
-use Rattle.wm_core.specs.DeskValue.{DeskValue, Follows}
+use Rattle.wm_core.specs.DeskValue.{DeskValue}
 use Rattle.wm_core.specs.History.{left}
 use Rattle.wm_core.specs.Windows.{AreContainers, owned, without_windows}
-use Rattle.wm_core.proofs.FollowLemmas.{follows_kept}
+use Rattle.wm_core.proofs.FollowLemmas.{follows_made}
 use Rattle.wm_core.proofs.GoneLemmas.{kept_without, owned_containers}
 use Rattle.wm_core.proofs.desk.Desk.gone.Goals as goal
 
 -- the windows of the caller are containers
 pub detach_all-requires-clause-containers : goal.detach_all-requires-clause-containers
 detach_all-requires-clause-containers c =
-    let t = c.self.inside.tree in
+    let t = c.args.self.now.tree in
+    let same = c.in_ok-tree.ensures ∙ ap (λ (d : DeskValue). d.tree) c.self.view_is in
     subst (λ l. AreContainers l c.in_ok-tree.tree) (sym (c.deref.ensures.value ∙ c.in_ok-windows.ensures))
-    (subst (AreContainers (owned c.args.who t)) (sym c.in_ok-tree.ensures) (owned_containers c.args.who t))
+    (subst (AreContainers (owned c.args.who t)) (sym same) (owned_containers c.args.who t))
 
 -- they are taken out
 pub returns-clause-stands : goal.returns-clause-stands
@@ -21,10 +22,19 @@ returns-clause-stands c = λ history s.
     let t = c.args.self.now.tree in
     let windows = owned c.args.who t in
     let seen = ap (λ (d : DeskValue). d.tree) c.self.view_is in
-    let taken = c.deref.ensures.value ∙ (c.in_ok-windows.ensures ∙ ap (owned c.args.who) seen) in
+    let taken = c.deref.ensures.value ∙ c.in_ok-windows.ensures in
     let made = c.detach_all.ensures.tree ∙ (ap (λ l. without_windows l c.in_ok-tree.tree) taken ∙ ap (without_windows windows) (c.in_ok-tree.ensures ∙ seen)) in
     c.finish.ensures.stands history (record { who = c.args.who; act = Gone }) s
     (ap settled made)
     (ap (λ z. left t (settled z) None) (sym made))
     refl
-    (subst (λ z. Follows t z None) (sym made) (follows_kept t (without_windows windows t) (kept_without windows t)))
+
+-- and no other one comes
+pub finish-requires-clause-follows : goal.finish-requires-clause-follows
+finish-requires-clause-follows c =
+    let t = c.args.self.now.tree in
+    let windows = owned c.args.who t in
+    let seen = ap (λ (d : DeskValue). d.tree) c.self.view_is in
+    let taken = c.deref.ensures.value ∙ c.in_ok-windows.ensures in
+    let made = c.detach_all.ensures.tree ∙ (ap (λ l. without_windows l c.in_ok-tree.tree) taken ∙ ap (without_windows windows) (c.in_ok-tree.ensures ∙ seen)) in
+    follows_made t (without_windows windows t) c.detach_all.new.tree made (kept_without windows t)

@@ -1,14 +1,11 @@
 use Rattle.std.proofs.Common.{ap, ◌∙◌}
-use Rattle.wm_core.specs.DeskValue.{DeskValue}
-use Rattle.wm_core.specs.Windows.{owned_in_order}
 use Rattle.wm_core.specs.declared.look.View.TheVariants as view
 use Rattle.wm_core.proofs.StandsLemmas.{wants_seen}
 use Rattle.wm_core.proofs.desk.Desk.look.Goals as goal
 
 pub returns-in_ok-found-in-Wants : goal.returns-in_ok-found-in-Wants
 returns-in_ok-found-in-Wants c = λ history s.
-    let seen = ap (λ (d : DeskValue). d.tree) c.self.view_is in
     let told =
     wants_seen c.args.self.now history s c.args.who c.in-Wants.serial c.in-Wants.kill c.deref.result.now c.in_ok-found-in-Wants.found.items
-    (c.deref.ensures.value ∙ (c.in_ok-windows-in-Wants.ensures ∙ ap (owned_in_order c.args.who) seen)) c.in_ok-found-in-Wants.ensures in
+    (c.deref.ensures.value ∙ c.in_ok-windows-in-Wants.ensures) c.in_ok-found-in-Wants.ensures in
     rw c.in-Wants.is (ap (λ z. view.Wants z) (c.of-in-Wants.ensures ∙ told))

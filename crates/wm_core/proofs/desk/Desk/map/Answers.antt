@@ -68,9 +68,18 @@ returns-clause-stands c = λ history s.
     mapped_via t c.in_ok-tree.tree c.attach.new.self c.raise_newcomer.new.tree c.settle.new.self c.newcomer_place.result c.in-Ok.id c.args.who c.args.props.now _ c.args.buffer.size same c.newcomer_place.ensures.place c.in-Ok.ensures.id c.in_ok-copy_props.ensures c.in-Ok.ensures.ok raised_tree c.settle.ensures.tree in
     let fresh : Option (ConId × Buffer) = Some (c.in-Ok.id, c.args.buffer) in
     let is_fresh : Some (id t.next_id, c.args.buffer) ≡ fresh = ap (λ i. Some (i, c.args.buffer)) (sym number) in
-    let follows = follows_window t c.args.who c.args.props.now c.args.buffer in
     c.in_ok-commit.ensures.stands history (record { who = c.args.who; act = Map c.args.props.now c.args.buffer }) s
     (made ∙ rw (pixels, room) refl)
     (rw (pixels, room) (ap₂ (left t) (sym made) is_fresh))
     refl
-    (subst (λ z. Follows t c.settle.new.self z) is_fresh (subst (λ z. Follows t z (Some (id t.next_id, c.args.buffer))) (sym made) follows))
+
+-- no other window comes
+pub commit-requires-clause-follows : goal.commit-requires-clause-follows
+commit-requires-clause-follows c =
+    let t = c.args.self.now.tree in
+    let same : c.in_ok-tree.tree ≡ t = c.in_ok-tree.ensures ∙ ap (λ (d : DeskValue). d.tree) c.self.view_is in
+    let number : c.in-Ok.id ≡ id t.next_id = c.in-Ok.ensures.id ∙ ap (λ (z : TreeValue). id z.next_id) same in
+    let made : c.settle.new.self ≡ mapped t c.args.who c.args.props.now c.args.buffer.size =
+    mapped_via t c.in_ok-tree.tree c.attach.new.self c.raise_newcomer.new.tree c.settle.new.self c.newcomer_place.result c.in-Ok.id c.args.who c.args.props.now _ c.args.buffer.size same c.newcomer_place.ensures.place c.in-Ok.ensures.id c.in_ok-copy_props.ensures c.in-Ok.ensures.ok c.raise_newcomer.ensures.tree c.settle.ensures.tree in
+    subst (λ z. Follows t c.settle.new.self z) (ap (λ i. Some (i, c.args.buffer)) (sym number))
+    (subst (λ z. Follows t z (Some (id t.next_id, c.args.buffer))) (sym made) (follows_window t c.args.who c.args.props.now c.args.buffer))

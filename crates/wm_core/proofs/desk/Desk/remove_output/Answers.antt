@@ -1,11 +1,11 @@
-use Rattle.std.proofs.Common.{◌≡◌, None, ap, refl, subst, sym, ◌∙◌}
+use Rattle.std.proofs.Common.{◌≡◌, None, ap, refl, sym, ◌∙◌}
 use Rattle.wm_core.specs.Act.{OutputRemove}
 use Rattle.wm_opens.proofs.SpaceLemmas.{kept_output_removed}
 use Rattle.wm_spaces.specs.Coming.{output_removed_refusal, output_removed_tree}
 use Rattle.wm_tree.specs.Words.{settled}
-use Rattle.wm_core.specs.DeskValue.{DeskValue, Follows}
+use Rattle.wm_core.specs.DeskValue.{DeskValue}
 use Rattle.wm_core.specs.History.{left}
-use Rattle.wm_core.proofs.FollowLemmas.{follows_kept}
+use Rattle.wm_core.proofs.FollowLemmas.{follows_made}
 use Rattle.wm_core.proofs.StepLemmas.{is_removed, not_removed, says_not_removed, says_removed}
 use Rattle.wm_core.proofs.desk.Desk.remove_output.Goals as goal
 
@@ -28,4 +28,11 @@ returns-in-Ok-clause-stands c = λ history s.
     (ap settled made ∙ is_removed name t fine)
     (says_removed name t fine ∙ ap (λ z. left t (settled z) None) (sym made))
     refl
-    (subst (λ z. Follows t z None) (sym made) (follows_kept t (output_removed_tree name t) (kept_output_removed name t)))
+
+-- an output that goes opens no window
+pub finish-requires-clause-follows : goal.finish-requires-clause-follows
+finish-requires-clause-follows c =
+    let t = c.args.self.now.tree in
+    let name = c.args.name.now in
+    let made = c.in-Ok.ensures.tree ∙ ap (output_removed_tree name) (c.in_ok-tree.ensures ∙ ap (λ (d : DeskValue). d.tree) c.self.view_is) in
+    follows_made t (output_removed_tree name t) c.output_removed.new.t made (kept_output_removed name t)

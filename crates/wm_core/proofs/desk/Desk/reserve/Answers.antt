@@ -1,13 +1,13 @@
-use Rattle.std.proofs.Common.{◌≡◌, Option, Some, None, ap, refl, subst, sym, ◌∙◌}
+use Rattle.std.proofs.Common.{◌≡◌, Option, Some, None, ap, refl, sym, ◌∙◌}
 use Rattle.wm_base.specs.declared.ids.ConId.{ConId}
 use Rattle.wm_spaces.specs.Names.{output_named}
 use Rattle.wm_core.specs.Act.{Reserve}
 use Rattle.wm_opens.proofs.KeptLemmas.{kept_edited}
 use Rattle.wm_tree.specs.declared.kind.KindEdit.TheVariants as edits
 use Rattle.wm_tree.specs.Words.{edited, settled}
-use Rattle.wm_core.specs.DeskValue.{DeskValue, Follows}
+use Rattle.wm_core.specs.DeskValue.{DeskValue}
 use Rattle.wm_core.specs.History.{left}
-use Rattle.wm_core.proofs.FollowLemmas.{follows_kept}
+use Rattle.wm_core.proofs.FollowLemmas.{follows_made}
 use Rattle.wm_core.proofs.desk.Desk.reserve.Goals as goal
 
 nothing : (o : Option ConId) → ((c : ConId) → o ≡ Some c → ⊥) → o ≡ None
@@ -33,4 +33,12 @@ returns-clause-stands c = λ history s.
     (ap settled made ∙ rw named refl)
     (rw named (ap (λ z. left t (settled z) None) (sym made)))
     refl
-    (subst (λ z. Follows t z None) (sym made) (follows_kept t (edited c.in-Some.output edges t) (kept_edited c.in-Some.output edges t refl)))
+
+-- edges open no window
+pub finish-requires-clause-follows : goal.finish-requires-clause-follows
+finish-requires-clause-follows c =
+    let t = c.args.self.now.tree in
+    let edges = edits.Reserved c.args.edges in
+    let seen = ap (λ (d : DeskValue). d.tree) c.self.view_is in
+    let made : c.set_reserved.new.self ≡ edited c.in-Some.output edges t = c.set_reserved.ensures.tree ∙ ap (edited c.in-Some.output edges) (c.in_ok-tree.ensures ∙ seen) in
+    follows_made t (edited c.in-Some.output edges t) c.set_reserved.new.self made (kept_edited c.in-Some.output edges t refl)

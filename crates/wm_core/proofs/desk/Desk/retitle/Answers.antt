@@ -1,19 +1,18 @@
-use Rattle.std.proofs.Common.{◌≡◌, true, false, None, ap, ap₂, refl, subst, sym, ◌∙◌}
+use Rattle.std.proofs.Common.{◌≡◌, true, false, None, ap, ap₂, refl, sym, ◌∙◌}
 use Rattle.wm_core.specs.Act.{Retitle}
 use Rattle.wm_opens.proofs.KeptLemmas.{kept_edited}
 use Rattle.wm_tree.specs.declared.kind.KindEdit.TheVariants as edits
 use Rattle.wm_tree.specs.Words.{edited, settled}
-use Rattle.wm_core.specs.DeskValue.{DeskValue, Follows}
+use Rattle.wm_core.specs.DeskValue.{DeskValue}
 use Rattle.wm_core.specs.History.{left}
-use Rattle.wm_core.proofs.FollowLemmas.{follows_kept}
+use Rattle.wm_core.proofs.FollowLemmas.{follows_made}
 use Rattle.wm_core.specs.Windows.{is_window}
 use Rattle.wm_core.proofs.desk.Desk.retitle.Goals as goal
 
 -- no window of the caller, so nothing changes
 pub returns-then-not-is_window-clause-stands : goal.returns-then-not-is_window-clause-stands
 returns-then-not-is_window-clause-stands c = λ history s.
-    let not_its : is_window c.args.self.now.tree c.args.who c.args.con ≡ false =
-    subst (λ t. is_window t c.args.who c.args.con ≡ false) (ap (λ (d : DeskValue). d.tree) c.self.view_is) (sym c.is_window.ensures.value ∙ c.if-not-is_window.true) in
+    let not_its : is_window c.args.self.now.tree c.args.who c.args.con ≡ false = sym c.is_window.ensures.value ∙ c.if-not-is_window.true in
     c.stay.ensures.stands history (record { who = c.args.who; act = Retitle c.args.con c.args.title.now }) s (rw not_its refl) (rw not_its refl) refl
 
 pub returns-clause-stands : goal.returns-clause-stands
@@ -21,11 +20,20 @@ returns-clause-stands c = λ history s.
     let t = c.args.self.now.tree in
     let seen = ap (λ (d : DeskValue). d.tree) c.self.view_is in
     let title = edits.Title c.args.title.now in
-    let its : is_window t c.args.who c.args.con ≡ true = subst (λ z. is_window z c.args.who c.args.con ≡ true) seen (sym c.is_window.ensures.value ∙ c.if-not-is_window.false) in
+    let its : is_window t c.args.who c.args.con ≡ true = sym c.is_window.ensures.value ∙ c.if-not-is_window.false in
     let made : c.set_title.new.self ≡ edited c.args.con title t =
     c.set_title.ensures.tree ∙ ap₂ (λ x z. edited c.args.con (edits.Title x) z) c.in_ok-clone.ensures.cases (c.in_ok-tree.ensures ∙ seen) in
     c.finish.ensures.stands history (record { who = c.args.who; act = Retitle c.args.con c.args.title.now }) s
     (ap settled made ∙ rw its refl)
     (rw its (ap (λ z. left t (settled z) None) (sym made)))
     refl
-    (subst (λ z. Follows t z None) (sym made) (follows_kept t (edited c.args.con title t) (kept_edited c.args.con title t refl)))
+
+-- a title opens no window
+pub finish-requires-clause-follows : goal.finish-requires-clause-follows
+finish-requires-clause-follows c =
+    let t = c.args.self.now.tree in
+    let seen = ap (λ (d : DeskValue). d.tree) c.self.view_is in
+    let title = edits.Title c.args.title.now in
+    let made : c.set_title.new.self ≡ edited c.args.con title t =
+    c.set_title.ensures.tree ∙ ap₂ (λ x z. edited c.args.con (edits.Title x) z) c.in_ok-clone.ensures.cases (c.in_ok-tree.ensures ∙ seen) in
+    follows_made t (edited c.args.con title t) c.set_title.new.self made (kept_edited c.args.con title t refl)

@@ -1,7 +1,8 @@
 use Rattle.std.proofs.Common.{arith}
 use Rattle.wm_tree.specs.Sound.{IsSound}
 use Rattle.wm_core.proofs.OpeningLemmas.{fit_plans}
-use Rattle.wm_core.proofs.StandsLemmas.{no_content, stands_start}
+use Rattle.wm_core.proofs.OwnerLemmas.{no_owners}
+use Rattle.wm_core.proofs.StandsLemmas.{no_content, opens_no_window, stands_start}
 use Rattle.wm_core.proofs.desk.Desk.start.Goals as goal
 
 pub arrange-requires : goal.arrange-requires
@@ -15,7 +16,9 @@ start-requires-2 c = no_content c.args.plan c.in_ok-tree.tree c.in_ok-first.firs
 pub invariant_of-result : goal.invariant_of-result
 invariant_of-result c =
     let fit = fit_plans c.args.plan.outputs c.items-outputs.result.now c.items-outputs.ensures c.requires.fit in
-    (omega (arith, c.in_ok-txn.ensures.prefix), c.in_ok-tree.ensures.sound (rw c.items-outputs.ensures c.requires.some) fit)
+    let sound : IsSound c.in_ok-tree.tree = c.in_ok-tree.ensures.sound (rw c.items-outputs.ensures c.requires.some) fit in
+    let owners = no_owners c.in_ok-tree.tree c.new-2.result.entries (opens_no_window c.args.plan c.in_ok-tree.tree (rw c.items-outputs.ensures at c.in_ok-tree.ensures.tree) sound) c.new-2.ensures.empty in
+    ((omega (arith, c.in_ok-txn.ensures.prefix), owners), sound)
 
 pub returns-clause-stands : goal.returns-clause-stands
 returns-clause-stands c =

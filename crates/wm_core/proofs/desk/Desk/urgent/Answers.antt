@@ -1,12 +1,12 @@
-use Rattle.std.proofs.Common.{◌≡◌, Bool, true, false, cond, [], ◌∷◌, ◌++◌, None, ap, refl, subst, sym, ◌∙◌}
+use Rattle.std.proofs.Common.{◌≡◌, Bool, true, false, cond, [], ◌∷◌, ◌++◌, None, ap, refl, sym, ◌∙◌}
 use Rattle.wm_core.specs.Act.{Urgent}
 use Rattle.wm_opens.proofs.KeptLemmas.{Kept, kept_nodes}
 use Rattle.wm_tree.specs.Recency.{lists}
 use Rattle.wm_tree.specs.TreeValue.{TreeValue}
 use Rattle.wm_tree.specs.Words.{settled}
-use Rattle.wm_core.specs.DeskValue.{DeskValue, Follows}
+use Rattle.wm_core.specs.DeskValue.{DeskValue}
 use Rattle.wm_core.specs.History.{left}
-use Rattle.wm_core.proofs.FollowLemmas.{follows_kept}
+use Rattle.wm_core.proofs.FollowLemmas.{follows_made}
 use Rattle.wm_core.specs.Windows.{is_window, with_urgent, without_urgent}
 use Rattle.wm_base.specs.declared.ids.ConId.{ConId}
 use Rattle.wm_core.proofs.desk.Desk.urgent.Goals as goal
@@ -28,18 +28,24 @@ kept_urgency v false t = kept_nodes t (without_urgent v t) (record { next = refl
 -- no window of the caller, so nothing changes
 pub returns-then-not-is_window-clause-stands : goal.returns-then-not-is_window-clause-stands
 returns-then-not-is_window-clause-stands c = λ history s.
-    let not_its : is_window c.args.self.now.tree c.args.who c.args.con ≡ false =
-    subst (λ t. is_window t c.args.who c.args.con ≡ false) (ap (λ (d : DeskValue). d.tree) c.self.view_is) (sym c.is_window.ensures.value ∙ c.if-not-is_window.true) in
+    let not_its : is_window c.args.self.now.tree c.args.who c.args.con ≡ false = sym c.is_window.ensures.value ∙ c.if-not-is_window.true in
     c.stay.ensures.stands history (record { who = c.args.who; act = Urgent c.args.con c.args.on }) s (rw not_its refl) (rw not_its refl) refl
 
 pub returns-clause-stands : goal.returns-clause-stands
 returns-clause-stands c = λ history s.
     let t = c.args.self.now.tree in
     let seen = ap (λ (d : DeskValue). d.tree) c.self.view_is in
-    let its : is_window t c.args.who c.args.con ≡ true = subst (λ z. is_window z c.args.who c.args.con ≡ true) seen (sym c.is_window.ensures.value ∙ c.if-not-is_window.false) in
+    let its : is_window t c.args.who c.args.con ≡ true = sym c.is_window.ensures.value ∙ c.if-not-is_window.false in
     let made : c.set_urgent.new.tree ≡ urgency c.args.con c.args.on t = c.in_ok-set_urgent.ensures.tree ∙ ap (urgency c.args.con c.args.on) (c.in_ok-tree.ensures ∙ seen) in
     c.finish.ensures.stands history (record { who = c.args.who; act = Urgent c.args.con c.args.on }) s
     (ap settled made ∙ rw its refl)
     (rw its (ap (λ z. left t (settled z) None) (sym made)))
     refl
-    (subst (λ z. Follows t z None) (sym made) (follows_kept t (urgency c.args.con c.args.on t) (kept_urgency c.args.con c.args.on t)))
+
+-- nor does a window that is urgent or no longer so
+pub finish-requires-clause-follows : goal.finish-requires-clause-follows
+finish-requires-clause-follows c =
+    let t = c.args.self.now.tree in
+    let seen = ap (λ (d : DeskValue). d.tree) c.self.view_is in
+    let made : c.set_urgent.new.tree ≡ urgency c.args.con c.args.on t = c.in_ok-set_urgent.ensures.tree ∙ ap (urgency c.args.con c.args.on) (c.in_ok-tree.ensures ∙ seen) in
+    follows_made t (urgency c.args.con c.args.on t) c.set_urgent.new.tree made (kept_urgency c.args.con c.args.on t)

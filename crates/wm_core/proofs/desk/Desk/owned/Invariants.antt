@@ -1,10 +1,10 @@
 use Rattle.std.proofs.Common.{◌≡◌, ◌++◌, filter, length}
 use Rattle.wm_core.specs.Windows.{is_window}
-use Rattle.wm_core.proofs.windows.owned.Given as goal
+use Rattle.wm_core.proofs.desk.Desk.owned.Given as goal
 
 -- the windows so far and those of the rest are those of all
 abbrev pub invariant-loop-rest : goal.invariant-loop-rest
-invariant-loop-rest l = l.windows.items ++ filter (is_window l.tree l.who) l.rest ≡ filter (is_window l.tree l.who) l.tree.recency
+invariant-loop-rest l = l.windows.items ++ filter (is_window l.self.tree l.who) l.rest ≡ filter (is_window l.self.tree l.who) l.self.tree.recency
 
 abbrev pub decreases-loop-rest : goal.decreases-loop-rest
 decreases-loop-rest l = length l.rest
