@@ -1,13 +1,13 @@
 //! The program deskbench: 10,000,000 answers of clients on a desk with 20, 200 or 4,000 open windows, and what each took.
 #![tactic(auto)]
+
 ghost use Rattle.std.specs.Prelude.{◌<◌, ◌^◌, IfOk};
 ghost use Rattle.wm_core.specs.Sizes.{IsFitStep};
 
 use std::alloc::{AllocError, AllocFailed, Global};
-use std::env;
-use std::io;
 use std::process::ExitCode;
 use std::time::CpuClock;
+use std::{env, io};
 use wm_base::{Buffer, ConId, Ink, NoMemory, Props, Size, Text};
 use wm_core::{Answer, ClientStep, Desk, Step};
 use wm_criteria::prepare_bare;

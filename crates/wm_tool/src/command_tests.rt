@@ -51,18 +51,8 @@ fn texts_on_an_empty_workspace(rt: HostRuntime) -> Result<(), Fail> {
     let none = "nothing in that direction";
     let empty = "the focus is a workspace";
     let cases = [
-        (
-            "focus left, focus parent, focus child",
-            none,
-            none,
-            none,
-        ),
-        (
-            "move up, mark a, swap with con_id 3",
-            empty,
-            empty,
-            empty,
-        ),
+        ("focus left, focus parent, focus child", none, none, none),
+        ("move up, mark a, swap with con_id 3", empty, empty, empty),
         ("split v, layout tabbed, layout toggle", "", "", ""),
     ];
     expect_answers(&rt, rt.alloc(), "", &cases)
