@@ -1,0 +1,14 @@
+pub mod Closing
+pub mod Fitting
+pub mod Histories
+pub mod Joining
+pub mod Logging
+pub mod Noting
+pub mod Numbers
+pub mod Owing
+pub mod Queues
+pub mod Seating
+pub mod Splitting
+pub mod Sums
+pub mod Turning
+pub mod Watching

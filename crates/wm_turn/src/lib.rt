@@ -1,0 +1,16 @@
+//! A ticket lock over one value, and what each caller has seen of its history.
+#![tactic(auto)]
+
+mod making;
+mod plays;
+mod rule;
+mod seat;
+mod stands;
+mod steps;
+mod turnstile;
+mod view;
+
+pub use seat::Seat;
+pub use stands::Stands;
+pub use turnstile::Turnstile;
+pub use view::{Calls, Entry, Mark, Stage, View};

@@ -1,0 +1,142 @@
+//! The steps of a seat at the table, each on one word.
+ghost use Rattle.std.specs.Prelude.{◌≡◌, ◌<◌, ◌≤◌, ℕ, ◌+◌, ◌^◌, [], ◌∷◌, length, None, Some};
+ghost use Rattle.std.specs.List.{All};
+ghost use Rattle.atomic_table.specs.Table.{rest};
+ghost use Rattle.wm_turn.specs.History.{Begins};
+ghost use Rattle.wm_turn.specs.Rule.{AreCalls, calls_of, joined, left_by_split, new_by_split};
+ghost use Rattle.wm_turn.specs.Steps.{IsAt, IsSamePlace};
+ghost use Rattle.wm_turn.specs.Told.{HasNoted, logged, passed_on};
+ghost use Rattle.wm_turn.specs.declared.view.Stage.TheVariants.{Idle, Turn, Noted};
+
+use crate::plays::{Agree, Draw, Log, NewSeat, Note, OneSeat, PassOn, Says, Watch};
+use crate::rule::{InTurn, Key, ViewOf};
+use crate::seat::Place;
+use crate::stands::Stands;
+use atomic_table::Shared;
+use crossbeam_utils::Backoff;
+use std::sync::Wait;
+
+/// What the threads share.
+pub(crate) type Desk<V> = Shared<Option<V>, ViewOf<V>, Key<V>, InTurn<V>>;
+
+/// The word of the next ticket.
+pub(crate) const TICKET: usize = 0;
+
+/// The word of the ticket that is served.
+pub(crate) const SERVING: usize = 1;
+
+/// The word of the number of entries.
+pub(crate) const COUNT: usize = 2;
+
+/// Draws a ticket, and waits until it is served.
+pub(crate) fn wait_for_turn<V: Stands, R: Wait>(rt: &R, desk: &Desk<V>, place: &mut Place<V>)
+    requires at { IsAt desk.now.table_id place.old }
+    requires idle { (place.old.me.0.stage ≡ Idle) × (0 < place.old.me.0.parts) }
+    ensures same { IsSamePlace place.old place.new }
+    ensures turn { (ticket : ℕ) × (place.new.me ≡ (record place.old.me.0 { stage = Turn ticket }, place.old.me.1)) }
+{
+    let number = desk.fetch_add::<Draw>(place, TICKET, 1);
+    let backoff = Backoff::new();
+    for _ in rt.forever() {
+        if desk.load::<Watch>(place, SERVING) == number {
+            return;
+        }
+        backoff.snooze();
+    }
+    unreachable!()
+}
+
+/// Notes the count, and takes the value out of the slot.
+pub(crate) fn note<V: Stands>(desk: &Desk<V>, place: &mut Place<V>) -> (V, u64)
+    requires at { IsAt desk.now.table_id place.old }
+    requires turn { (ticket : ℕ) × (place.old.me.0.stage ≡ Turn ticket) }
+    requires live { (0 < place.old.me.0.parts) × (place.old.me.1 ≡ []) }
+    ensures same { IsSamePlace place.old place.new }
+    ensures noted { HasNoted V.opening V.stands place.old.me.0 result.0 result.1 place.new.me.0 }
+    ensures slot { place.new.me.1 ≡ (0, None) ∷ [] }
+{
+    let count = desk.load::<Note>(place, COUNT);
+    let value = desk.exchange(place, 0, None).unwrap();
+    (value, count)
+}
+
+/// Adds the entry of the step, which `N` names.
+pub(crate) fn add<V: Stands, N: Says<V::Step>>(
+    desk: &Desk<V>,
+    place: &mut Place<V>,
+    _step: &V::Step,
+)
+    requires at { IsAt desk.now.table_id place.old }
+    requires noted { (ticket : ℕ) × (place.old.me.0.stage ≡ Noted ticket) }
+    requires live { (0 < place.old.me.0.parts) × (length place.old.me.0.seen < 2 ^ 48) }
+    requires said { N.said ≡ Some (V.form _step.now) }
+    ensures same { IsSamePlace place.old place.new }
+    ensures logged { place.new.me ≡ (logged (Some (V.form _step.now)) place.old.me.0, place.old.me.1) }
+{
+    desk.fetch_add::<Log<N>>(place, COUNT, 1);
+}
+
+/// Puts the value back into the slot and passes the turn on; the question that `N` names was answered.
+pub(crate) fn pass_on<V: Stands, N: Says<V::Question>>(
+    desk: &Desk<V>,
+    place: &mut Place<V>,
+    value: V,
+)
+    requires at { IsAt desk.now.table_id place.old }
+    requires noted { (ticket : ℕ) × (place.old.me.0.stage ≡ Noted ticket) }
+    requires live { (0 < place.old.me.0.parts) × (place.old.me.1 ≡ (0, None) ∷ []) }
+    requires value { (place.old.me.0.opening ≡ Some (V.opening value)) × V.stands value place.old.me.0.seen }
+    ensures same { IsSamePlace place.old place.new }
+    ensures passed { place.new.me ≡ (passed_on N.said place.old.me.0, []) }
+{
+    let empty = desk.exchange(place, 0, Some(value));
+    let None = empty else {
+        unreachable!()
+    };
+    desk.fetch_add::<PassOn<N>>(place, SERVING, 1);
+}
+
+/// The same, for the question that `N` names.
+pub(crate) fn pass_on_read<V: Stands, N: Says<V::Question>>(
+    desk: &Desk<V>,
+    place: &mut Place<V>,
+    value: V,
+    _question: &V::Question,
+)
+    requires at { IsAt desk.now.table_id place.old }
+    requires noted { (ticket : ℕ) × (place.old.me.0.stage ≡ Noted ticket) }
+    requires live { (0 < place.old.me.0.parts) × (place.old.me.1 ≡ (0, None) ∷ []) }
+    requires said { N.said ≡ Some _question.now }
+    requires value { (place.old.me.0.opening ≡ Some (V.opening value)) × V.stands value place.old.me.0.seen }
+    ensures same { IsSamePlace place.old place.new }
+    ensures passed { place.new.me ≡ (passed_on (Some _question.now) place.old.me.0, []) }
+{
+    pass_on::<V, N>(desk, place, value);
+}
+
+/// Splits off a seat with the next number.
+pub(crate) fn split<V: Stands>(desk: &Desk<V>, place: &mut Place<V>) -> Place<V>
+    requires at { IsAt desk.now.table_id place.old }
+    requires spare { (0 < place.old.me.0.spare) × (0 < place.old.me.0.parts) }
+    ensures same { IsSamePlace place.old place.new }
+    ensures left { place.new.me ≡ (left_by_split place.old.me.0, place.old.me.1) }
+    ensures given { (result.table_id ≡ place.old.table_id) × (result.me ≡ (new_by_split place.old.me.0, [])) }
+{
+    desk.split_seat::<NewSeat>(place)
+}
+
+/// Joins another seat, and compares what both have seen and written.
+pub(crate) fn merge<V: Stands>(desk: &Desk<V>, place: &mut Place<V>, other: Place<V>)
+    requires at { IsAt desk.now.table_id place.old }
+    requires other { other.table_id ≡ desk.now.table_id }
+    requires idle { (place.old.me.0.stage ≡ Idle) × (other.me.0.stage ≡ Idle) × (other.me.1 ≡ []) }
+    requires live { (0 < place.old.me.0.parts) × (0 < other.me.0.parts) }
+    requires spare { (place.old.me.0.spare ≡ 0) × (other.me.0.spare ≡ 0) }
+    ensures same { IsSamePlace place.old place.new }
+    ensures joined { place.new.me ≡ (joined place.old.me.0 other.me.0, place.old.me.1) }
+    ensures begins { All (λ old. Begins old place.new.me.0.seen) place.new.me.0.old_seen }
+    ensures calls { All (AreCalls place.new.me.0.seen) (calls_of place.new.me.0) }
+{
+    desk.join_seat::<OneSeat>(place, other);
+    desk.load::<Agree>(place, COUNT);
+}
