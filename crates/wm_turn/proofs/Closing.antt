@@ -12,6 +12,7 @@ use Rattle.wm_turn.specs.declared.view.Stage.{Stage}
 use Rattle.wm_turn.specs.declared.view.Stage.TheVariants.{Idle, Waits, Turn, Noted}
 use Rattle.wm_turn.specs.declared.view.View.{View}
 use Rattle.wm_turn.specs.Rule.{has_any, has_slot, AreCalls, calls_of, IsHome, IsKept}
+use Rattle.wm_turn.specs.Steps.{IsLeft}
 use Rattle.wm_turn.proofs.Numbers.{parts_of}
 use Rattle.wm_turn.proofs.Owing.{slotted}
 use Rattle.wm_turn.proofs.Queues.{any_ticket}
@@ -22,15 +23,6 @@ slot_any Idle = omega arith
 slot_any (Waits ticket) = omega arith
 slot_any (Turn ticket) = omega arith
 slot_any (Noted ticket) = omega arith
-
--- the value lies in the slot, and stands for all that the view has seen
-pub record Closes {V O S Q : Type 0} (opening_of : V → O) (stands : V → List (Entry S) → Type 0) (seats : ℕ) (v : View O S Q) (slots : List (Option V)) : Type 0 where
-  pub value : V
-  pub value_is : get_elem? slots 0 ≡ slot.some (Some value)
-  pub stands_for : stands value v.seen
-  pub opening_is : v.opening ≡ Some (opening_of value)
-  pub numbers : All (λ (entry : Entry S). entry.who < seats) v.seen
-  pub calls : All (AreCalls v.seen) (calls_of v)
 
 module _ {V O S Q : Type 0} (opening_of : V → O) (stands : V → List (Entry S) → Type 0) (seats : ℕ) (opening : O) where
   abbrev Rule : State (Option V) (View O S Q) → Type 0
@@ -49,22 +41,21 @@ module _ {V O S Q : Type 0} (opening_of : V → O) (stands : V → List (Entry S
         (λ apart. absurd (omega (arith, all, kept.numbered.parts_are, kept.seen.live, two_at parts_of s.views id kept.seen.by v kept.seen.view apart at kept.seen.there)))
 
     closes_home : (slots : List (Option V)) (home : slot.Option (Option V)) → s.homes ≡ home ∷ [] → IsHome opening_of stands opening kept.history (sum_by slotted s.views) home
-        → ((k : ℕ) (x : Option V) → get_elem? s.homes k ≡ slot.some (slot.some x) → get_elem? slots k ≡ slot.some x) → Closes opening_of stands seats v slots
+        → ((k : ℕ) (x : Option V) → get_elem? s.homes k ≡ slot.some (slot.some x) → get_elem? slots k ≡ slot.some x)
+        → (value : V) × (get_elem? slots 0 ≡ slot.some (Some value)) × IsLeft opening_of stands seats opening v value
     closes_home slots slot.none homes_are home_is at_home = absurd (omega (arith, home_is, none_noted))
     closes_home slots (slot.some None) homes_are home_is at_home = absurd home_is
-    closes_home slots (slot.some (Some value)) homes_are home_is at_home = record {
-      value = value;
-      value_is = at_home 0 (Some value) (ap (λ homes. get_elem? homes 0) homes_are);
+    closes_home slots (slot.some (Some value)) homes_are home_is at_home = (value, at_home 0 (Some value) (ap (λ homes. get_elem? homes 0) homes_are), record {
+      opening_is = home_is.1;
       stands_for = subst (stands value) (sym seen_all) home_is.2;
-      opening_is = (kept.fit id v at).opening_is live ∙ ap Some (sym home_is.1);
       numbers = subst (All (λ (entry : Entry S). entry.who < seats)) (sym seen_all)
         (All-weaker (λ (entry : Entry S). entry.who + kept.spare < seats) (λ (entry : Entry S). entry.who < seats)
           (λ entry below. omega (arith, below)) kept.history kept.numbered.entries_below);
       calls = (kept.fit id v at).calls_seen;
-    }
+    })
 
   pub closes : (id : ℕ) (v : View O S Q) (words : List ℕ) (slots : List (Option V)) → v.stage ≡ Idle → 0 < v.parts → v.parts ≡ seats
-      → Final (Seen Rule id v) words slots → Closes opening_of stands seats v slots
+      → Final (Seen Rule id v) words slots → (value : V) × (get_elem? slots 0 ≡ slot.some (Some value)) × IsLeft opening_of stands seats opening v value
   closes id v words slots idle live all final =
       let s = final.0 in
       let kept = final.1.0 in

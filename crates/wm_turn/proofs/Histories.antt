@@ -58,6 +58,17 @@ module _ {S : Type 0} where
       → ((longer first second ≡ second) × (length first ≤ length second)) ⊎ ((longer first second ≡ first) × (length second < length first))
   longer_is first second = longer_cases first second (nat_le (length first) (length second)) refl
 
+  pub longer_nothing : (seen : List (Entry S)) → longer seen [] ≡ seen
+  longer_nothing seen =
+      ⊎_elim
+      (λ (is : (longer seen [] ≡ []) × (length seen ≤ 0)). is.0 ∙ sym (empty seen is.1))
+      (λ (is : (longer seen [] ≡ seen) × (0 < length seen)). is.0)
+      (longer_is seen [])
+    where
+      empty : (list : List (Entry S)) → length list ≤ 0 → list ≡ []
+      empty [] le = refl
+      empty (entry ∷ list) le = absurd (omega (arith, le))
+
   pub longer_length : (first second : List (Entry S)) → max (length second) (length first) ≡ length (longer first second)
   longer_length first second =
       ⊎_elim

@@ -1,10 +1,12 @@
 pub mod Closing
 pub mod Fitting
+pub mod Gathering
 pub mod Histories
 pub mod Joining
 pub mod Logging
 pub mod Noting
 pub mod Numbers
+pub mod Opening
 pub mod Owing
 pub mod Queues
 pub mod Seating

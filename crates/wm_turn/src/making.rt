@@ -5,7 +5,7 @@ ghost use Rattle.std.specs.Vec.{vec_len, vec_capacity};
 ghost use Rattle.wm_turn.specs.History.{Begins};
 ghost use Rattle.wm_turn.specs.Pass.{IsKnown, longest, new_passes};
 ghost use Rattle.wm_turn.specs.Rule.{AreCalls, calls_of, first_view};
-ghost use Rattle.wm_turn.specs.Steps.{IsAt, IsSized};
+ghost use Rattle.wm_turn.specs.Steps.{IsAt, IsLeft, IsSized};
 ghost use Rattle.wm_turn.specs.declared.view.Stage.TheVariants.{Idle};
 
 use crate::rule::{InTurn, Key, ViewOf};
@@ -113,4 +113,20 @@ pub(crate) fn gather<V: Stands>(desk: &Desk<V>, mut seats: Vec<Seat<V>>) -> Plac
     }
     seats.destroy_empty();
     place
+}
+
+/// Ends the table and gives the value, where the place has all parts.
+pub(crate) fn end<V: Stands>(table: Board<V>, place: Place<V>) -> V
+    requires at { IsAt table.shared.table_id place }
+    requires idle { (place.me.0.stage ≡ Idle) × (0 < place.me.0.parts) }
+    requires parts { place.me.0.parts ≡ table.shared.key.0 }
+    ensures { IsLeft V.opening V.stands table.shared.key.0 (V.opening table.shared.key.1.value) place.me.0 result }
+{
+    let mut closed = table.close_with(place);
+    let slot = closed.take(0);
+    closed.free();
+    let Some(value) = slot else {
+        unreachable!()
+    };
+    value
 }

@@ -5,7 +5,7 @@ ghost use Rattle.wm_turn.specs.History.{Begins, IsLegal, longer, places, wrote};
 ghost use Rattle.wm_turn.specs.Pass.{IsKnown, longest, new_passes};
 ghost use Rattle.wm_turn.specs.declared.view.Mark.TheVariants.{Wrote, Read};
 
-use crate::making::{Board, gather, lay, seat_all};
+use crate::making::{Board, end, gather, lay, seat_all};
 use crate::seat::Seat;
 use crate::stands::Stands;
 use crate::steps::{add, merge, note, pass_on, pass_on_read, wait_for_turn};
@@ -139,12 +139,6 @@ impl<V: Stands> Turnstile<V> {
     {
         let Turnstile { table } = self;
         let place = gather(&table.shared, seats);
-        let mut closed = table.close_with(place);
-        let slot = closed.take(0);
-        closed.free();
-        let Some(value) = slot else {
-            unreachable!()
-        };
-        value
+        end(table, place)
     }
 }
