@@ -51,6 +51,12 @@ own_written : {O S Q : Type 0} (history : List (Entry S)) (v : View O S Q) → 0
 own_written history v live all = All-head (AreCalls history) (own_calls v) v.old_calls (subst (All (AreCalls history)) (calls_live v live) all)
 
 module _ {V O S Q : Type 0} where
+  -- who enters sees no more entries of its own
+  pub entered_own : (opening_of : V → O) (stands : V → List (Entry S) → Type 0) (value : V) (caller count found ticket : ℕ) (me mid after : Me (Option V) (View O S Q)) → IsSeated caller count me
+      → mid ≡ (record me.0 { stage = Turn ticket }, me.1) → HasNoted opening_of stands mid.0 value found after.0 → places me.0.caller after.0.seen ≡ places me.0.caller me.0.seen
+  entered_own opening_of stands value caller count found ticket me mid after seated turn noted =
+      own_written after.0.seen me.0 seated.live (subst (λ (m : Me (Option V) (View O S Q)). All (AreCalls after.0.seen) (calls_of m.0)) turn noted.calls) ∙ sym seated.legal.written
+
   -- a seat that entered
   pub seated_enter : (opening_of : V → O) (stands : V → List (Entry S) → Type 0) (value : V) (caller count found ticket : ℕ) (me mid after : Me (Option V) (View O S Q)) → IsSeated caller count me
       → mid ≡ (record me.0 { stage = Turn ticket }, me.1) → HasNoted opening_of stands mid.0 value found after.0 → after.1 ≡ (0, None) ∷ [] → IsSeated caller found after

@@ -7,10 +7,12 @@ mod rule;
 mod seat;
 mod stands;
 mod steps;
+#[cfg(test)]
+mod tests;
 mod turnstile;
 mod view;
 
 pub use seat::Seat;
 pub use stands::Stands;
 pub use turnstile::Turnstile;
-pub use view::{Calls, Entry, Mark, Stage, View};
+pub use view::{Entry, Mark};

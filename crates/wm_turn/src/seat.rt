@@ -69,11 +69,3 @@ impl<V: Stands> Drop for Seat<V> {
         drop(place);
     }
 }
-
-fn is_send<T: Send>(x: T) -> T {
-    x
-}
-
-fn seat_is_send<V: Stands + Send>(seat: Seat<V>) -> Seat<V> {
-    is_send(seat)
-}

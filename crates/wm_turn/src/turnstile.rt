@@ -63,6 +63,7 @@ impl<V: Stands> Turnstile<V> {
         requires no_turn { seat.old.turn ≡ false }
         ensures seat { seat.new ≡ record seat.old { turn = true; seen = seat.new.seen } }
         ensures seen { Begins seat.old.seen seat.new.seen }
+        ensures own { places seat.old.caller seat.new.seen ≡ places seat.old.caller seat.old.seen }
         ensures opening { seat.new.opening ≡ Some (V.opening result) }
         ensures stands { V.stands result seat.new.seen }
         ensures legal { IsLegal seat.new.caller seat.new.seen seat.new.mine }
@@ -140,5 +141,12 @@ impl<V: Stands> Turnstile<V> {
         let Turnstile { table } = self;
         let place = gather(&table.shared, seats);
         end(table, place)
+    }
+}
+
+impl<V: Stands + Drop> Drop for Turnstile<V> {
+    fn drop(self) {
+        let Turnstile { table } = self;
+        drop(table);
     }
 }
