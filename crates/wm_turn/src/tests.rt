@@ -1,5 +1,5 @@
 //! A turnstile with one seat and with several, one that two threads go through a hundred times each, and joining.
-ghost use Rattle.std.specs.Prelude.{◌≡◌, ◌+◌, true, false, IfOk};
+ghost use Rattle.std.specs.Prelude.{◌≡◌, true, false, []};
 ghost use Rattle.std.specs.List.{All};
 ghost use Rattle.wm_turn.specs.History.{IsLegal};
 
@@ -98,9 +98,9 @@ fn take_hundred<R: Wait>(
 ) -> (Seat<Ledger>, u32)
     requires door { seat.door ≡ turnstile.now.door }
     requires no_turn { seat.turn ≡ false }
-    ensures door { result.0.door ≡ seat.entry.door }
+    ensures door { result.0.door ≡ seat.door }
     ensures no_turn { result.0.turn ≡ false }
-    ensures parts { result.0.parts ≡ seat.entry.parts }
+    ensures parts { result.0.parts ≡ seat.parts }
 {
     let mut done = 0;
     for step in 0..100 {
@@ -116,7 +116,7 @@ fn are_in_order(steps: &LinkedList<(u32, u32)>, caller: u32) -> bool {
     let mut next = 100;
     for step in steps {
         if step.0 == caller {
-            if step.1 + 1 != next {
+            if next == 0 || step.1 != next - 1 {
                 return false;
             }
             next = step.1;
@@ -148,10 +148,8 @@ fn seats_are_numbered_in_order(rt: HostRuntime) -> Result<(), Fail> {
         let started = Turnstile::start(rt.alloc(), opened_with(rt.alloc(), 0), count);
         let (_turnstile, seats) = started.map_err(|_refused| "no memory")?;
         assert_eq!(rt; seats.len(), count as usize);
-        let mut number = 0;
-        for seat in &seats {
-            assert_eq!(rt; (seat.caller(), seat.count()), (number, 0));
-            number += 1;
+        for (number, seat) in seats.iter().enumerate() {
+            assert_eq!(rt; (seat.caller() as usize, seat.count()), (number, 0));
         }
     }
     Ok(())
@@ -174,11 +172,11 @@ fn race<R: Threads + Wait + Sync>(
         rt,
         move ||
             requires { (first.door ≡ turnstile.now.door) × (first.turn ≡ false) }
-            ensures { (result.0.door ≡ turnstile.entry.now.door) × (result.0.turn ≡ false) × (result.0.parts ≡ first.entry.parts) }
+            ensures { (result.0.door ≡ turnstile.entry.now.door) × (result.0.turn ≡ false) × (result.0.parts ≡ first.parts) }
         { take_hundred(rt, turnstile, first) },
         move ||
             requires { (second.door ≡ turnstile.now.door) × (second.turn ≡ false) }
-            ensures { (result.0.door ≡ turnstile.entry.now.door) × (result.0.turn ≡ false) × (result.0.parts ≡ second.entry.parts) }
+            ensures { (result.0.door ≡ turnstile.entry.now.door) × (result.0.turn ≡ false) × (result.0.parts ≡ second.parts) }
         { take_hundred(rt, turnstile, second) },
     )
 }
