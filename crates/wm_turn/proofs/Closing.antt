@@ -31,9 +31,13 @@ module _ {V O S Q : Type 0} (opening_of : V → O) (stands : V → List (Entry S
   module _ (id : ℕ) (v : View O S Q) (idle : v.stage ≡ Idle) (live : 0 < v.parts) (all : v.parts ≡ seats) (s : State (Option V) (View O S Q)) (kept : Rule s) (at : get_elem? s.views id ≡ slot.some v) where
     none_noted : sum_by slotted s.views ≡ 0
     none_noted =
-        omega (arith, all, kept.numbered.parts_are,
+        omega (
+          arith,
+          all,
+          kept.numbered.parts_are,
           sum_more slotted parts_of seats s.views id v
-            (λ j u there. omega (arith, slot_any u.stage, (kept.fit j u there).some_parts)) at (omega (arith, ap has_slot idle, all)))
+              (λ j u there. omega (arith, slot_any u.stage, (kept.fit j u there).some_parts)) at (omega (arith, ap has_slot idle, all)),
+        )
 
     seen_all : v.seen ≡ kept.history
     seen_all = dite (ℕ_discrete kept.seen.by id)
@@ -45,14 +49,18 @@ module _ {V O S Q : Type 0} (opening_of : V → O) (stands : V → List (Entry S
         → (value : V) × (get_elem? slots 0 ≡ slot.some (Some value)) × IsLeft opening_of stands seats opening v value
     closes_home slots slot.none homes_are home_is at_home = absurd (omega (arith, home_is, none_noted))
     closes_home slots (slot.some None) homes_are home_is at_home = absurd home_is
-    closes_home slots (slot.some (Some value)) homes_are home_is at_home = (value, at_home 0 (Some value) (ap (λ homes. get_elem? homes 0) homes_are), record {
-      opening_is = home_is.1;
-      stands_for = subst (stands value) (sym seen_all) home_is.2;
-      numbers = subst (All (λ (entry : Entry S). entry.who < seats)) (sym seen_all)
-        (All-weaker (λ (entry : Entry S). entry.who + kept.spare < seats) (λ (entry : Entry S). entry.who < seats)
-          (λ entry below. omega (arith, below)) kept.history kept.numbered.entries_below);
-      calls = (kept.fit id v at).calls_seen;
-    })
+    closes_home slots (slot.some (Some value)) homes_are home_is at_home = (
+      value,
+      at_home 0 (Some value) (ap (λ homes. get_elem? homes 0) homes_are),
+      record {
+        opening_is = home_is.1;
+        stands_for = subst (stands value) (sym seen_all) home_is.2;
+        numbers = subst (All (λ (entry : Entry S). entry.who < seats)) (sym seen_all)
+            (All-weaker (λ (entry : Entry S). entry.who + kept.spare < seats) (λ (entry : Entry S). entry.who < seats)
+            (λ entry below. omega (arith, below)) kept.history kept.numbered.entries_below);
+        calls = (kept.fit id v at).calls_seen;
+      },
+    )
 
   pub closes : (id : ℕ) (v : View O S Q) (words : List ℕ) (slots : List (Option V)) → v.stage ≡ Idle → 0 < v.parts → v.parts ≡ seats
       → Final (Seen Rule id v) words slots → (value : V) × (get_elem? slots 0 ≡ slot.some (Some value)) × IsLeft opening_of stands seats opening v value

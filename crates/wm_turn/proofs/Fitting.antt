@@ -37,8 +37,8 @@ calls_on entry history [] none all = All-nil (AreCalls (entry ∷ history))
 calls_on entry history (calls ∷ list) none all =
     let sums = sum_by-cons (is_of entry.who) calls list in
     All-cons (AreCalls (entry ∷ history)) calls list
-      (places_other calls.caller entry history (other_number entry.who calls (omega (arith, sums, none))) ∙ All-head (AreCalls history) calls list all)
-      (calls_on entry history list (omega (arith, sums, none)) (All-tail (AreCalls history) calls list all))
+    (places_other calls.caller entry history (other_number entry.who calls (omega (arith, sums, none))) ∙ All-head (AreCalls history) calls list all)
+    (calls_on entry history list (omega (arith, sums, none)) (All-tail (AreCalls history) calls list all))
 
 module _ {O S Q : Type 0} where
   pub calls_live : (v : View O S Q) → 0 < v.parts → calls_of v ≡ own_calls v ∷ v.old_calls
@@ -141,7 +141,7 @@ module _ {O S Q : Type 0} where
 
         calls : All (AreCalls (entry ∷ v.seen)) (calls_of (logged (Some step) v))
         calls = subst (All (AreCalls (entry ∷ v.seen))) (sym (calls_live (logged (Some step) v) live))
-          (All-cons (AreCalls (entry ∷ v.seen)) (own_calls (logged (Some step) v)) v.old_calls
+            (All-cons (AreCalls (entry ∷ v.seen)) (own_calls (logged (Some step) v)) v.old_calls
             (places_own entry v.seen ∙ ap (λ ps. length v.seen ∷ ps) (All-head (AreCalls v.seen) (own_calls v) v.old_calls mine))
             (calls_on entry v.seen v.old_calls none (All-tail (AreCalls v.seen) (own_calls v) v.old_calls mine)))
 

@@ -42,7 +42,7 @@ module _ {O S Q : Type 0} where
       the n = omega arith
   new_passes_push door opening caller (suc count) =
       ap (λ passes. new_pass door opening caller ∷ passes)
-        (new_passes_push door opening (suc caller) count ∙ ap (λ n. new_passes door opening (suc caller) count ++ new_pass door opening n ∷ []) (next caller count))
+      (new_passes_push door opening (suc caller) count ∙ ap (λ n. new_passes door opening (suc caller) count ++ new_pass door opening n ∷ []) (next caller count))
     where
       next : (n m : ℕ) → suc n + m ≡ n + suc m
       next n m = omega arith
@@ -100,7 +100,7 @@ module _ {V O S Q : Type 0} where
         let rest = All-tail (AreCalls history) (own_calls me.0) (own_calls theirs.0 ∷ (theirs.0.old_calls ++ me.0.old_calls)) both in (
           begins_trans me.0.seen after.0.seen history seen.0 goes_on,
           subst (All (AreCalls history)) (sym (calls_live me.0 live))
-            (All-cons (AreCalls history) (own_calls me.0) me.0.old_calls
+              (All-cons (AreCalls history) (own_calls me.0) me.0.old_calls
               (All-head (AreCalls history) (own_calls me.0) (own_calls theirs.0 ∷ (theirs.0.old_calls ++ me.0.old_calls)) both)
               (all_right (AreCalls history) theirs.0.old_calls me.0.old_calls (All-tail (AreCalls history) (own_calls theirs.0) (theirs.0.old_calls ++ me.0.old_calls) rest))),
           begins_trans theirs.0.seen after.0.seen history seen.1 goes_on,

@@ -101,10 +101,10 @@ module _ {S : Type 0} where
   longer_all first second history p q one =
       let both = longer_of first second history p q in
       begins_all (longer first second) history both.begins
-        (⊎_elim
-          (λ (is : first ≡ history). omega (arith, ap length is, begins_length first (longer first second) both.first_begins))
-          (λ (is : second ≡ history). omega (arith, ap length is, begins_length second (longer first second) both.second_begins))
-          one)
+      (⊎_elim
+      (λ (is : first ≡ history). omega (arith, ap length is, begins_length first (longer first second) both.first_begins))
+      (λ (is : second ≡ history). omega (arith, ap length is, begins_length second (longer first second) both.second_begins))
+      one)
 
   -- ---- places
 
@@ -128,7 +128,7 @@ module _ {S : Type 0} where
       let low_is : places who second ≡ low.0 ++ ps = ap (places who) p.1 ∙ (low.1 ∙ ap (λ x. low.0 ++ x) of_first) in
       let high_is : ps ≡ high.0 ++ places who second = sym of_third ∙ (ap (places who) q.1 ∙ high.1) in
       let le : length (low.0 ++ ps) ≤ length ps =
-          omega (arith, ap length high_is, length-append high.0 (places who second), ap length low_is) in
+      omega (arith, ap length high_is, length-append high.0 (places who second), ap length low_is) in
       low_is ∙ no_more low.0 ps le
 
   -- a number that no entry has, has no place

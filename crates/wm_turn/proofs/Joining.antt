@@ -31,8 +31,8 @@ calls_between : {S : Type 0} (first second third : List (Entry S)) (list : List 
 calls_between first second third [] p q low high = All-nil (AreCalls second)
 calls_between first second third (calls ∷ list) p q low high =
     All-cons (AreCalls second) calls list
-      (places_between calls.caller calls.places first second third p q (All-head (AreCalls first) calls list low) (All-head (AreCalls third) calls list high))
-      (calls_between first second third list p q (All-tail (AreCalls first) calls list low) (All-tail (AreCalls third) calls list high))
+    (places_between calls.caller calls.places first second third p q (All-head (AreCalls first) calls list low) (All-head (AreCalls third) calls list high))
+    (calls_between first second third list p q (All-tail (AreCalls first) calls list low) (All-tail (AreCalls third) calls list high))
 
 abbrev nothing : {S : Type 0} → List (Entry S)
 nothing = []
@@ -90,7 +90,8 @@ module _ {V O S Q : Type 0} (opening_of : V → O) (stands : V → List (Entry S
 
     both_hold : (number : ℕ) → holds number both ≡ holds number v + holds number u
     both_hold number =
-        omega (arith,
+        omega (
+          arith,
           ap (sum_by (is_of number)) both_calls,
           ap (sum_by (is_of number)) (calls_live v live.0),
           ap (sum_by (is_of number)) (calls_live u live.1),
@@ -98,7 +99,8 @@ module _ {V O S Q : Type 0} (opening_of : V → O) (stands : V → List (Entry S
           sum_by-cons (is_of number) (own_calls u) (u.old_calls ++ v.old_calls),
           sum_by-append (is_of number) u.old_calls v.old_calls,
           sum_by-cons (is_of number) (own_calls v) v.old_calls,
-          sum_by-cons (is_of number) (own_calls u) u.old_calls)
+          sum_by-cons (is_of number) (own_calls u) u.old_calls,
+        )
 
     same_holds : (number : ℕ) → sum_by (holds number) views ≡ sum_by (holds number) s.views
     same_holds number = omega (arith, join_sum (holds number), both_hold number)
@@ -110,9 +112,9 @@ module _ {V O S Q : Type 0} (opening_of : V → O) (stands : V → List (Entry S
         let of_v : All (AreCalls history) (own_calls v ∷ v.old_calls) = subst (All (AreCalls history)) (calls_live v live.0) p in
         let of_u : All (AreCalls history) (own_calls u ∷ u.old_calls) = subst (All (AreCalls history)) (calls_live u live.1) q in
         subst (All (AreCalls history)) (sym both_calls)
-          (All-cons (AreCalls history) (own_calls v) (own_calls u ∷ (u.old_calls ++ v.old_calls)) (All-head (AreCalls history) (own_calls v) v.old_calls of_v)
-            (All-cons (AreCalls history) (own_calls u) (u.old_calls ++ v.old_calls) (All-head (AreCalls history) (own_calls u) u.old_calls of_u)
-              (All-append (AreCalls history) u.old_calls v.old_calls (All-tail (AreCalls history) (own_calls u) u.old_calls of_u) (All-tail (AreCalls history) (own_calls v) v.old_calls of_v))))
+        (All-cons (AreCalls history) (own_calls v) (own_calls u ∷ (u.old_calls ++ v.old_calls)) (All-head (AreCalls history) (own_calls v) v.old_calls of_v)
+        (All-cons (AreCalls history) (own_calls u) (u.old_calls ++ v.old_calls) (All-head (AreCalls history) (own_calls u) u.old_calls of_u)
+        (All-append (AreCalls history) u.old_calls v.old_calls (All-tail (AreCalls history) (own_calls u) u.old_calls of_u) (All-tail (AreCalls history) (own_calls v) v.old_calls of_v))))
 
     begins_in : (seen : List (Entry S)) (old : List (List (Entry S))) → Begins seen both.seen → All (λ o. Begins o seen) old → All (λ o. Begins o both.seen) old
     begins_in seen old p all = All-weaker (λ o. Begins o seen) (λ o. Begins o both.seen) (λ o q. begins_trans o seen both.seen q p) old all
@@ -123,14 +125,14 @@ module _ {V O S Q : Type 0} (opening_of : V → O) (stands : V → List (Entry S
       seen_begins = seen_both.begins;
       seen_all = subst (λ stage. HasSeenAll kept.history stage both.seen) (sym idle.0) tt;
       old_begin =
-        All-cons (λ o. Begins o both.seen) v.seen (u.seen ∷ (u.old_seen ++ v.old_seen)) seen_both.second_begins
+          All-cons (λ o. Begins o both.seen) v.seen (u.seen ∷ (u.old_seen ++ v.old_seen)) seen_both.second_begins
           (All-cons (λ o. Begins o both.seen) u.seen (u.old_seen ++ v.old_seen) seen_both.first_begins
-            (All-append (λ o. Begins o both.seen) u.old_seen v.old_seen
-              (begins_in u.seen u.old_seen seen_both.first_begins theirs.old_begin)
-              (begins_in v.seen v.old_seen seen_both.second_begins mine.old_begin)));
+          (All-append (λ o. Begins o both.seen) u.old_seen v.old_seen
+          (begins_in u.seen u.old_seen seen_both.first_begins theirs.old_begin)
+          (begins_in v.seen v.old_seen seen_both.second_begins mine.old_begin)));
       calls_seen = all_calls both.seen
-        (calls_between v.seen both.seen kept.history (calls_of v) seen_both.second_begins seen_both.begins mine.calls_seen mine.calls_made)
-        (calls_between u.seen both.seen kept.history (calls_of u) seen_both.first_begins seen_both.begins theirs.calls_seen theirs.calls_made);
+          (calls_between v.seen both.seen kept.history (calls_of v) seen_both.second_begins seen_both.begins mine.calls_seen mine.calls_made)
+          (calls_between u.seen both.seen kept.history (calls_of u) seen_both.first_begins seen_both.begins theirs.calls_seen theirs.calls_made);
       calls_made = all_calls kept.history mine.calls_made theirs.calls_made;
       opening_is = λ _. mine.opening_is live.0;
       seats_is = λ _. mine.seats_is live.0;
@@ -163,14 +165,14 @@ module _ {V O S Q : Type 0} (opening_of : V → O) (stands : V → List (Entry S
         dite (ℕ_discrete seen.by id)
         (λ same. by_both (inr (the_seen id v at same)))
         (λ not_id. dite (ℕ_discrete seen.by other)
-          (λ same. by_both (inl (the_seen other u there same)))
-          (λ not_other. record {
-            by = seen.by;
-            view = seen.view;
-            there = set_else (set s.views id both) other seen.by spent not_other ∙ (set_else s.views id seen.by both not_id ∙ seen.there);
-            live = seen.live;
-            all = seen.all;
-          }))
+        (λ same. by_both (inl (the_seen other u there same)))
+        (λ not_other. record {
+          by = seen.by;
+          view = seen.view;
+          there = set_else (set s.views id both) other seen.by spent not_other ∙ (set_else s.views id seen.by both not_id ∙ seen.there);
+          live = seen.live;
+          all = seen.all;
+        }))
 
     join_kept : Rule (record { words = s.words; homes = s.homes; views = views })
     join_kept = record {
@@ -184,11 +186,11 @@ module _ {V O S Q : Type 0} (opening_of : V → O) (stands : V → List (Entry S
       few_seats = kept.few_seats;
       homes_are = kept.homes_are;
       home_is = home_same opening_of stands opening kept.history (sum_by slotted s.views) (sum_by slotted views) kept.home
-        (omega (arith, join_sum slotted, ap has_slot idle.0, ap has_slot idle.1)) kept.home_is;
+          (omega (arith, join_sum slotted, ap has_slot idle.0, ap has_slot idle.1)) kept.home_is;
       queued = queued_same kept.ticket kept.serving s.views views
-        (λ number. omega (arith, join_sum (ticketed number), ap (has_ticket number) idle.0, ap (has_ticket number) idle.1))
-        (omega (arith, join_sum any_ticket, ap has_any idle.0, ap has_any idle.1))
-        kept.queued;
+          (λ number. omega (arith, join_sum (ticketed number), ap (has_ticket number) idle.0, ap (has_ticket number) idle.1))
+          (omega (arith, join_sum any_ticket, ap has_any idle.0, ap has_any idle.1))
+          kept.queued;
       numbered = record {
         parts_are = omega (arith, join_sum parts_of, kept.numbered.parts_are);
         spare_is = omega (arith, join_sum spare_of, no_spare.1, kept.numbered.spare_is);
@@ -197,8 +199,8 @@ module _ {V O S Q : Type 0} (opening_of : V → O) (stands : V → List (Entry S
         entries_below = kept.numbered.entries_below;
       };
       fit = all_set (Fits opening seats kept.spare kept.serving kept.history) (set s.views id both) other spent
-        (λ j w _ found. all_set (Fits opening seats kept.spare kept.serving kept.history) s.views id both (λ i x _ was. kept.fit i x was) both_fit j w found)
-        (spent_fits opening seats kept.spare kept.serving kept.history);
+          (λ j w _ found. all_set (Fits opening seats kept.spare kept.serving kept.history) s.views id both (λ i x _ was. kept.fit i x was) both_fit j w found)
+          (spent_fits opening seats kept.spare kept.serving kept.history);
       seen = join_seen;
     }
 

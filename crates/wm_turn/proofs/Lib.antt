@@ -13,4 +13,3 @@ pub mod Seating
 pub mod Splitting
 pub mod Sums
 pub mod Turning
-pub mod Watching

@@ -61,7 +61,7 @@ module _ {V O S Q : Type 0} (opening_of : V → O) (stands : V → List (Entry S
 
     out : (kept.home ≡ slot.none) × (sum_by slotted s.views ≡ 1)
     out = slot_out opening_of stands opening kept.history (sum_by slotted s.views) kept.home kept.home_is
-      (omega (arith, ap has_slot noted, one_at slotted s.views id me.0 at))
+        (omega (arith, ap has_slot noted, one_at slotted s.views id me.0 at))
 
     others_wait : (j : ℕ) (u : View O S Q) → j ≢ id → get_elem? s.views j ≡ slot.some u → has_ticket kept.serving u.stage ≡ 0
     others_wait j u apart there = held_once kept.ticket kept.serving kept.serving s.views id j me.0 u apart at there has_it kept.queued
@@ -97,15 +97,15 @@ module _ {V O S Q : Type 0} (opening_of : V → O) (stands : V → List (Entry S
             home_is = omega (arith, sum_set slotted s.views id me.0 w at, out.1);
             queued = queued_set kept.ticket kept.serving s.views id me.0 w at (λ number. refl) refl kept.queued;
             numbered = numbered_set seats kept.spare kept.history history s.views id me.0 w at refl refl (λ number. logged_holds number said me.0)
-              (All-cons (λ (e : Entry S). e.who + kept.spare < seats) entry me.0.seen
+                (All-cons (λ (e : Entry S). e.who + kept.spare < seats) entry me.0.seen
                 (kept.numbered.below me.0.caller (omega (arith, holds_one, one_at (holds me.0.caller) s.views id me.0 at)))
                 (subst (All (λ (e : Entry S). e.who + kept.spare < seats)) (sym seen_all) kept.numbered.entries_below))
-              kept.numbered;
+                kept.numbered;
             fit = all_set (Fits opening seats kept.spare kept.serving history) s.views id w
-              (λ j u apart there. subst (λ h. Fits opening seats kept.spare kept.serving (entry ∷ h) u) (sym seen_all)
+                (λ j u apart there. subst (λ h. Fits opening seats kept.spare kept.serving (entry ∷ h) u) (sym seen_all)
                 (fits_log opening seats kept.spare kept.serving entry kept.history u (kept.fit j u there) (others_wait j u apart there)
-                  (omega (arith, holds_one, two_at (holds me.0.caller) s.views id j me.0 u apart at there, kept.numbered.once me.0.caller))))
-              (fits_own opening seats kept.spare kept.serving said me.0 ticket fits_here noted live
+                (omega (arith, holds_one, two_at (holds me.0.caller) s.views id j me.0 u apart at there, kept.numbered.once me.0.caller))))
+                (fits_own opening seats kept.spare kept.serving said me.0 ticket fits_here noted live
                 (omega (arith, holds_own me.0 live, one_at (holds me.0.caller) s.views id me.0 at, kept.numbered.once me.0.caller)));
             seen = seen_set kept.history history s.views id me.0 w at live (inl refl) kept.seen;
           },
@@ -142,8 +142,8 @@ module _ {V O S Q : Type 0} (opening_of : V → O) (stands : V → List (Entry S
             queued = queued_pass kept.ticket kept.serving s.views id me.0 w at noted_here same.0 kept.queued;
             numbered = numbered_set seats kept.spare kept.history kept.history s.views id me.0 w at same.1 same.2 same.4 kept.numbered.entries_below kept.numbered;
             fit = all_set (Fits opening seats kept.spare (kept.serving + 1) kept.history) s.views id w
-              (λ j u apart there. fits_pass opening seats kept.spare kept.serving kept.history u (kept.fit j u there) (others_wait j u apart there))
-              (fits_passed opening seats kept.spare kept.serving said kept.history me.0 mine);
+                (λ j u apart there. fits_pass opening seats kept.spare kept.serving kept.history u (kept.fit j u there) (others_wait j u apart there))
+                (fits_passed opening seats kept.spare kept.serving said kept.history me.0 mine);
             seen = seen_set kept.history kept.history s.views id me.0 w at (omega (arith, same.1, live)) (inl (same.3 ∙ seen_all)) kept.seen;
           },
           refl,
@@ -156,12 +156,12 @@ module _ {V O S Q : Type 0} (opening_of : V → O) (stands : V → List (Entry S
       → Allows Rule slots id me 2 (λ n. (n + 1) % 2 ^ 64) (logs said (step slots 2 1 0 slot.none) me)
   logs_allowed slots id me ticket said entry is noted live few s kept sized at range =
       subst (λ x. Owes Rule s id me 2 (λ n. (n + 1) % 2 ^ 64) (logs x (step slots 2 1 0 slot.none) me) s.words) (sym is)
-        (subst (Owes Rule s id me 2 (λ n. (n + 1) % 2 ^ 64) (logs (Some entry) (step slots 2 1 0 slot.none) me)) (sym kept.words_are)
-          (logged_kept slots id me ticket noted live s kept at entry few))
+      (subst (Owes Rule s id me 2 (λ n. (n + 1) % 2 ^ 64) (logs (Some entry) (step slots 2 1 0 slot.none) me)) (sym kept.words_are)
+      (logged_kept slots id me ticket noted live s kept at entry few))
 
   pub passes_allowed : (slots id : ℕ) (me : Me (Option V) (View O S Q)) (ticket : ℕ) (said : Option Q) (value : V) → me.0.stage ≡ Noted ticket → 0 < me.0.parts
       → me.1 ≡ (0, Some value) ∷ [] → me.0.opening ≡ Some (opening_of value) → stands value me.0.seen
       → Allows Rule slots id me 1 (λ n. (n + 1) % 2 ^ 64) (passes_on said (step slots 1 1 0 slot.none) me)
   passes_allowed slots id me ticket said value noted live carried opening_is stands_for s kept sized at range =
       subst (Owes Rule s id me 1 (λ n. (n + 1) % 2 ^ 64) (passes_on said (step slots 1 1 0 slot.none) me)) (sym kept.words_are)
-        (passed_kept slots id me ticket noted live s kept at said value carried (cc (opening_is, (kept.fit id me.0 at).opening_is live)) stands_for)
+      (passed_kept slots id me ticket noted live s kept at said value carried (cc (opening_is, (kept.fit id me.0 at).opening_is live)) stands_for)

@@ -44,9 +44,12 @@ module _ {V O S Q : Type 0} (opening_of : V → O) (stands : V → List (Entry S
     none_noted : sum_by slotted s.views ≡ 0
     none_noted =
         let within = held_within kept.ticket kept.serving kept.serving s.views id me.0 at has_it kept.queued in
-        omega (arith, kept.queued.out kept.serving within.0 within.1,
+        omega (
+          arith,
+          kept.queued.out kept.serving within.0 within.1,
           sum_more slotted (ticketed kept.serving) 1 s.views id me.0 (λ j u there. slot_served kept.serving u.stage (kept.fit j u there).served) at
-            (omega (arith, ap has_slot turn, has_it)))
+              (omega (arith, ap has_slot turn, has_it)),
+        )
 
     stage_is : w.stage ≡ Noted ticket
     stage_is = ap noted_stage turn
@@ -56,7 +59,7 @@ module _ {V O S Q : Type 0} (opening_of : V → O) (stands : V → List (Entry S
 
     w_fits : Fits opening seats kept.spare kept.serving kept.history w
     w_fits = subst (λ stage. Fits opening seats kept.spare kept.serving kept.history (record me.0 { stage = stage; seen = kept.history })) (sym stage_is)
-      (fits_note opening seats kept.spare kept.serving kept.history me.0 ticket mine is_served live)
+        (fits_note opening seats kept.spare kept.serving kept.history me.0 ticket mine is_served live)
 
     notes_home : (home : slot.Option (Option V)) → s.homes ≡ home ∷ [] → IsHome opening_of stands opening kept.history (sum_by slotted s.views) home
         → Owes Rule s id me 2 (λ n. n) (notes opening_of stands (step slots 2 0 0 slot.none) me) (kept.ticket % 2 ^ 64 ∷ kept.serving % 2 ^ 64 ∷ length kept.history ∷ [])
@@ -78,7 +81,7 @@ module _ {V O S Q : Type 0} (opening_of : V → O) (stands : V → List (Entry S
         homes_are = ap (λ homes. slice_set homes 0 slot.none) homes_are;
         home_is = one_noted;
         queued = queued_set kept.ticket kept.serving s.views id me.0 w at
-          (λ number. ap (has_ticket number) stage_is ∙ sym (ap (has_ticket number) turn)) (ap has_any stage_is ∙ sym (ap has_any turn)) kept.queued;
+            (λ number. ap (has_ticket number) stage_is ∙ sym (ap (has_ticket number) turn)) (ap has_any stage_is ∙ sym (ap has_any turn)) kept.queued;
         numbered = numbered_set seats kept.spare kept.history kept.history s.views id me.0 w at refl refl (λ number. refl) kept.numbered.entries_below kept.numbered;
         fit = all_set (Fits opening seats kept.spare kept.serving kept.history) s.views id w (λ j u apart there. kept.fit j u there) w_fits;
         seen = seen_set kept.history kept.history s.views id me.0 w at live (inl refl) kept.seen;
@@ -102,4 +105,4 @@ module _ {V O S Q : Type 0} (opening_of : V → O) (stands : V → List (Entry S
       → Allows Rule slots id me 2 (λ n. n) (notes opening_of stands (step slots 2 0 0 slot.none) me)
   notes_allowed slots id me ticket turn live s kept sized at range =
       subst (Owes Rule s id me 2 (λ n. n) (notes opening_of stands (step slots 2 0 0 slot.none) me)) (sym kept.words_are)
-        (notes_home slots id me ticket turn live s kept at kept.home kept.homes_are kept.home_is)
+      (notes_home slots id me ticket turn live s kept at kept.home kept.homes_are kept.home_is)

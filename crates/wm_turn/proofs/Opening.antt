@@ -37,7 +37,7 @@ module _ {V O S : Type 0} (Q : Type 0) (opening_of : V → O) (stands : V → Li
 
   no_calls : All (AreCalls (first.seen)) (calls_of first)
   no_calls = subst (All (AreCalls first.seen)) (sym (calls_live first (omega (arith, some))))
-    (All-cons (AreCalls first.seen) (own_calls first) [] refl (All-nil (AreCalls first.seen)))
+      (All-cons (AreCalls first.seen) (own_calls first) [] refl (All-nil (AreCalls first.seen)))
 
   first_fits : Fits opening seats (seats - 1) 0 first.seen first
   first_fits = record {

@@ -52,9 +52,9 @@ module _ {O S Q : Type 0} where
       → AreQueued ticket serving views → AreQueued ticket serving (set views by w)
   queued_set ticket serving views by v w at each all queued =
       queued_same ticket serving views (set views by w)
-        (λ number. omega (arith, sum_set (ticketed number) views by v w at, each number))
-        (omega (arith, sum_set any_ticket views by v w at, all))
-        queued
+      (λ number. omega (arith, sum_set (ticketed number) views by v w at, each number))
+      (omega (arith, sum_set any_ticket views by v w at, all))
+      queued
 
   pub queued_draw : (ticket serving : ℕ) (views : List (View O S Q)) (by : ℕ) (v w : View O S Q) → get_elem? views by ≡ some v
       → v.stage ≡ Idle → w.stage ≡ Waits ticket → AreQueued ticket serving views → AreQueued (ticket + 1) serving (set views by w)

@@ -37,7 +37,7 @@ module _ {S Q : Type 0} where
     written = places_own (record { who = caller; step = step }) seen ∙ ap (λ ps. length seen ∷ ps) legal.written;
     in_order = (last_within (length seen) mine legal.within, legal.in_order);
     within = All-cons (λ m. end_of m ≤ suc (length seen)) (Wrote (length seen)) mine (omega arith)
-      (within_more (length seen) (suc (length seen)) mine (omega arith) legal.within);
+        (within_more (length seen) (suc (length seen)) mine (omega arith) legal.within);
   }
 
   pub legal_read : (caller : ℕ) (question : Q) (seen : List (Entry S)) (mine : List (Mark Q)) → IsLegal caller seen mine → IsLegal caller seen (Read question (length seen) ∷ mine)
@@ -68,7 +68,7 @@ module _ {V O S Q : Type 0} where
     live = subst (λ v. 0 < v.parts) (sym is) seated.live;
     rests = subst (λ v. IsAtRest v.stage after.1) (sym is) slots;
     legal = subst (λ v. IsLegal v.caller after.0.seen v.mine) (sym is)
-      (legal_seen me.0.caller me.0.seen after.0.seen me.0.mine seated.legal
+        (legal_seen me.0.caller me.0.seen after.0.seen me.0.mine seated.legal
         (subst (λ v. Begins v.seen after.0.seen) mid_is noted.begins)
         (own_written after.0.seen me.0 seated.live (subst (λ v. All (AreCalls after.0.seen) (calls_of v)) mid_is noted.calls)));
   }
@@ -119,7 +119,7 @@ module _ {V O S Q : Type 0} where
     joined_seen = (
       All-head (λ old. Begins old after.0.seen) me.0.seen (theirs.0.seen ∷ (theirs.0.old_seen ++ me.0.old_seen)) all_old,
       All-head (λ old. Begins old after.0.seen) theirs.0.seen (theirs.0.old_seen ++ me.0.old_seen)
-        (All-tail (λ old. Begins old after.0.seen) me.0.seen (theirs.0.seen ∷ (theirs.0.old_seen ++ me.0.old_seen)) all_old),
+          (All-tail (λ old. Begins old after.0.seen) me.0.seen (theirs.0.seen ∷ (theirs.0.old_seen ++ me.0.old_seen)) all_old),
     )
 
     after_live : 0 < after.0.parts
@@ -128,14 +128,14 @@ module _ {V O S Q : Type 0} where
     -- the calls of both stand in it
     pub joined_calls : (history : List (Entry S)) → All (AreCalls history) (calls_of after.0) → All (AreCalls history) (own_calls me.0 ∷ own_calls theirs.0 ∷ (theirs.0.old_calls ++ me.0.old_calls))
     joined_calls history all = subst (λ (m : Me (Option V) (View O S Q)). All (AreCalls history) (own_calls m.0 ∷ m.0.old_calls)) is
-      (subst (All (AreCalls history)) (calls_live after.0 after_live) all)
+        (subst (All (AreCalls history)) (calls_live after.0 after_live) all)
 
     pub joined_own : (places me.0.caller after.0.seen ≡ wrote me.0.mine) × (places theirs.0.caller after.0.seen ≡ wrote theirs.0.mine)
     joined_own =
         let all = joined_calls after.0.seen calls in (
           All-head (AreCalls after.0.seen) (own_calls me.0) (own_calls theirs.0 ∷ (theirs.0.old_calls ++ me.0.old_calls)) all,
           All-head (AreCalls after.0.seen) (own_calls theirs.0) (theirs.0.old_calls ++ me.0.old_calls)
-            (All-tail (AreCalls after.0.seen) (own_calls me.0) (own_calls theirs.0 ∷ (theirs.0.old_calls ++ me.0.old_calls)) all),
+              (All-tail (AreCalls after.0.seen) (own_calls me.0) (own_calls theirs.0 ∷ (theirs.0.old_calls ++ me.0.old_calls)) all),
         )
 
     pub seated_join : (caller count other found : ℕ) → IsSeated caller count me → IsSeated theirs.0.caller other theirs → found ≡ max count other → IsSeated caller found after
@@ -147,5 +147,5 @@ module _ {V O S Q : Type 0} where
       live = after_live;
       rests = subst (λ (m : Me (Option V) (View O S Q)). IsAtRest m.0.stage m.1) (sym is) seated.rests;
       legal = subst (λ (m : Me (Option V) (View O S Q)). IsLegal m.0.caller after.0.seen m.0.mine) (sym is)
-        (legal_seen me.0.caller me.0.seen after.0.seen me.0.mine seated.legal joined_seen.0 joined_own.0);
+          (legal_seen me.0.caller me.0.seen after.0.seen me.0.mine seated.legal joined_seen.0 joined_own.0);
     }

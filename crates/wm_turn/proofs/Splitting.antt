@@ -76,7 +76,7 @@ module _ {V O S Q : Type 0} (opening_of : V → O) (stands : V → List (Entry S
     held_once : (number : ℕ) → sum_by (holds number) (set s.views id left ++ right ∷ []) ≤ 1
     held_once number = dite (ℕ_discrete right.caller number)
         (λ same. subst (λ k. sum_by (holds k) (set s.views id left ++ right ∷ []) ≤ 1) same
-          (omega (arith, split_holds right.caller, new_number, same_ticket right.caller)))
+        (omega (arith, split_holds right.caller, new_number, same_ticket right.caller)))
         (λ apart. omega (arith, split_holds number, other_ticket right.caller number apart, kept.numbered.once number))
 
     held_below : (number : ℕ) → 0 < sum_by (holds number) (set s.views id left ++ right ∷ []) → number + (kept.spare - 1) < seats
@@ -146,23 +146,23 @@ module _ {V O S Q : Type 0} (opening_of : V → O) (stands : V → List (Entry S
       few_seats = kept.few_seats;
       homes_are = kept.homes_are;
       home_is = home_same opening_of stands opening kept.history (sum_by slotted s.views) (sum_by slotted (set s.views id left ++ right ∷ [])) kept.home
-        (omega (arith, split_sum slotted)) kept.home_is;
+          (omega (arith, split_sum slotted)) kept.home_is;
       queued = queued_same kept.ticket kept.serving s.views (set s.views id left ++ right ∷ [])
-        (λ number. omega (arith, split_sum (ticketed number))) (omega (arith, split_sum any_ticket)) kept.queued;
+          (λ number. omega (arith, split_sum (ticketed number))) (omega (arith, split_sum any_ticket)) kept.queued;
       numbered = record {
         parts_are = omega (arith, split_sum parts_of, left_live, live, kept.numbered.parts_are);
         spare_is = omega (arith, split_sum spare_of, some_spare, kept.numbered.spare_is);
         once = held_once;
         below = held_below;
         entries_below = All-weaker (λ (e : Entry S). e.who + kept.spare < seats) (λ (e : Entry S). e.who + (kept.spare - 1) < seats)
-          (λ e below. omega (arith, below)) kept.history kept.numbered.entries_below;
+            (λ e below. omega (arith, below)) kept.history kept.numbered.entries_below;
       };
       fit = λ j u there. ⊎_elim
-        (λ was. all_set (Fits opening seats (kept.spare - 1) kept.serving kept.history) s.views id left other_fits left_fits j u was)
-        (λ (is : right ≡ u). subst (Fits opening seats (kept.spare - 1) kept.serving kept.history) is right_fits)
-        (at_snoc (set s.views id left) right u j there);
+          (λ was. all_set (Fits opening seats (kept.spare - 1) kept.serving kept.history) s.views id left other_fits left_fits j u was)
+          (λ (is : right ≡ u). subst (Fits opening seats (kept.spare - 1) kept.serving kept.history) is right_fits)
+          (at_snoc (set s.views id left) right u j there);
       seen = let seen = seen_set kept.history kept.history s.views id v left at left_live (inr ((λ all. all), refl)) kept.seen in
-        record { by = seen.by; view = seen.view; there = at_longer (set s.views id left) (right ∷ []) seen.by seen.view seen.there; live = seen.live; all = seen.all };
+          record { by = seen.by; view = seen.view; there = at_longer (set s.views id left) (right ∷ []) seen.by seen.view seen.there; live = seen.live; all = seen.all };
     }
 
   pub splits_allowed : (id : ℕ) (v : View O S Q) → 0 < v.spare → 0 < v.parts → Splits Rule id v (left_by_split v) (new_by_split v)

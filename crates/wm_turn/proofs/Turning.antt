@@ -42,11 +42,11 @@ module _ {V O S Q : Type 0} (opening_of : V → O) (stands : V → List (Entry S
           few_seats = kept.few_seats;
           homes_are = kept.homes_are;
           home_is = home_same opening_of stands opening kept.history (sum_by slotted s.views) (sum_by slotted (set s.views id w)) kept.home
-            (omega (arith, sum_set slotted s.views id me.0 w at, ap has_slot idle)) kept.home_is;
+              (omega (arith, sum_set slotted s.views id me.0 w at, ap has_slot idle)) kept.home_is;
           queued = queued_draw kept.ticket kept.serving s.views id me.0 w at idle refl kept.queued;
           numbered = numbered_set seats kept.spare kept.history kept.history s.views id me.0 w at refl refl (λ number. refl) kept.numbered.entries_below kept.numbered;
           fit = all_set (Fits opening seats kept.spare kept.serving kept.history) s.views id w (λ j u apart there. kept.fit j u there)
-            (fits_stage opening seats kept.spare kept.serving kept.history me.0 (Waits kept.ticket) (kept.fit id me.0 at) tt tt (omega (arith, live)));
+              (fits_stage opening seats kept.spare kept.serving kept.history me.0 (Waits kept.ticket) (kept.fit id me.0 at) tt tt (omega (arith, live)));
           seen = seen_set kept.history kept.history s.views id me.0 w at live (inr ((λ all. all), refl)) kept.seen;
         },
         (kept.ticket, refl, refl),
@@ -71,11 +71,11 @@ module _ {V O S Q : Type 0} (opening_of : V → O) (stands : V → List (Entry S
     few_seats = kept.few_seats;
     homes_are = kept.homes_are;
     home_is = home_same opening_of stands opening kept.history (sum_by slotted s.views) (sum_by slotted (set s.views id w)) kept.home
-      (omega (arith, sum_set slotted s.views id v w at, slots)) kept.home_is;
+        (omega (arith, sum_set slotted s.views id v w at, slots)) kept.home_is;
     queued = queued_set kept.ticket kept.serving s.views id v w at tickets any kept.queued;
     numbered = numbered_set seats kept.spare kept.history kept.history s.views id v w at refl refl (λ number. refl) kept.numbered.entries_below kept.numbered;
     fit = all_set (Fits opening seats kept.spare kept.serving kept.history) s.views id w (λ j u apart there. kept.fit j u there)
-      (fits_stage opening seats kept.spare kept.serving kept.history v stage (kept.fit id v at) served all (omega (arith, any, (kept.fit id v at).some_parts)));
+        (fits_stage opening seats kept.spare kept.serving kept.history v stage (kept.fit id v at) served all (omega (arith, any, (kept.fit id v at).some_parts)));
     seen = seen_set kept.history kept.history s.views id v w at live (inr ((λ all. all), refl)) kept.seen;
   }
     where
@@ -89,7 +89,7 @@ module _ {V O S Q : Type 0} (opening_of : V → O) (stands : V → List (Entry S
       let has : has_ticket ticket v.stage ≡ 1 = ap (has_ticket ticket) waits ∙ same_ticket ticket in
       let within = held_within kept.ticket kept.serving ticket s.views id v at has kept.queued in
       let few : sum_by (λ (u : View O S Q). has_any u.stage) s.views + 0 ≤ sum_by (λ (u : View O S Q). u.parts) s.views =
-          sum_more (λ (u : View O S Q). has_any u.stage) (λ (u : View O S Q). u.parts) 0 s.views id v (λ j u there. (kept.fit j u there).some_parts) at (omega (arith, (kept.fit id v at).some_parts)) in
+      sum_more (λ (u : View O S Q). has_any u.stage) (λ (u : View O S Q). u.parts) 0 s.views id v (λ j u there. (kept.fit j u there).some_parts) at (omega (arith, (kept.fit id v at).some_parts)) in
       sym (one_turn kept.serving ticket (2 ^ 64) within.0 (omega (arith, within.1, few, kept.numbered.parts_are, kept.few_seats, kept.queued.waiting)) same)
 
   pub watches_allowed : (slots id : ℕ) (me : Me (Option V) (View O S Q)) (ticket : ℕ) → me.0.stage ≡ Waits ticket → 0 < me.0.parts
@@ -100,9 +100,9 @@ module _ {V O S Q : Type 0} (opening_of : V → O) (stands : V → List (Entry S
         keeps,
         tt,
         subst
-          (λ stage. Rule (record { words = kept.ticket % 2 ^ 64 ∷ kept.serving % 2 ^ 64 ∷ length kept.history ∷ []; homes = s.homes; views = slice_set s.views id (record me.0 { stage = stage_at (kept.serving % 2 ^ 64) stage }) }))
-          (sym waits)
-          (cases (kept.serving % 2 ^ 64 == ticket % 2 ^ 64) refl),
+            (λ stage. Rule (record { words = kept.ticket % 2 ^ 64 ∷ kept.serving % 2 ^ 64 ∷ length kept.history ∷ []; homes = s.homes; views = slice_set s.views id (record me.0 { stage = stage_at (kept.serving % 2 ^ 64) stage }) }))
+            (sym waits)
+            (cases (kept.serving % 2 ^ 64 == ticket % 2 ^ 64) refl),
         refl,
       )
     where

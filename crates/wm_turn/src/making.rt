@@ -31,11 +31,7 @@ fn slot_with<V>(alloc: Global, value: V) -> Result<Vec<Option<V>>, V>
 }
 
 /// A table with the value in its slot, and its first place, or the value where there is no memory.
-pub(crate) fn lay<V: Stands>(
-    alloc: Global,
-    value: V,
-    seats: u32,
-) -> Result<(Board<V>, Place<V>), V>
+pub(crate) fn lay<V: Stands>(alloc: Global, value: V, seats: u32) -> Result<(Board<V>, Place<V>), V>
     requires seats { (1 ≤ seats) × (seats ≤ 4096) }
     requires stands { V.stands value [] }
     ensures board { IfOk result (λ laid. IsSized laid.0.shared.table_id × (laid.0.shared.key.0 ≡ seats) × (V.opening laid.0.shared.key.1.value ≡ V.opening value)) }
@@ -103,9 +99,7 @@ pub(crate) fn gather<V: Stands>(desk: &Desk<V>, mut seats: Vec<Seat<V>>) -> Plac
     ensures known { All (AreCalls result.me.0.seen) (calls_of result.me.0) → All (IsKnown result.me.0.seen) seats.items }
 {
     let last = seats.pop();
-    let Some(seat) = last else {
-        unreachable!()
-    };
+    let Some(seat) = last else { unreachable!() };
     let (mut place, _) = seat.into_place();
     while let Some(seat) = seats.pop() {
         let (other, _) = seat.into_place();
@@ -125,8 +119,6 @@ pub(crate) fn end<V: Stands>(table: Board<V>, place: Place<V>) -> V
     let mut closed = table.close_with(place);
     let slot = closed.take(0);
     closed.free();
-    let Some(value) = slot else {
-        unreachable!()
-    };
+    let Some(value) = slot else { unreachable!() };
     value
 }

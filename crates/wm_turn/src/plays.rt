@@ -5,7 +5,7 @@ use atomic_table::{Join, Play, Split};
 use std::marker::{Brand, PhantomData};
 
 /// Names what a step says, for the proof alone. Each call picks it.
-pub trait Says<X> {
+pub(crate) trait Says<X> {
     ghost use Rattle.std.specs.Prelude.{Option};
 
     ghost said: { Option X };

@@ -7,13 +7,17 @@ use std::marker::PhantomData;
 use std::snapshot::Snapshot;
 
 /// What the rule is told once: the number of seats, and the first value.
-pub type Key<V> = (u32, Snapshot<V>);
+pub(crate) type Key<V> = (u32, Snapshot<V>);
 
 /// The view of a seat of values `V`.
-pub type ViewOf<V> = View<<V as Stands>::Opening, <V as Stands>::Step, <V as Stands>::Question>;
+pub(crate) type ViewOf<V> = View<
+    <V as Stands>::Opening,
+    <V as Stands>::Step,
+    <V as Stands>::Question,
+>;
 
 /// Each ticket is served once, and the value at home stands for the one history.
-pub struct InTurn<V> {
+pub(crate) struct InTurn<V> {
     value: PhantomData<V>,
 }
 

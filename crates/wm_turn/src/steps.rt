@@ -61,18 +61,15 @@ pub(crate) fn note<V: Stands>(desk: &Desk<V>, place: &mut Place<V>) -> (V, u64)
 }
 
 /// Adds the entry of the step, which `N` names.
-pub(crate) fn add<V: Stands, N: Says<V::Step>>(
-    desk: &Desk<V>,
-    place: &mut Place<V>,
-    _step: &V::Step,
-)
+pub(crate) fn add<V: Stands, N: Says<V::Step>>(desk: &Desk<V>, place: &mut Place<V>, step: &V::Step)
     requires at { IsAt desk.now.table_id place.old }
     requires noted { (ticket : ℕ) × (place.old.me.0.stage ≡ Noted ticket) }
     requires live { (0 < place.old.me.0.parts) × (length place.old.me.0.seen < 2 ^ 48) }
-    requires said { N.said ≡ Some (V.form _step.now) }
+    requires said { N.said ≡ Some (V.form step.now) }
     ensures same { IsSamePlace place.old place.new }
-    ensures logged { place.new.me ≡ (logged (Some (V.form _step.now)) place.old.me.0, place.old.me.1) }
+    ensures logged { place.new.me ≡ (logged (Some (V.form step.now)) place.old.me.0, place.old.me.1) }
 {
+    let _ = step;
     desk.fetch_add::<Log<N>>(place, COUNT, 1);
 }
 
@@ -90,9 +87,7 @@ pub(crate) fn pass_on<V: Stands, N: Says<V::Question>>(
     ensures passed { place.new.me ≡ (passed_on N.said place.old.me.0, []) }
 {
     let empty = desk.exchange(place, 0, Some(value));
-    let None = empty else {
-        unreachable!()
-    };
+    let None = empty else { unreachable!() };
     desk.fetch_add::<PassOn<N>>(place, SERVING, 1);
 }
 
@@ -101,16 +96,17 @@ pub(crate) fn pass_on_read<V: Stands, N: Says<V::Question>>(
     desk: &Desk<V>,
     place: &mut Place<V>,
     value: V,
-    _question: &V::Question,
+    question: &V::Question,
 )
     requires at { IsAt desk.now.table_id place.old }
     requires noted { (ticket : ℕ) × (place.old.me.0.stage ≡ Noted ticket) }
     requires live { (0 < place.old.me.0.parts) × (place.old.me.1 ≡ (0, None) ∷ []) }
-    requires said { N.said ≡ Some _question.now }
+    requires said { N.said ≡ Some question.now }
     requires value { (place.old.me.0.opening ≡ Some (V.opening value)) × V.stands value place.old.me.0.seen }
     ensures same { IsSamePlace place.old place.new }
-    ensures passed { place.new.me ≡ (passed_on (Some _question.now) place.old.me.0, []) }
+    ensures passed { place.new.me ≡ (passed_on (Some question.now) place.old.me.0, []) }
 {
+    let _ = question;
     pass_on::<V, N>(desk, place, value);
 }
 

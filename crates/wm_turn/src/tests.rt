@@ -50,6 +50,25 @@ fn sent<T: Send>(value: T) -> T
     value
 }
 
+/// The value, which other threads may use.
+fn shared<T: Sync>(value: &T) -> &T
+    ensures { result.now ≡ value.now }
+{
+    value
+}
+
+/// A turnstile and its seat may go to other threads where its value may.
+fn sent_together<V: Stands + Send>(
+    turnstile: Turnstile<V>,
+    seat: Seat<V>,
+) -> (Turnstile<V>, Seat<V>)
+    ensures { result ≡ (turnstile, seat) }
+{
+    let turnstile = sent(turnstile);
+    shared(&turnstile);
+    (turnstile, sent(seat))
+}
+
 /// Takes one step, and answers whether there was memory for it.
 fn take_step<R: Wait>(
     rt: &R,
@@ -73,11 +92,7 @@ fn take_step<R: Wait>(
 }
 
 /// Asks whether the number of entries is even.
-fn ask_even<R: Wait>(
-    rt: &R,
-    turnstile: &Turnstile<Ledger>,
-    seat: &mut Seat<Ledger>,
-) -> bool
+fn ask_even<R: Wait>(rt: &R, turnstile: &Turnstile<Ledger>, seat: &mut Seat<Ledger>) -> bool
     requires door { seat.old.door ≡ turnstile.now.door }
     requires no_turn { seat.old.turn ≡ false }
     ensures door { seat.new.door ≡ seat.old.door }
@@ -129,8 +144,8 @@ fn are_in_order(steps: &LinkedList<(u32, u32)>, caller: u32) -> bool {
 fn one_seat_enters_logs_and_leaves(rt: HostRuntime) -> Result<(), Fail> {
     let started = Turnstile::start(rt.alloc(), opened_with(rt.alloc(), 7), 1);
     let (turnstile, mut seats) = started.map_err(|_refused| "no memory")?;
-    let turnstile = sent(turnstile);
-    let mut seat = seats.pop().ok_or("a seat")?;
+    let seat = seats.pop().ok_or("a seat")?;
+    let (turnstile, mut seat) = sent_together(turnstile, seat);
     assert_eq!(rt; (seat.caller(), seat.count()), (0, 0));
     assert!(rt; take_step(&rt, &turnstile, &mut seat, 5));
     assert_eq!(rt; seat.count(), 1);

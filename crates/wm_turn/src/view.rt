@@ -15,7 +15,7 @@ pub enum Mark<Q> {
 }
 
 /// How far a seat is on its way to the value, with the number of its ticket.
-pub enum Stage {
+pub(crate) enum Stage {
     /// It has no ticket.
     Idle,
     /// It has a ticket, and waits.
@@ -27,13 +27,13 @@ pub enum Stage {
 }
 
 /// A caller's number, and the places of its entries, the newest first.
-pub struct Calls {
+pub(crate) struct Calls {
     pub caller: u32,
     pub places: LinkedList<u64>,
 }
 
 /// What a seat knows. A view without parts is spent.
-pub struct View<O, S, Q> {
+pub(crate) struct View<O, S, Q> {
     pub stage: Stage,
     pub caller: u32,
     /// How many seats are still to be split off.

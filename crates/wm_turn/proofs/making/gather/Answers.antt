@@ -26,7 +26,7 @@ loop-seat-init g c =
       sym (ap (longest []) items ∙ (longest_push [] left c.in-Some.seat ∙ ap (λ seen. longest seen left) (longer_nothing c.in-Some.seat.seen ∙ ap (λ pass. pass.seen) same))),
       conds.0,
       λ history begins calls all. subst (All (IsKnown history)) (sym items)
-        (known_first history place.me c.in-Some.seat left (sym (ap (λ pass. pass.seen) same), sym (ap (λ pass. pass.caller) same), sym (ap (λ pass. pass.mine) same)) seated.live begins calls all),
+          (known_first history place.me c.in-Some.seat left (sym (ap (λ pass. pass.seen) same), sym (ap (λ pass. pass.caller) same), sym (ap (λ pass. pass.mine) same)) seated.live begins calls all),
     )
 
 pub merge-requires-clause-other : goal.merge-requires-clause-other
@@ -64,10 +64,10 @@ loop-seat-preserved g c =
       ap (λ m. longest m.0.seen left) merged.joined ∙ (ap (λ pass. longest (longer pass.seen me.0.seen) left) (sym same) ∙ (sym (longest_push me.0.seen left seat) ∙ (ap (longest me.0.seen) (sym items) ∙ before.6))),
       conds.0,
       λ history begins calls all.
-        let both = known_both me theirs after merged.joined before.2 merged.begins merged.calls history begins calls in
-        before.8 history both.0 both.1
+          let both = known_both me theirs after merged.joined before.2 merged.begins merged.calls history begins calls in
+          before.8 history both.0 both.1
           (subst (All (IsKnown history)) (sym items)
-            (All-push (IsKnown history) left seat all (subst (λ pass. IsKnown history pass) (sym same) (both.2, both.3)))),
+          (All-push (IsKnown history) left seat all (subst (λ pass. IsKnown history pass) (sym same) (both.2, both.3)))),
     )
 
 pub returns-clause-known : goal.returns-clause-known

@@ -19,7 +19,7 @@ invariant-loop-seat g l =
     × (longest l.place.me.0.seen l.seats.items ≡ longest [] l.fn.seats.items)
     × All (λ seat. (seat.door ≡ l.fn.desk.table_id) × (seat.turn ≡ false)) l.seats.items
     × ((history : List (Entry g.row.V-Step.Denot)) → Begins l.place.me.0.seen history → All (AreCalls history) (calls_of l.place.me.0)
-      → All (IsKnown history) l.seats.items → All (IsKnown history) l.fn.seats.items)
+    → All (IsKnown history) l.seats.items → All (IsKnown history) l.fn.seats.items)
 
 abbrev pub decreases-loop-seat : goal.decreases-loop-seat
 decreases-loop-seat g l = length l.seats.items

@@ -9,5 +9,5 @@ fetch_add-requires g c =
       c.requires.at.0,
       omega (arith, c.requires.at.1),
       logs_allowed g.V.Stands.opening g.V.Stands.stands desk.key.0 (g.V.Stands.opening desk.key.1.value) desk.table_id.slots place.id place.me
-        c.requires.noted.0 g.N.Says.said (g.V.Stands.form c.args._step.now) c.requires.said c.requires.noted.1 c.requires.live.0 c.requires.live.1,
+          c.requires.noted.0 g.N.Says.said (g.V.Stands.form c.args.step.now) c.requires.said c.requires.noted.1 c.requires.live.0 c.requires.live.1,
     )

@@ -15,7 +15,7 @@ join_seat-requires g c =
       c.requires.idle.2,
       omega (arith, c.requires.at.1),
       joins_allowed g.V.Stands.opening g.V.Stands.stands desk.key.0 (g.V.Stands.opening desk.key.1.value) place.id other.id place.me.0 other.me.0
-        (c.requires.idle.0, c.requires.idle.1) c.requires.live c.requires.spare,
+          (c.requires.idle.0, c.requires.idle.1) c.requires.live c.requires.spare,
     )
 
 pub load-requires : goal.load-requires

@@ -10,7 +10,7 @@ load-count-requires g c =
       c.requires.at.0,
       omega (arith, c.requires.at.1),
       notes_allowed g.V.Stands.opening g.V.Stands.stands desk.key.0 (g.V.Stands.opening desk.key.1.value) desk.table_id.slots place.id place.me
-        c.requires.turn.0 c.requires.turn.1 c.requires.live.0,
+          c.requires.turn.0 c.requires.turn.1 c.requires.live.0,
     )
 
 pub exchange-requires : goal.exchange-requires

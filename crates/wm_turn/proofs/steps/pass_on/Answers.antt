@@ -12,10 +12,10 @@ fetch_add-requires g c =
       c.exchange-empty.ensures.0 ∙ c.requires.at.0,
       omega (arith, c.requires.at.1),
       passes_allowed g.V.Stands.opening g.V.Stands.stands desk.key.0 (g.V.Stands.opening desk.key.1.value) desk.table_id.slots place.id place.me
-        c.requires.noted.0 g.N.Says.said c.args.value
-        (ap (λ v. v.stage) same ∙ c.requires.noted.1)
-        (subst (λ v. 0 < v.parts) (sym same) c.requires.live.0)
-        (ap (λ me. me.1) put ∙ ap (λ slots. (0, Some c.args.value) ∷ rest slots) c.requires.live.1)
-        (ap (λ v. v.opening) same ∙ c.requires.value.0)
-        (subst (λ v. g.V.Stands.stands c.args.value v.seen) (sym same) c.requires.value.1),
+          c.requires.noted.0 g.N.Says.said c.args.value
+          (ap (λ v. v.stage) same ∙ c.requires.noted.1)
+          (subst (λ v. 0 < v.parts) (sym same) c.requires.live.0)
+          (ap (λ me. me.1) put ∙ ap (λ slots. (0, Some c.args.value) ∷ rest slots) c.requires.live.1)
+          (ap (λ v. v.opening) same ∙ c.requires.value.0)
+          (subst (λ v. g.V.Stands.stands c.args.value v.seen) (sym same) c.requires.value.1),
     )

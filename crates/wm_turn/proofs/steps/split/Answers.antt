@@ -9,5 +9,5 @@ split_seat-requires g c =
       c.requires.at.0,
       omega (arith, c.requires.at.1),
       splits_allowed g.V.Stands.opening g.V.Stands.stands desk.key.0 (g.V.Stands.opening desk.key.1.value) place.id place.me.0
-        c.requires.spare.0 c.requires.spare.1,
+          c.requires.spare.0 c.requires.spare.1,
     )

@@ -9,7 +9,7 @@ fetch_add-number-requires g c =
       c.requires.at.0,
       omega (arith, c.requires.at.1),
       draws_allowed g.V.Stands.opening g.V.Stands.stands desk.key.0 (g.V.Stands.opening desk.key.1.value) desk.table_id.slots place.id place.me
-        c.requires.idle.0 c.requires.idle.1,
+          c.requires.idle.0 c.requires.idle.1,
     )
 
 pub load-requires : goal.load-requires
@@ -20,5 +20,5 @@ load-requires g c =
       c.loop.invariant.0.0 ∙ c.requires.at.0,
       omega (arith, c.requires.at.1),
       watches_allowed g.V.Stands.opening g.V.Stands.stands desk.key.0 (g.V.Stands.opening desk.key.1.value) desk.table_id.slots place.id place.me
-        waits.0 (ap (λ me. me.0.stage) waits.2) (subst (λ me. 0 < me.0.parts) (sym waits.2) c.requires.idle.1),
+          waits.0 (ap (λ me. me.0.stage) waits.2) (subst (λ me. 0 < me.0.parts) (sym waits.2) c.requires.idle.1),
     )

@@ -7,7 +7,7 @@ pub invariant_of-seat : goal.invariant_of-seat
 invariant_of-seat g c =
     let merged = c.merge.ensures in
     seated_join c.seat.inside.place.me c.into_place-place.result.0.me c.merge.new.place.me merged.joined c.seat.invariant.live merged.begins merged.calls
-      c.seat.inside.caller c.seat.inside.count c.into_place-place.result.1 c.max-seat-inside.result c.seat.invariant c.into_place-place.ensures.seated c.max-seat-inside.ensures
+    c.seat.inside.caller c.seat.inside.count c.into_place-place.result.1 c.max-seat-inside.result c.seat.invariant c.into_place-place.ensures.seated c.max-seat-inside.ensures
 
 pub returns-clause-seen : goal.returns-clause-seen
 returns-clause-seen g c =
