@@ -9,7 +9,7 @@ use Rattle.wm_turn.specs.declared.view.Mark.TheVariants.{Wrote, Read}
 use Rattle.wm_turn.specs.declared.view.Stage.{Stage}
 use Rattle.wm_turn.specs.declared.view.Stage.TheVariants.{Idle, Waits, Turn, Noted}
 use Rattle.wm_turn.specs.declared.view.View.{View}
-use Rattle.wm_turn.specs.History.{Begins, IsLegal, places, longer, wrote, end_of, last_end, AreWithin}
+use Rattle.wm_turn.specs.History.{Begins, AreLegal, places, longer, wrote, end_of, last_end, AreWithin}
 use Rattle.wm_turn.specs.Pass.{IsAtRest, IsSeated}
 use Rattle.wm_turn.specs.Rule.{AreCalls, own_calls, calls_of, joined}
 use Rattle.wm_turn.specs.Told.{HasNoted, noted_stage, logged, passed_on}
@@ -25,14 +25,14 @@ within_more count more marks le within = All-weaker (λ m. end_of m ≤ count) (
 
 module _ {S Q : Type 0} where
   -- what was seen grows, by no entry of the caller's own
-  pub legal_seen : (caller : ℕ) (seen more : List (Entry S)) (mine : List (Mark Q)) → IsLegal caller seen mine → Begins seen more → places caller more ≡ wrote mine → IsLegal caller more mine
+  pub legal_seen : (caller : ℕ) (seen more : List (Entry S)) (mine : List (Mark Q)) → AreLegal caller seen mine → Begins seen more → places caller more ≡ wrote mine → AreLegal caller more mine
   legal_seen caller seen more mine legal begins written = record {
     written = written;
     in_order = legal.in_order;
     within = within_more (length seen) (length more) mine (begins_length seen more begins) legal.within;
   }
 
-  pub legal_log : (caller : ℕ) (step : S) (seen : List (Entry S)) (mine : List (Mark Q)) → IsLegal caller seen mine → IsLegal caller (record { who = caller; step = step } ∷ seen) (Wrote (length seen) ∷ mine)
+  pub legal_log : (caller : ℕ) (step : S) (seen : List (Entry S)) (mine : List (Mark Q)) → AreLegal caller seen mine → AreLegal caller (record { who = caller; step = step } ∷ seen) (Wrote (length seen) ∷ mine)
   legal_log caller step seen mine legal = record {
     written = places_own (record { who = caller; step = step }) seen ∙ ap (λ ps. length seen ∷ ps) legal.written;
     in_order = (last_within (length seen) mine legal.within, legal.in_order);
@@ -40,7 +40,7 @@ module _ {S Q : Type 0} where
         (within_more (length seen) (suc (length seen)) mine (omega arith) legal.within);
   }
 
-  pub legal_read : (caller : ℕ) (question : Q) (seen : List (Entry S)) (mine : List (Mark Q)) → IsLegal caller seen mine → IsLegal caller seen (Read question (length seen) ∷ mine)
+  pub legal_read : (caller : ℕ) (question : Q) (seen : List (Entry S)) (mine : List (Mark Q)) → AreLegal caller seen mine → AreLegal caller seen (Read question (length seen) ∷ mine)
   legal_read caller question seen mine legal = record {
     written = legal.written;
     in_order = (last_within (length seen) mine legal.within, legal.in_order);
@@ -67,7 +67,7 @@ module _ {V O S Q : Type 0} where
     no_spare = ap (λ v. v.spare) is ∙ seated.no_spare;
     live = subst (λ v. 0 < v.parts) (sym is) seated.live;
     rests = subst (λ v. IsAtRest v.stage after.1) (sym is) slots;
-    legal = subst (λ v. IsLegal v.caller after.0.seen v.mine) (sym is)
+    legal = subst (λ v. AreLegal v.caller after.0.seen v.mine) (sym is)
         (legal_seen me.0.caller me.0.seen after.0.seen me.0.mine seated.legal
         (subst (λ v. Begins v.seen after.0.seen) mid_is noted.begins)
         (own_written after.0.seen me.0 seated.live (subst (λ v. All (AreCalls after.0.seen) (calls_of v)) mid_is noted.calls)));
@@ -146,6 +146,6 @@ module _ {V O S Q : Type 0} where
       no_spare = ap (λ (m : Me (Option V) (View O S Q)). m.0.spare) is ∙ seated.no_spare;
       live = after_live;
       rests = subst (λ (m : Me (Option V) (View O S Q)). IsAtRest m.0.stage m.1) (sym is) seated.rests;
-      legal = subst (λ (m : Me (Option V) (View O S Q)). IsLegal m.0.caller after.0.seen m.0.mine) (sym is)
+      legal = subst (λ (m : Me (Option V) (View O S Q)). AreLegal m.0.caller after.0.seen m.0.mine) (sym is)
           (legal_seen me.0.caller me.0.seen after.0.seen me.0.mine seated.legal joined_seen.0 joined_own.0);
     }

@@ -51,7 +51,7 @@ module _ {Q : Type 0} where
   AreWithin count marks = All (λ mark. end_of mark ≤ count) marks
 
 -- the caller's entries in what it has seen are exactly those that it has marks of, and its marks stand in order within it
-pub record IsLegal {S Q : Type 0} (caller : ℕ) (seen : List (Entry S)) (mine : List (Mark Q)) : Type 0 where
+pub record AreLegal {S Q : Type 0} (caller : ℕ) (seen : List (Entry S)) (mine : List (Mark Q)) : Type 0 where
   pub written : places caller seen ≡ wrote mine
   pub in_order : AreInOrder mine
   pub within : AreWithin (length seen) mine

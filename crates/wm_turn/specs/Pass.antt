@@ -8,7 +8,7 @@ use Rattle.wm_turn.specs.declared.view.Mark.{Mark}
 use Rattle.wm_turn.specs.declared.view.Stage.{Stage}
 use Rattle.wm_turn.specs.declared.view.Stage.TheVariants.{Idle, Waits, Turn, Noted}
 use Rattle.wm_turn.specs.declared.view.View.{View}
-use Rattle.wm_turn.specs.History.{Begins, IsLegal, longer, places, wrote}
+use Rattle.wm_turn.specs.History.{Begins, AreLegal, longer, places, wrote}
 
 pub record Pass (O S Q : Type 0) : Type 0 where
   -- the turnstile that it is of
@@ -65,9 +65,13 @@ module _ {V O S Q : Type 0} where
     pub no_spare : me.0.spare ≡ 0
     pub live : 0 < me.0.parts
     pub rests : IsAtRest me.0.stage me.1
-    pub legal : IsLegal me.0.caller me.0.seen me.0.mine
+    pub legal : AreLegal me.0.caller me.0.seen me.0.mine
 
 module _ {O S Q : Type 0} where
+  -- a seat's marks are those of its caller's calls
+  abbrev pub IsLegal : Pass O S Q → Type 0
+  IsLegal pass = AreLegal pass.caller pass.seen pass.mine
+
   -- a seat that was just handed out
   abbrev pub new_pass : TableId → O → ℕ → Pass O S Q
   new_pass door opening caller =

@@ -11,7 +11,7 @@ ghost use Rattle.wm_turn.specs.declared.view.Stage.TheVariants.{Idle};
 use crate::rule::{InTurn, Key, ViewOf};
 use crate::seat::{Place, Seat};
 use crate::stands::Stands;
-use crate::steps::{Desk, merge, split};
+use crate::steps::{Common, merge, split};
 use atomic_table::{Refused, Table};
 use std::alloc::Global;
 use std::snapshot::Snapshot;
@@ -58,19 +58,19 @@ pub(crate) fn lay<V: Stands>(alloc: Global, value: V, seats: u32) -> Result<(Boa
 
 /// Splits all seats off the first one, and puts them into the list in the order of their numbers.
 pub(crate) fn seat_all<V: Stands>(
-    desk: &Desk<V>,
+    common: &Common<V>,
     mut place: Place<V>,
     seats: u32,
     mut list: Vec<Seat<V>>,
 ) -> Vec<Seat<V>>
-    requires at { IsAt desk.now.table_id place }
-    requires first { place.me ≡ (first_view seats (V.opening desk.now.key.1.value), []) }
+    requires at { IsAt common.now.table_id place }
+    requires first { place.me ≡ (first_view seats (V.opening common.now.key.1.value), []) }
     requires seats { (1 ≤ seats) × (seats ≤ 4096) }
     requires room { (list.items ≡ []) × (vec_len list ≡ 0) × (seats ≤ vec_capacity list) }
-    ensures { result.items ≡ new_passes desk.now.table_id (V.opening desk.now.key.1.value) 0 seats }
+    ensures { result.items ≡ new_passes common.now.table_id (V.opening common.now.key.1.value) 0 seats }
 {
     for caller in 1..seats {
-        let other = split(desk, &mut place);
+        let other = split(common, &mut place);
         list.push_reserved(Seat {
             place: other,
             caller,
@@ -88,11 +88,11 @@ pub(crate) fn seat_all<V: Stands>(
 }
 
 /// Joins all seats into one place.
-pub(crate) fn gather<V: Stands>(desk: &Desk<V>, mut seats: Vec<Seat<V>>) -> Place<V>
-    requires sized { IsSized desk.now.table_id }
-    requires seats { All (λ seat. (seat.door ≡ desk.now.table_id) × (seat.turn ≡ false)) seats.items }
+pub(crate) fn gather<V: Stands>(common: &Common<V>, mut seats: Vec<Seat<V>>) -> Place<V>
+    requires sized { IsSized common.now.table_id }
+    requires seats { All (λ seat. (seat.door ≡ common.now.table_id) × (seat.turn ≡ false)) seats.items }
     requires some { 0 < sum_by (λ seat. seat.parts) seats.items }
-    ensures at { IsAt desk.now.table_id result }
+    ensures at { IsAt common.now.table_id result }
     ensures idle { (result.me.0.stage ≡ Idle) × (0 < result.me.0.parts) × (result.me.1 ≡ []) }
     ensures parts { result.me.0.parts ≡ sum_by (λ seat. seat.parts) seats.items }
     ensures seen { result.me.0.seen ≡ longest [] seats.items }
@@ -103,7 +103,7 @@ pub(crate) fn gather<V: Stands>(desk: &Desk<V>, mut seats: Vec<Seat<V>>) -> Plac
     let (mut place, _) = seat.into_place();
     while let Some(seat) = seats.pop() {
         let (other, _) = seat.into_place();
-        merge(desk, &mut place, other);
+        merge(common, &mut place, other);
     }
     seats.destroy_empty();
     place

@@ -1,7 +1,6 @@
 //! The seats at a turnstile.
 ghost use Rattle.std.specs.Prelude.{◌≡◌, length};
-ghost use Rattle.wm_turn.specs.History.{IsLegal};
-ghost use Rattle.wm_turn.specs.Pass.{IsSeated, pass_of};
+ghost use Rattle.wm_turn.specs.Pass.{IsLegal, IsSeated, pass_of};
 
 use crate::rule::ViewOf;
 use crate::stands::Stands;
@@ -32,7 +31,7 @@ impl<V: Stands> Seat<V> {
     /// The number of its caller.
     pub fn caller(&self) -> u32
         ensures caller { result ≡ self.now.caller }
-        ensures legal { IsLegal self.now.caller self.now.seen self.now.mine }
+        ensures legal { IsLegal self.now }
     {
         self.caller
     }
@@ -40,7 +39,7 @@ impl<V: Stands> Seat<V> {
     /// How many entries its caller has seen.
     pub fn count(&self) -> u64
         ensures count { result ≡ length self.now.seen }
-        ensures legal { IsLegal self.now.caller self.now.seen self.now.mine }
+        ensures legal { IsLegal self.now }
     {
         self.count
     }

@@ -17,28 +17,28 @@ use crossbeam_utils::Backoff;
 use std::sync::Wait;
 
 /// What the threads share.
-pub(crate) type Desk<V> = Shared<Option<V>, ViewOf<V>, Key<V>, InTurn<V>>;
+pub(crate) type Common<V> = Shared<Option<V>, ViewOf<V>, Key<V>, InTurn<V>>;
 
 /// The word of the next ticket.
-pub(crate) const TICKET: usize = 0;
+const TICKET: usize = 0;
 
 /// The word of the ticket that is served.
-pub(crate) const SERVING: usize = 1;
+const SERVING: usize = 1;
 
 /// The word of the number of entries.
-pub(crate) const COUNT: usize = 2;
+const COUNT: usize = 2;
 
 /// Draws a ticket, and waits until it is served.
-pub(crate) fn wait_for_turn<V: Stands, R: Wait>(rt: &R, desk: &Desk<V>, place: &mut Place<V>)
-    requires at { IsAt desk.now.table_id place.old }
+pub(crate) fn wait_for_turn<V: Stands, R: Wait>(rt: &R, common: &Common<V>, place: &mut Place<V>)
+    requires at { IsAt common.now.table_id place.old }
     requires idle { (place.old.me.0.stage ≡ Idle) × (0 < place.old.me.0.parts) }
     ensures same { IsSamePlace place.old place.new }
     ensures turn { (ticket : ℕ) × (place.new.me ≡ (record place.old.me.0 { stage = Turn ticket }, place.old.me.1)) }
 {
-    let number = desk.fetch_add::<Draw>(place, TICKET, 1);
+    let number = common.fetch_add::<Draw>(place, TICKET, 1);
     let backoff = Backoff::new();
     for _ in rt.forever() {
-        if desk.load::<Watch>(place, SERVING) == number {
+        if common.load::<Watch>(place, SERVING) == number {
             return;
         }
         backoff.snooze();
@@ -47,22 +47,22 @@ pub(crate) fn wait_for_turn<V: Stands, R: Wait>(rt: &R, desk: &Desk<V>, place: &
 }
 
 /// Notes the count, and takes the value out of the slot.
-pub(crate) fn note<V: Stands>(desk: &Desk<V>, place: &mut Place<V>) -> (V, u64)
-    requires at { IsAt desk.now.table_id place.old }
+pub(crate) fn note<V: Stands>(common: &Common<V>, place: &mut Place<V>) -> (V, u64)
+    requires at { IsAt common.now.table_id place.old }
     requires turn { (ticket : ℕ) × (place.old.me.0.stage ≡ Turn ticket) }
     requires live { (0 < place.old.me.0.parts) × (place.old.me.1 ≡ []) }
     ensures same { IsSamePlace place.old place.new }
     ensures noted { HasNoted V.opening V.stands place.old.me.0 result.0 result.1 place.new.me.0 }
     ensures slot { place.new.me.1 ≡ (0, None) ∷ [] }
 {
-    let count = desk.load::<Note>(place, COUNT);
-    let value = desk.exchange(place, 0, None).unwrap();
+    let count = common.load::<Note>(place, COUNT);
+    let value = common.exchange(place, 0, None).unwrap();
     (value, count)
 }
 
 /// Adds the entry of the step, which `N` names.
-pub(crate) fn add<V: Stands, N: Says<V::Step>>(desk: &Desk<V>, place: &mut Place<V>, step: &V::Step)
-    requires at { IsAt desk.now.table_id place.old }
+pub(crate) fn add<V: Stands, N: Says<V::Step>>(common: &Common<V>, place: &mut Place<V>, step: &V::Step)
+    requires at { IsAt common.now.table_id place.old }
     requires noted { (ticket : ℕ) × (place.old.me.0.stage ≡ Noted ticket) }
     requires live { (0 < place.old.me.0.parts) × (length place.old.me.0.seen < 2 ^ 48) }
     requires said { N.said ≡ Some (V.form step.now) }
@@ -70,35 +70,35 @@ pub(crate) fn add<V: Stands, N: Says<V::Step>>(desk: &Desk<V>, place: &mut Place
     ensures logged { place.new.me ≡ (logged (Some (V.form step.now)) place.old.me.0, place.old.me.1) }
 {
     let _ = step;
-    desk.fetch_add::<Log<N>>(place, COUNT, 1);
+    common.fetch_add::<Log<N>>(place, COUNT, 1);
 }
 
 /// Puts the value back into the slot and passes the turn on; the question that `N` names was answered.
 pub(crate) fn pass_on<V: Stands, N: Says<V::Question>>(
-    desk: &Desk<V>,
+    common: &Common<V>,
     place: &mut Place<V>,
     value: V,
 )
-    requires at { IsAt desk.now.table_id place.old }
+    requires at { IsAt common.now.table_id place.old }
     requires noted { (ticket : ℕ) × (place.old.me.0.stage ≡ Noted ticket) }
     requires live { (0 < place.old.me.0.parts) × (place.old.me.1 ≡ (0, None) ∷ []) }
     requires value { (place.old.me.0.opening ≡ Some (V.opening value)) × V.stands value place.old.me.0.seen }
     ensures same { IsSamePlace place.old place.new }
     ensures passed { place.new.me ≡ (passed_on N.said place.old.me.0, []) }
 {
-    let empty = desk.exchange(place, 0, Some(value));
+    let empty = common.exchange(place, 0, Some(value));
     let None = empty else { unreachable!() };
-    desk.fetch_add::<PassOn<N>>(place, SERVING, 1);
+    common.fetch_add::<PassOn<N>>(place, SERVING, 1);
 }
 
 /// The same, for the question that `N` names.
 pub(crate) fn pass_on_read<V: Stands, N: Says<V::Question>>(
-    desk: &Desk<V>,
+    common: &Common<V>,
     place: &mut Place<V>,
     value: V,
     question: &V::Question,
 )
-    requires at { IsAt desk.now.table_id place.old }
+    requires at { IsAt common.now.table_id place.old }
     requires noted { (ticket : ℕ) × (place.old.me.0.stage ≡ Noted ticket) }
     requires live { (0 < place.old.me.0.parts) × (place.old.me.1 ≡ (0, None) ∷ []) }
     requires said { N.said ≡ Some question.now }
@@ -107,24 +107,24 @@ pub(crate) fn pass_on_read<V: Stands, N: Says<V::Question>>(
     ensures passed { place.new.me ≡ (passed_on (Some question.now) place.old.me.0, []) }
 {
     let _ = question;
-    pass_on::<V, N>(desk, place, value);
+    pass_on::<V, N>(common, place, value);
 }
 
 /// Splits off a seat with the next number.
-pub(crate) fn split<V: Stands>(desk: &Desk<V>, place: &mut Place<V>) -> Place<V>
-    requires at { IsAt desk.now.table_id place.old }
+pub(crate) fn split<V: Stands>(common: &Common<V>, place: &mut Place<V>) -> Place<V>
+    requires at { IsAt common.now.table_id place.old }
     requires spare { (0 < place.old.me.0.spare) × (0 < place.old.me.0.parts) }
     ensures same { IsSamePlace place.old place.new }
     ensures left { place.new.me ≡ (left_by_split place.old.me.0, place.old.me.1) }
     ensures given { (result.table_id ≡ place.old.table_id) × (result.me ≡ (new_by_split place.old.me.0, [])) }
 {
-    desk.split_seat::<NewSeat>(place)
+    common.split_seat::<NewSeat>(place)
 }
 
 /// Joins another seat, and compares what both have seen and written.
-pub(crate) fn merge<V: Stands>(desk: &Desk<V>, place: &mut Place<V>, other: Place<V>)
-    requires at { IsAt desk.now.table_id place.old }
-    requires other { other.table_id ≡ desk.now.table_id }
+pub(crate) fn merge<V: Stands>(common: &Common<V>, place: &mut Place<V>, other: Place<V>)
+    requires at { IsAt common.now.table_id place.old }
+    requires other { other.table_id ≡ common.now.table_id }
     requires idle { (place.old.me.0.stage ≡ Idle) × (other.me.0.stage ≡ Idle) × (other.me.1 ≡ []) }
     requires live { (0 < place.old.me.0.parts) × (0 < other.me.0.parts) }
     requires spare { (place.old.me.0.spare ≡ 0) × (other.me.0.spare ≡ 0) }
@@ -133,6 +133,6 @@ pub(crate) fn merge<V: Stands>(desk: &Desk<V>, place: &mut Place<V>, other: Plac
     ensures begins { All (λ old. Begins old place.new.me.0.seen) place.new.me.0.old_seen }
     ensures calls { All (AreCalls place.new.me.0.seen) (calls_of place.new.me.0) }
 {
-    desk.join_seat::<OneSeat>(place, other);
-    desk.load::<Agree>(place, COUNT);
+    common.join_seat::<OneSeat>(place, other);
+    common.load::<Agree>(place, COUNT);
 }

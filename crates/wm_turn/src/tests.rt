@@ -1,7 +1,6 @@
 //! A turnstile with one seat and with several, one that two threads go through a hundred times each, and joining.
 ghost use Rattle.std.specs.Prelude.{◌≡◌, true, false, []};
 ghost use Rattle.std.specs.List.{All};
-ghost use Rattle.wm_turn.specs.History.{IsLegal};
 
 use crate::{Seat, Stands, Turnstile};
 use std::alloc::Global;

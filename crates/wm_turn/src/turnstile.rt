@@ -1,8 +1,8 @@
 //! The turnstile: one value behind a ticket lock.
 ghost use Rattle.std.specs.Prelude.{◌≡◌, ◌≤◌, ◌<◌, ◌+◌, ◌^◌, true, false, [], ◌∷◌, length, Some, IfOk, IfErr};
 ghost use Rattle.std.specs.List.{All, sum_by};
-ghost use Rattle.wm_turn.specs.History.{Begins, IsLegal, longer, places, wrote};
-ghost use Rattle.wm_turn.specs.Pass.{IsKnown, longest, new_passes};
+ghost use Rattle.wm_turn.specs.History.{Begins, longer, places, wrote};
+ghost use Rattle.wm_turn.specs.Pass.{IsKnown, IsLegal, longest, new_passes};
 ghost use Rattle.wm_turn.specs.declared.view.Mark.TheVariants.{Wrote, Read};
 
 use crate::making::{Board, end, gather, lay, seat_all};
@@ -66,7 +66,7 @@ impl<V: Stands> Turnstile<V> {
         ensures own { places seat.old.caller seat.new.seen ≡ places seat.old.caller seat.old.seen }
         ensures opening { seat.new.opening ≡ Some (V.opening result) }
         ensures stands { V.stands result seat.new.seen }
-        ensures legal { IsLegal seat.new.caller seat.new.seen seat.new.mine }
+        ensures legal { IsLegal seat.new }
     {
         wait_for_turn(rt, &self.table.shared, &mut seat.place);
         let (value, count) = note(&self.table.shared, &mut seat.place);
@@ -81,7 +81,7 @@ impl<V: Stands> Turnstile<V> {
         requires turn { seat.old.turn ≡ true }
         requires few { length seat.old.seen < 2 ^ 48 }
         ensures seat { seat.new ≡ record seat.old { seen = record { who = seat.old.caller; step = V.form step.now } ∷ seat.old.seen; mine = Wrote (length seat.old.seen) ∷ seat.old.mine } }
-        ensures legal { IsLegal seat.new.caller seat.new.seen seat.new.mine }
+        ensures legal { IsLegal seat.new }
     {
         add::<V, Brand>(&self.table.shared, &mut seat.place, step);
         seat.count += 1;
@@ -95,7 +95,7 @@ impl<V: Stands> Turnstile<V> {
         requires opening { seat.old.opening ≡ Some (V.opening value) }
         requires stands { V.stands value seat.old.seen }
         ensures seat { seat.new ≡ record seat.old { turn = false } }
-        ensures legal { IsLegal seat.new.caller seat.new.seen seat.new.mine }
+        ensures legal { IsLegal seat.new }
     {
         pass_on::<V, Brand>(&self.table.shared, &mut seat.place, value);
     }
@@ -107,7 +107,7 @@ impl<V: Stands> Turnstile<V> {
         requires opening { seat.old.opening ≡ Some (V.opening value) }
         requires stands { V.stands value seat.old.seen }
         ensures seat { seat.new ≡ record seat.old { turn = false; mine = Read question.now (length seat.old.seen) ∷ seat.old.mine } }
-        ensures legal { IsLegal seat.new.caller seat.new.seen seat.new.mine }
+        ensures legal { IsLegal seat.new }
     {
         pass_on_read::<V, Brand>(&self.table.shared, &mut seat.place, value, question);
     }
@@ -120,7 +120,7 @@ impl<V: Stands> Turnstile<V> {
         ensures seat { seat.new ≡ record seat.old { seen = longer other.seen seat.old.seen; parts = seat.old.parts + other.parts } }
         ensures seen { Begins seat.old.seen seat.new.seen × Begins other.seen seat.new.seen }
         ensures calls { places other.caller seat.new.seen ≡ wrote other.mine }
-        ensures legal { IsLegal seat.new.caller seat.new.seen seat.new.mine }
+        ensures legal { IsLegal seat.new }
     {
         let (place, count) = other.into_place();
         merge(&self.table.shared, &mut seat.place, place);

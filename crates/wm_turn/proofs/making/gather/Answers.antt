@@ -15,7 +15,7 @@ loop-seat-init g c =
     let same = c.into_place-place.ensures.place in
     let left = c.pop-last.new.self.items in
     let items : c.args.seats.items ≡ left ++ c.in-Some.seat ∷ [] = c.in-Some.ensures.items in
-    let conds = All-pop (λ seat. (seat.door ≡ c.args.desk.now.table_id) × (seat.turn ≡ false)) c.args.seats.items left (Some c.in-Some.seat) items c.requires.seats in
+    let conds = All-pop (λ seat. (seat.door ≡ c.args.common.now.table_id) × (seat.turn ≡ false)) c.args.seats.items left (Some c.in-Some.seat) items c.requires.seats in
     let idle = at_rest_idle place.me.0.stage place.me.1 (sym (ap (λ pass. pass.turn) same) ∙ conds.1.1) seated.rests in (
       sym (ap (λ pass. pass.door) same) ∙ conds.1.0,
       idle.0,
@@ -32,14 +32,14 @@ loop-seat-init g c =
 pub merge-requires-clause-other : goal.merge-requires-clause-other
 merge-requires-clause-other g c =
     let items : c.loop-seat.seats.items ≡ c.pop.new.self.items ++ c.in-Some-pop.seat ∷ [] = c.in-Some-pop.ensures.items in
-    let conds = All-pop (λ seat. (seat.door ≡ c.args.desk.now.table_id) × (seat.turn ≡ false)) c.loop-seat.seats.items c.pop.new.self.items (Some c.in-Some-pop.seat) items c.loop-seat.invariant.7 in
+    let conds = All-pop (λ seat. (seat.door ≡ c.args.common.now.table_id) × (seat.turn ≡ false)) c.loop-seat.seats.items c.pop.new.self.items (Some c.in-Some-pop.seat) items c.loop-seat.invariant.7 in
     sym (ap (λ pass. pass.door) c.into_place-other.ensures.place) ∙ conds.1.0
 
 pub merge-requires-clause-idle : goal.merge-requires-clause-idle
 merge-requires-clause-idle g c =
     let other = c.into_place-other.result.0 in
     let items : c.loop-seat.seats.items ≡ c.pop.new.self.items ++ c.in-Some-pop.seat ∷ [] = c.in-Some-pop.ensures.items in
-    let conds = All-pop (λ seat. (seat.door ≡ c.args.desk.now.table_id) × (seat.turn ≡ false)) c.loop-seat.seats.items c.pop.new.self.items (Some c.in-Some-pop.seat) items c.loop-seat.invariant.7 in
+    let conds = All-pop (λ seat. (seat.door ≡ c.args.common.now.table_id) × (seat.turn ≡ false)) c.loop-seat.seats.items c.pop.new.self.items (Some c.in-Some-pop.seat) items c.loop-seat.invariant.7 in
     let idle = at_rest_idle other.me.0.stage other.me.1 (sym (ap (λ pass. pass.turn) c.into_place-other.ensures.place) ∙ conds.1.1) c.into_place-other.ensures.seated.rests in
     (c.loop-seat.invariant.1, idle.0, idle.1)
 
@@ -54,7 +54,7 @@ loop-seat-preserved g c =
     let seat = c.in-Some-pop.seat in
     let left = c.pop.new.self.items in
     let items : c.loop-seat.seats.items ≡ left ++ seat ∷ [] = c.in-Some-pop.ensures.items in
-    let conds = All-pop (λ s. (s.door ≡ c.args.desk.now.table_id) × (s.turn ≡ false)) c.loop-seat.seats.items left (Some seat) items before.7 in (
+    let conds = All-pop (λ s. (s.door ≡ c.args.common.now.table_id) × (s.turn ≡ false)) c.loop-seat.seats.items left (Some seat) items before.7 in (
       merged.same.0 ∙ before.0,
       ap (λ m. m.0.stage) merged.joined ∙ before.1,
       omega (arith, ap (λ m. m.0.parts) merged.joined, before.2),

@@ -9,22 +9,22 @@ pub join_seat-requires : goal.join_seat-requires
 join_seat-requires g c =
     let place = c.args.place.now in
     let other = c.args.other in
-    let desk = c.args.desk.now in (
+    let common = c.args.common.now in (
       c.requires.at.0,
       c.requires.other,
       c.requires.idle.2,
       omega (arith, c.requires.at.1),
-      joins_allowed g.V.Stands.opening g.V.Stands.stands desk.key.0 (g.V.Stands.opening desk.key.1.value) place.id other.id place.me.0 other.me.0
+      joins_allowed g.V.Stands.opening g.V.Stands.stands common.key.0 (g.V.Stands.opening common.key.1.value) place.id other.id place.me.0 other.me.0
           (c.requires.idle.0, c.requires.idle.1) c.requires.live c.requires.spare,
     )
 
 pub load-requires : goal.load-requires
 load-requires g c =
     let place = c.join_seat.new.seat in
-    let desk = c.args.desk.now in (
+    let common = c.args.common.now in (
       c.join_seat.ensures.0 ∙ c.requires.at.0,
       omega (arith, c.requires.at.1),
-      agrees_allowed g.V.Stands.opening g.V.Stands.stands desk.key.0 (g.V.Stands.opening desk.key.1.value) desk.table_id.slots place.id place.me,
+      agrees_allowed g.V.Stands.opening g.V.Stands.stands common.key.0 (g.V.Stands.opening common.key.1.value) common.table_id.slots place.id place.me,
     )
 
 pub returns-clause-begins : goal.returns-clause-begins

@@ -6,10 +6,10 @@ use Rattle.wm_turn.proofs.steps.note.Goals as goal
 pub load-count-requires : goal.load-count-requires
 load-count-requires g c =
     let place = c.args.place.now in
-    let desk = c.args.desk.now in (
+    let common = c.args.common.now in (
       c.requires.at.0,
       omega (arith, c.requires.at.1),
-      notes_allowed g.V.Stands.opening g.V.Stands.stands desk.key.0 (g.V.Stands.opening desk.key.1.value) desk.table_id.slots place.id place.me
+      notes_allowed g.V.Stands.opening g.V.Stands.stands common.key.0 (g.V.Stands.opening common.key.1.value) common.table_id.slots place.id place.me
           c.requires.turn.0 c.requires.turn.1 c.requires.live.0,
     )
 

@@ -6,12 +6,12 @@ use Rattle.wm_turn.proofs.steps.pass_on.Goals as goal
 pub fetch_add-requires : goal.fetch_add-requires
 fetch_add-requires g c =
     let place = c.exchange-empty.new.seat in
-    let desk = c.args.desk.now in
+    let common = c.args.common.now in
     let put = c.exchange-empty.ensures.3 in
     let same : place.me.0 ≡ c.args.place.now.me.0 = ap (λ me. me.0) put in (
       c.exchange-empty.ensures.0 ∙ c.requires.at.0,
       omega (arith, c.requires.at.1),
-      passes_allowed g.V.Stands.opening g.V.Stands.stands desk.key.0 (g.V.Stands.opening desk.key.1.value) desk.table_id.slots place.id place.me
+      passes_allowed g.V.Stands.opening g.V.Stands.stands common.key.0 (g.V.Stands.opening common.key.1.value) common.table_id.slots place.id place.me
           c.requires.noted.0 g.N.Says.said c.args.value
           (ap (λ v. v.stage) same ∙ c.requires.noted.1)
           (subst (λ v. 0 < v.parts) (sym same) c.requires.live.0)
