@@ -1,5 +1,5 @@
 -- What the rule says once one seat has all parts.
-use Rattle.std.proofs.Common.{◌≡◌, ◌≢◌, ℕ, zero, suc, ◌+◌, ◌<◌, ◌≤◌, ◌⊎◌, List, [], ◌∷◌, ◌++◌, length, Option, None, Some, refl, ap, sym, ◌∙◌, subst, arith}
+use Rattle.std.proofs.Common.{◌≡◌, ℕ, ◌+◌, ◌<◌, ◌≤◌, List, [], ◌∷◌, Option, None, Some, ap, sym, subst, arith}
 use Rattle.std.specs.List.{All, sum_by}
 use Rattle.std.proofs.lemmas.List.Elements.{All-weaker}
 use mathlib.Core.Logic.{dite}
@@ -11,11 +11,10 @@ use Rattle.wm_turn.specs.declared.view.Entry.{Entry}
 use Rattle.wm_turn.specs.declared.view.Stage.{Stage}
 use Rattle.wm_turn.specs.declared.view.Stage.TheVariants.{Idle, Waits, Turn, Noted}
 use Rattle.wm_turn.specs.declared.view.View.{View}
-use Rattle.wm_turn.specs.Rule.{has_any, has_slot, AreCalls, calls_of, IsHome, IsKept}
+use Rattle.wm_turn.specs.Rule.{has_any, has_slot, IsHome, IsKept}
 use Rattle.wm_turn.specs.Steps.{IsLeft}
 use Rattle.wm_turn.proofs.Numbers.{parts_of}
 use Rattle.wm_turn.proofs.Owing.{slotted}
-use Rattle.wm_turn.proofs.Queues.{any_ticket}
 use Rattle.wm_turn.proofs.Sums.{sum_more, two_at}
 
 slot_any : (stage : Stage) → has_slot stage ≤ has_any stage

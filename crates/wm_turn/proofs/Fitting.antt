@@ -1,5 +1,5 @@
 -- Each view fits the rule after each kind of step.
-use Rattle.std.proofs.Common.{◌≡◌, ◌≢◌, ℕ, zero, suc, ◌+◌, ◌<◌, ◌≤◌, ◌==◌, ◌⊎◌, List, [], ◌∷◌, ◌++◌, length, Option, None, Some, refl, ap, sym, ◌∙◌, subst, arith}
+use Rattle.std.proofs.Common.{◌≡◌, ◌≢◌, ℕ, ◌+◌, ◌<◌, ◌≤◌, ◌==◌, List, [], ◌∷◌, length, Option, None, Some, refl, ap, sym, ◌∙◌, subst, arith}
 use Rattle.std.specs.List.{All, sum_by}
 use Rattle.std.proofs.lemmas.Bool.Decides.{nat_tests}
 use Rattle.std.proofs.lemmas.List.Elements.{All-nil, All-cons, All-head, All-tail, All-weaker}
@@ -9,7 +9,7 @@ use Rattle.wm_turn.specs.declared.view.Entry.{Entry}
 use Rattle.wm_turn.specs.declared.view.Stage.{Stage}
 use Rattle.wm_turn.specs.declared.view.Stage.TheVariants.{Idle, Waits, Turn, Noted}
 use Rattle.wm_turn.specs.declared.view.View.{View}
-use Rattle.wm_turn.specs.History.{Begins, places}
+use Rattle.wm_turn.specs.History.{Begins}
 use Rattle.wm_turn.specs.Rule.{one_if, has_ticket, has_any, IsServed, HasSeenAll, AreCalls, is_of, own_calls, calls_of, holds, Fits}
 use Rattle.wm_turn.specs.Told.{logged, passed_on}
 use Rattle.wm_turn.proofs.Histories.{begins_self, begins_trans, begins_entry, places_own, places_other}

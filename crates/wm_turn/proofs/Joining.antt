@@ -1,6 +1,5 @@
 -- Joining two seats keeps the rule, and what both have seen and written agrees.
-use Rattle.std.proofs.Common.{◌≡◌, ◌≢◌, ℕ, zero, suc, ◌+◌, ◌<◌, ◌≤◌, ◌⊎◌, List, [], ◌∷◌, ◌++◌, set, length, Option, None, Some, refl, ap, sym, ◌∙◌, subst, arith, inl, inr, ⊎_elim}
-use Rattle.std.specs.Prelude.{slice_set}
+use Rattle.std.proofs.Common.{◌≡◌, ◌≢◌, ℕ, ◌+◌, ◌<◌, ◌⊎◌, List, [], ◌∷◌, ◌++◌, set, Option, refl, ap, sym, ◌∙◌, subst, arith, inl, inr}
 use Rattle.std.specs.List.{All, sum_by}
 use Rattle.std.proofs.lemmas.List.Elements.{All-nil, All-cons, All-head, All-tail, All-append, All-weaker}
 use Rattle.std.proofs.lemmas.List.{append-nil}
@@ -9,14 +8,13 @@ use mathlib.Core.Logic.{dite}
 use mathlib.Core.Option as slot
 use lib.ListN.{get_elem?}
 use native.Mathlib.Decide.{ℕ_discrete}
-use Rattle.atomic_table.specs.Table.{State, Me, Joins, Allows, Step, step, keeps}
+use Rattle.atomic_table.specs.Table.{State, Me, Joins, Allows, step, keeps}
 use Rattle.atomic_table.proofs.Lists.{set_else, set_here, set_again}
 use Rattle.wm_turn.specs.declared.view.Calls.{Calls}
 use Rattle.wm_turn.specs.declared.view.Entry.{Entry}
-use Rattle.wm_turn.specs.declared.view.Stage.{Stage}
 use Rattle.wm_turn.specs.declared.view.Stage.TheVariants.{Idle}
 use Rattle.wm_turn.specs.declared.view.View.{View}
-use Rattle.wm_turn.specs.History.{Begins, places, longer}
+use Rattle.wm_turn.specs.History.{Begins}
 use Rattle.wm_turn.specs.Rule.{has_ticket, has_any, has_slot, HasSeenAll, AreCalls, is_of, own_calls, calls_of, holds, Fits, IsSeen, IsKept, joined, spent}
 use Rattle.wm_turn.specs.Told.{agrees}
 use Rattle.wm_turn.proofs.Fitting.{calls_live}
@@ -24,7 +22,7 @@ use Rattle.wm_turn.proofs.Histories.{IsLongerOf, begins_trans, longer_of, longer
 use Rattle.wm_turn.proofs.Numbers.{at_within, parts_of, spare_of}
 use Rattle.wm_turn.proofs.Owing.{Owes, home_same, slotted}
 use Rattle.wm_turn.proofs.Queues.{ticketed, any_ticket, all_set, queued_same}
-use Rattle.wm_turn.proofs.Sums.{sum_set, one_at}
+use Rattle.wm_turn.proofs.Sums.{sum_set}
 
 -- calls that stand in what was seen and in the history stand in what is between
 calls_between : {S : Type 0} (first second third : List (Entry S)) (list : List Calls) → Begins first second → Begins second third → All (AreCalls first) list → All (AreCalls third) list → All (AreCalls second) list

@@ -1,23 +1,22 @@
 -- Adding an entry and passing the turn on keep the rule.
-use Rattle.std.proofs.Common.{◌≡◌, ◌≢◌, ℕ, zero, suc, ◌+◌, ◌<◌, ◌≤◌, ◌==◌, ◌%◌, ◌^◌, ◌⊎◌, Bool, true, false, List, [], ◌∷◌, ◌++◌, set, length, Option, None, Some, refl, ap, sym, ◌∙◌, subst, arith, inl, inr}
-use Rattle.std.specs.Prelude.{if◌then◌else◌, slice_index, slice_set}
+use Rattle.std.proofs.Common.{◌≡◌, ◌≢◌, ℕ, ◌+◌, ◌<◌, ◌≤◌, ◌==◌, ◌%◌, ◌^◌, Bool, true, false, List, [], ◌∷◌, length, Option, None, Some, refl, ap, sym, ◌∙◌, subst, arith, inl}
+use Rattle.std.specs.Prelude.{if◌then◌else◌, slice_set}
 use Rattle.std.specs.List.{All, sum_by}
 use Rattle.std.proofs.lemmas.List.Elements.{All-cons}
 use Rattle.std.proofs.lemmas.List.Sums.{sum_by-cons}
 use mathlib.Core.Option as slot
 use lib.ListN.{get_elem?}
-use Rattle.atomic_table.specs.Table.{State, Me, Step, Act, step, keeps, gives, put_back, rest, Allows}
+use Rattle.atomic_table.specs.Table.{State, Me, step, keeps, gives, put_back, Allows}
 use Rattle.wm_turn.specs.declared.view.Calls.{Calls}
 use Rattle.wm_turn.specs.declared.view.Entry.{Entry}
-use Rattle.wm_turn.specs.declared.view.Stage.{Stage}
-use Rattle.wm_turn.specs.declared.view.Stage.TheVariants.{Idle, Waits, Turn, Noted}
+use Rattle.wm_turn.specs.declared.view.Stage.TheVariants.{Idle, Noted}
 use Rattle.wm_turn.specs.declared.view.View.{View}
-use Rattle.wm_turn.specs.Rule.{one_if, has_ticket, has_any, has_slot, is_of, own_calls, holds, IsServed, HasSeenAll, Fits, IsHome, IsKept}
+use Rattle.wm_turn.specs.Rule.{one_if, has_ticket, has_slot, is_of, own_calls, holds, IsServed, HasSeenAll, Fits, IsHome, IsKept}
 use Rattle.wm_turn.specs.Told.{logged, passed_on, logs, passes_on}
-use Rattle.wm_turn.proofs.Fitting.{fits_log, fits_own, fits_pass, fits_passed, holds_own, calls_live}
+use Rattle.wm_turn.proofs.Fitting.{fits_log, fits_own, fits_pass, fits_passed, holds_own}
 use Rattle.wm_turn.proofs.Numbers.{numbered_set, seen_set}
 use Rattle.wm_turn.proofs.Owing.{Owes, slotted}
-use Rattle.wm_turn.proofs.Queues.{same_ticket, ticketed, all_set, queued_set, queued_pass, held_once}
+use Rattle.wm_turn.proofs.Queues.{same_ticket, all_set, queued_set, queued_pass, held_once}
 use Rattle.wm_turn.proofs.Sums.{sum_set, one_at, two_at}
 
 -- where a view has noted the slot is out

@@ -1,16 +1,16 @@
 -- Noting the count keeps the rule: the value is taken, and the whole history is seen.
-use Rattle.std.proofs.Common.{◌≡◌, ◌≢◌, ℕ, zero, suc, ◌+◌, ◌<◌, ◌≤◌, ◌==◌, ◌%◌, ◌^◌, ◌⊎◌, List, [], ◌∷◌, ◌++◌, set, length, Option, None, Some, refl, ap, sym, ◌∙◌, subst, arith, inl, inr}
-use Rattle.std.specs.Prelude.{slice_index, slice_set}
-use Rattle.std.specs.List.{All, sum_by}
+use Rattle.std.proofs.Common.{◌≡◌, ℕ, ◌<◌, ◌≤◌, ◌%◌, ◌^◌, List, [], ◌∷◌, set, length, Option, None, Some, refl, ap, sym, ◌∙◌, subst, arith, inl}
+use Rattle.std.specs.Prelude.{slice_set}
+use Rattle.std.specs.List.{sum_by}
 use mathlib.Core.Option as slot
 use lib.ListN.{get_elem?}
-use Rattle.atomic_table.specs.Table.{State, Me, Step, Act, step, takes, Allows}
+use Rattle.atomic_table.specs.Table.{State, Me, step, takes, Allows}
 use Rattle.wm_turn.specs.declared.view.Entry.{Entry}
 use Rattle.wm_turn.specs.declared.view.Stage.{Stage}
 use Rattle.wm_turn.specs.declared.view.Stage.TheVariants.{Idle, Waits, Turn, Noted}
 use Rattle.wm_turn.specs.declared.view.View.{View}
 use Rattle.wm_turn.specs.Rule.{has_ticket, has_any, has_slot, IsServed, Fits, IsHome, IsKept}
-use Rattle.wm_turn.specs.Told.{HasNoted, noted_stage, notes}
+use Rattle.wm_turn.specs.Told.{noted_stage, notes}
 use Rattle.wm_turn.proofs.Fitting.{fits_note}
 use Rattle.wm_turn.proofs.Numbers.{numbered_set, seen_set}
 use Rattle.wm_turn.proofs.Owing.{Owes, slotted}

@@ -1,5 +1,5 @@
 -- A turnstile begins with its rule.
-use Rattle.std.proofs.Common.{◌≡◌, ◌≢◌, ℕ, zero, suc, ◌+◌, ◌-◌, ◌<◌, ◌≤◌, ◌==◌, ◌⊎◌, List, [], ◌∷◌, ◌++◌, map, length, Option, None, Some, refl, ap, sym, ◌∙◌, subst, arith}
+use Rattle.std.proofs.Common.{◌≡◌, ℕ, zero, suc, ◌+◌, ◌-◌, ◌<◌, ◌≤◌, ◌==◌, List, [], ◌∷◌, map, Option, Some, refl, ap, sym, subst, arith}
 use Rattle.std.specs.List.{All, sum_by}
 use Rattle.std.proofs.lemmas.Bool.Decides.{nat_tests}
 use Rattle.std.proofs.lemmas.List.Elements.{All-nil, All-cons}
@@ -8,14 +8,13 @@ use mathlib.Core.Option as slot
 use lib.ListN.{get_elem?}
 use Rattle.atomic_table.specs.Table.{State}
 use Rattle.atomic_table.specs.Table as table
-use Rattle.wm_turn.specs.declared.view.Calls.{Calls}
 use Rattle.wm_turn.specs.declared.view.Entry.{Entry}
 use Rattle.wm_turn.specs.declared.view.View.{View}
 use Rattle.wm_turn.specs.History.{Begins}
 use Rattle.wm_turn.specs.Rule.{one_if, AreCalls, is_of, own_calls, calls_of, holds, Fits, IsKept, first_view}
 use Rattle.wm_turn.proofs.Fitting.{calls_live}
 use Rattle.wm_turn.proofs.Owing.{slotted}
-use Rattle.wm_turn.proofs.Queues.{ticketed, any_ticket, other_ticket}
+use Rattle.wm_turn.proofs.Queues.{ticketed, any_ticket}
 use Rattle.wm_turn.proofs.Numbers.{parts_of, spare_of}
 
 one_most : (a b : ℕ) → one_if (a == b) ≤ 1

@@ -1,5 +1,5 @@
 -- What a step on a word owes, at the words that the rule names.
-use Rattle.std.proofs.Common.{◌≡◌, ℕ, List, ◌∷◌, Option, sym, subst}
+use Rattle.std.proofs.Common.{◌≡◌, ℕ, List, Option, sym, subst}
 use Rattle.std.specs.Prelude.{slice_index, slice_set}
 use mathlib.Core.Option as slot
 use Rattle.atomic_table.specs.Table.{State, Me, Act, Valid, homes_after, carried_after}

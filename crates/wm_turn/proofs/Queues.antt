@@ -1,14 +1,13 @@
 -- The tickets that are out, as seats draw them and pass the turn on.
-use Rattle.std.proofs.Common.{◌≡◌, ◌≢◌, ℕ, zero, suc, ◌+◌, ◌<◌, ◌≤◌, ◌==◌, ◌⊎◌, ◌%◌, ◌^◌, List, [], ◌∷◌, ◌++◌, set, length, refl, ap, sym, ◌∙◌, subst, arith, inl, inr, ⊎_elim}
+use Rattle.std.proofs.Common.{◌≡◌, ◌≢◌, ℕ, ◌+◌, ◌<◌, ◌≤◌, ◌==◌, List, set, ap, sym, ◌∙◌, subst, arith, ⊎_elim}
 use Rattle.std.specs.List.{sum_by}
 use Rattle.std.proofs.lemmas.Bool.Decides.{nat_tests}
 use mathlib.Core.Logic.{dite}
 use mathlib.Core.Option.{some}
 use lib.ListN.{get_elem?}
 use native.Mathlib.Decide.{ℕ_discrete, dec_lt}
-use Rattle.atomic_table.proofs.Lists.{at_set, one_turn}
-use Rattle.wm_turn.specs.declared.view.Stage.{Stage}
-use Rattle.wm_turn.specs.declared.view.Stage.TheVariants.{Idle, Waits, Turn, Noted}
+use Rattle.atomic_table.proofs.Lists.{at_set}
+use Rattle.wm_turn.specs.declared.view.Stage.TheVariants.{Idle, Waits, Noted}
 use Rattle.wm_turn.specs.declared.view.View.{View}
 use Rattle.wm_turn.specs.Rule.{one_if, has_ticket, has_any, AreQueued}
 use Rattle.wm_turn.proofs.Sums.{sum_set, one_at, two_at}

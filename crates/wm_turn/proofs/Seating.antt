@@ -1,15 +1,14 @@
 -- What is true of a seat stays true from call to call.
-use Rattle.std.proofs.Common.{◌≡◌, ℕ, zero, suc, ◌+◌, ◌<◌, ◌≤◌, ◌^◌, max, List, [], ◌∷◌, ◌++◌, length, Option, None, Some, refl, ap, sym, ◌∙◌, subst, arith}
+use Rattle.std.proofs.Common.{◌≡◌, ℕ, suc, ◌+◌, ◌<◌, ◌≤◌, ◌^◌, max, List, [], ◌∷◌, ◌++◌, length, Option, None, Some, refl, ap, sym, ◌∙◌, subst, arith}
 use Rattle.std.specs.List.{All}
 use Rattle.std.proofs.lemmas.List.Elements.{All-cons, All-head, All-tail, All-weaker}
 use Rattle.atomic_table.specs.Table.{Me}
 use Rattle.wm_turn.specs.declared.view.Entry.{Entry}
 use Rattle.wm_turn.specs.declared.view.Mark.{Mark}
 use Rattle.wm_turn.specs.declared.view.Mark.TheVariants.{Wrote, Read}
-use Rattle.wm_turn.specs.declared.view.Stage.{Stage}
-use Rattle.wm_turn.specs.declared.view.Stage.TheVariants.{Idle, Waits, Turn, Noted}
+use Rattle.wm_turn.specs.declared.view.Stage.TheVariants.{Turn, Noted}
 use Rattle.wm_turn.specs.declared.view.View.{View}
-use Rattle.wm_turn.specs.History.{Begins, AreLegal, places, longer, wrote, end_of, last_end, AreWithin}
+use Rattle.wm_turn.specs.History.{Begins, AreLegal, places, wrote, end_of, last_end, AreWithin}
 use Rattle.wm_turn.specs.Pass.{IsAtRest, IsSeated}
 use Rattle.wm_turn.specs.Rule.{AreCalls, own_calls, calls_of, joined}
 use Rattle.wm_turn.specs.Told.{HasNoted, noted_stage, logged, passed_on}

@@ -1,7 +1,6 @@
 -- A new seat keeps the rule.
-use Rattle.std.proofs.Common.{◌≡◌, ◌≢◌, ℕ, zero, suc, ◌+◌, ◌-◌, ◌<◌, ◌≤◌, ◌==◌, ◌⊎◌, List, [], ◌∷◌, ◌++◌, set, length, Option, None, Some, refl, ap, sym, ◌∙◌, subst, arith, inl, inr, ⊎_elim}
+use Rattle.std.proofs.Common.{◌≡◌, ◌≢◌, ℕ, zero, suc, ◌+◌, ◌-◌, ◌<◌, ◌≤◌, ◌==◌, List, [], ◌∷◌, ◌++◌, set, Option, refl, ap, sym, ◌∙◌, subst, arith, inr, ⊎_elim}
 use Rattle.std.specs.List.{All, sum_by}
-use Rattle.std.proofs.lemmas.Bool.Decides.{nat_tests}
 use Rattle.std.proofs.lemmas.List.Elements.{All-nil, All-cons, All-weaker}
 use Rattle.std.proofs.lemmas.List.Sums.{sum_by-cons, sum_by_push}
 use mathlib.Core.Logic.{dite}
@@ -10,13 +9,12 @@ use lib.ListN.{get_elem?}
 use native.Mathlib.Decide.{ℕ_discrete}
 use Rattle.atomic_table.specs.Table.{State, Splits}
 use Rattle.atomic_table.proofs.Lists.{at_longer, at_snoc}
-use Rattle.wm_turn.specs.declared.view.Calls.{Calls}
 use Rattle.wm_turn.specs.declared.view.Entry.{Entry}
 use Rattle.wm_turn.specs.declared.view.Stage.{Stage}
 use Rattle.wm_turn.specs.declared.view.Stage.TheVariants.{Idle, Waits, Turn, Noted}
 use Rattle.wm_turn.specs.declared.view.View.{View}
 use Rattle.wm_turn.specs.History.{Begins, places}
-use Rattle.wm_turn.specs.Rule.{one_if, has_ticket, has_any, AreCalls, is_of, own_calls, calls_of, holds, Fits, IsKept, left_by_split, new_by_split}
+use Rattle.wm_turn.specs.Rule.{one_if, has_any, AreCalls, is_of, own_calls, calls_of, holds, Fits, IsKept, left_by_split, new_by_split}
 use Rattle.wm_turn.proofs.Fitting.{calls_live}
 use Rattle.wm_turn.proofs.Histories.{places_none, places_before}
 use Rattle.wm_turn.proofs.Numbers.{seen_set, parts_of, spare_of}

@@ -1,22 +1,22 @@
 -- Drawing a ticket, waiting for the turn and noting the count keep the rule.
-use Rattle.std.proofs.Common.{◌≡◌, ◌≢◌, ℕ, zero, suc, ◌+◌, ◌<◌, ◌≤◌, ◌==◌, ◌%◌, ◌^◌, ◌⊎◌, Bool, true, false, List, [], ◌∷◌, ◌++◌, set, length, Option, None, Some, refl, ap, sym, ◌∙◌, subst, arith, inl, inr}
-use Rattle.std.specs.Prelude.{if◌then◌else◌, slice_index, slice_set}
-use Rattle.std.specs.List.{All, sum_by}
+use Rattle.std.proofs.Common.{◌≡◌, ℕ, ◌+◌, ◌<◌, ◌≤◌, ◌==◌, ◌%◌, ◌^◌, Bool, true, false, List, [], ◌∷◌, set, length, Option, refl, ap, sym, ◌∙◌, subst, arith, inr}
+use Rattle.std.specs.Prelude.{if◌then◌else◌, slice_set}
+use Rattle.std.specs.List.{sum_by}
 use Rattle.std.proofs.lemmas.Bool.Decides.{nat_tests}
 use mathlib.Core.Option as slot
 use lib.ListN.{get_elem?}
-use Rattle.atomic_table.specs.Table.{State, Me, Step, Act, step, keeps, takes, Valid, homes_after, carried_after, Allows}
+use Rattle.atomic_table.specs.Table.{State, Me, step, keeps, Allows}
 use Rattle.atomic_table.proofs.Lists.{one_turn}
 use Rattle.wm_turn.specs.declared.view.Entry.{Entry}
 use Rattle.wm_turn.specs.declared.view.Stage.{Stage}
-use Rattle.wm_turn.specs.declared.view.Stage.TheVariants.{Idle, Waits, Turn, Noted}
+use Rattle.wm_turn.specs.declared.view.Stage.TheVariants.{Idle, Waits, Turn}
 use Rattle.wm_turn.specs.declared.view.View.{View}
-use Rattle.wm_turn.specs.Rule.{has_ticket, has_any, has_slot, IsServed, HasSeenAll, holds, Fits, IsHome, IsKept}
-use Rattle.wm_turn.specs.Told.{HasNoted, stage_at, draws, watches, notes}
-use Rattle.wm_turn.proofs.Fitting.{fits_stage, fits_note}
+use Rattle.wm_turn.specs.Rule.{has_ticket, has_any, has_slot, IsServed, HasSeenAll, Fits, IsKept}
+use Rattle.wm_turn.specs.Told.{stage_at, draws, watches}
+use Rattle.wm_turn.proofs.Fitting.{fits_stage}
 use Rattle.wm_turn.proofs.Numbers.{numbered_set, seen_set}
 use Rattle.wm_turn.proofs.Owing.{Owes, home_same, slotted}
-use Rattle.wm_turn.proofs.Queues.{same_ticket, all_set, queued_set, queued_draw, held_within, held_once}
+use Rattle.wm_turn.proofs.Queues.{same_ticket, all_set, queued_set, queued_draw, held_within}
 use Rattle.wm_turn.proofs.Sums.{sum_set, sum_more}
 
 module _ {V O S Q : Type 0} (opening_of : V → O) (stands : V → List (Entry S) → Type 0) (seats : ℕ) (opening : O) where

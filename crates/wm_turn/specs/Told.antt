@@ -1,5 +1,5 @@
 -- What each step on the table tells: of the seat before, the number that was found, and the seat after.
-use Rattle.std.specs.Prelude.{◌≡◌, ◌≤◌, ℕ, ◌+◌, ◌%◌, ◌^◌, ◌==◌, if◌then◌else◌, List, [], ◌∷◌, length, Option, None, Some}
+use Rattle.std.specs.Prelude.{◌≡◌, ◌≤◌, ℕ, ◌%◌, ◌^◌, ◌==◌, if◌then◌else◌, List, ◌∷◌, length, Option, None, Some}
 use Rattle.std.specs.List.{All}
 use Rattle.atomic_table.specs.Table.{Me, Step, rest}
 use Rattle.wm_turn.specs.declared.view.Entry.{Entry}

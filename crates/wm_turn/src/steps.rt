@@ -61,7 +61,11 @@ pub(crate) fn note<V: Stands>(common: &Common<V>, place: &mut Place<V>) -> (V, u
 }
 
 /// Adds the entry of the step, which `N` names.
-pub(crate) fn add<V: Stands, N: Says<V::Step>>(common: &Common<V>, place: &mut Place<V>, step: &V::Step)
+pub(crate) fn add<V: Stands, N: Says<V::Step>>(
+    common: &Common<V>,
+    place: &mut Place<V>,
+    step: &V::Step,
+)
     requires at { IsAt common.now.table_id place.old }
     requires noted { (ticket : ℕ) × (place.old.me.0.stage ≡ Noted ticket) }
     requires live { (0 < place.old.me.0.parts) × (length place.old.me.0.seen < 2 ^ 48) }

@@ -1,4 +1,4 @@
-use Rattle.std.proofs.Common.{◌≡◌, ap, sym, ◌∙◌, subst, Some, Option}
+use Rattle.std.proofs.Common.{◌≡◌, subst}
 use Rattle.wm_turn.specs.Steps.{IsLeft}
 use Rattle.wm_turn.proofs.Closing.{closes}
 use Rattle.wm_turn.proofs.making.end.Goals as goal

@@ -1,8 +1,8 @@
-use Rattle.std.proofs.Common.{◌≡◌, ◌<◌, ◌+◌, [], ◌∷◌, ◌++◌, List, Some, false, ap, sym, ◌∙◌, subst, arith, refl}
+use Rattle.std.proofs.Common.{◌≡◌, [], ◌∷◌, ◌++◌, Some, false, ap, sym, ◌∙◌, subst, arith}
 use Rattle.std.specs.List.{All, sum_by}
 use Rattle.std.proofs.lemmas.List.Elements.{All-push, All-pop}
 use Rattle.std.proofs.lemmas.List.Sums.{sum_by_push}
-use Rattle.wm_turn.specs.History.{Begins, longer}
+use Rattle.wm_turn.specs.History.{longer}
 use Rattle.wm_turn.specs.Pass.{Pass, IsKnown, longest}
 use Rattle.wm_turn.proofs.Gathering.{at_rest_idle, longest_push, known_first, known_both}
 use Rattle.wm_turn.proofs.Histories.{begins_self, longer_nothing}

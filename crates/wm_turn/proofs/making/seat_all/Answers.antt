@@ -1,5 +1,4 @@
-use Rattle.std.proofs.Common.{◌≡◌, ◌+◌, ◌-◌, [], ◌∷◌, ◌++◌, suc, ap, ◌∙◌, arith, sym}
-use Rattle.wm_turn.specs.Pass.{new_pass, new_passes}
+use Rattle.std.proofs.Common.{[], ◌∷◌, ◌++◌, ◌∙◌, arith}
 use Rattle.wm_turn.proofs.Gathering.{first_next, split_pass, passes_next}
 use Rattle.wm_turn.proofs.making.seat_all.Goals as goal
 

@@ -1,8 +1,7 @@
-use Rattle.std.proofs.Common.{arith, ap, ◌∙◌, sym, subst, List}
+use Rattle.std.proofs.Common.{arith, ◌∙◌, sym, subst}
 use Rattle.std.specs.List.{All}
 use Rattle.wm_turn.proofs.Joining.{joins_allowed, agrees_allowed}
 use Rattle.wm_turn.specs.History.{Begins}
-use Rattle.wm_turn.specs.Rule.{AreCalls, calls_of}
 use Rattle.wm_turn.proofs.steps.merge.Goals as goal
 
 pub join_seat-requires : goal.join_seat-requires

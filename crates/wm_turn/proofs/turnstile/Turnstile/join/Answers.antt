@@ -1,4 +1,4 @@
-use Rattle.std.proofs.Common.{◌≡◌, ap, subst, sym, ◌∙◌}
+use Rattle.std.proofs.Common.{◌≡◌, subst, sym}
 use Rattle.wm_turn.specs.History.{Begins, places, wrote}
 use Rattle.wm_turn.proofs.Seating.{joined_seen, joined_own, seated_join}
 use Rattle.wm_turn.proofs.turnstile.Turnstile.join.Goals as goal
