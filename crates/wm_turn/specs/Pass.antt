@@ -10,6 +10,7 @@ use Rattle.wm_turn.specs.declared.view.Stage.TheVariants.{Idle, Waits, Turn, Not
 use Rattle.wm_turn.specs.declared.view.View.{View}
 use Rattle.wm_turn.specs.History.{Begins, AreLegal, longer, places, wrote}
 
+-- a seat
 pub record Pass (O S Q : Type 0) : Type 0 where
   -- the turnstile that it is of
   pub door : TableId
@@ -26,12 +27,16 @@ pub record Pass (O S Q : Type 0) : Type 0 where
   -- the marks of its caller's calls, the newest first
   pub mine : List (Mark Q)
 
+-- a turnstile
 pub record Gate (O : Type 0) : Type 0 where
+  -- which one it is
   pub door : TableId
   -- with how many seats it was started
   pub seats : ℕ
+  -- the opening of the value
   pub opening : O
 
+-- between two calls who has the turn has noted the count too
 abbrev pub has_turn : Stage → Bool
 has_turn Idle = false
 has_turn (Waits ticket) = false
@@ -46,6 +51,7 @@ IsAtRest (Turn ticket) slots = ⊥
 IsAtRest (Noted ticket) slots = slots ≡ (0, None) ∷ []
 
 module _ {V O S Q : Type 0} where
+  -- what a contract sees of a seat at the table
   abbrev pub pass_of : Seat (Option V) (View O S Q) → Pass O S Q
   pass_of seat = record {
     door = seat.table_id;

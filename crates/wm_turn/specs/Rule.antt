@@ -56,10 +56,12 @@ HasSeenAll history (Noted ticket) seen = seen ≡ history
 abbrev pub AreCalls : {S : Type 0} → List (Entry S) → Calls → Type 0
 AreCalls history calls = places calls.caller history ≡ calls.places
 
+-- 1 where these are the calls of this number
 abbrev pub is_of : ℕ → Calls → ℕ
 is_of number calls = one_if (calls.caller == number)
 
 module _ {O S Q : Type 0} where
+  -- the calls under a view's own number
   abbrev pub own_calls : View O S Q → Calls
   own_calls v = record { caller = v.caller; places = wrote v.mine }
 
@@ -71,17 +73,23 @@ module _ {O S Q : Type 0} where
   abbrev pub holds : ℕ → View O S Q → ℕ
   holds number v = sum_by (is_of number) (calls_of v)
 
-  -- what the rule says of each view
+  -- what the rule says of each view; most of it holds of a spent one by itself
   pub record Fits (opening : O) (seats spare serving : ℕ) (history : List (Entry S)) (v : View O S Q) : Type 0 where
     pub served : IsServed serving v.stage
+    -- what it has seen begins the history, and is all of it where it holds the slot
     pub seen_begins : Begins v.seen history
     pub seen_all : HasSeenAll history v.stage v.seen
+    -- what was seen before a joining begins what it has seen
     pub old_begin : All (λ old. Begins old v.seen) v.old_seen
+    -- the calls of its numbers are the entries that stand under them, in what it has seen and in the whole history
     pub calls_seen : All (AreCalls v.seen) (calls_of v)
     pub calls_made : All (AreCalls history) (calls_of v)
+    -- all views have one opening and one number of seats
     pub opening_is : 0 < v.parts → v.opening ≡ Some opening
     pub seats_is : 0 < v.parts → v.seats ≡ seats
+    -- a spent view has no ticket
     pub some_parts : has_any v.stage ≤ v.parts
+    -- one view at most has a spare, which is less than its parts
     pub spare_below : 0 < v.parts → v.spare < v.parts
     pub only_spare : 0 < v.spare → v.spare ≡ spare
 
@@ -92,6 +100,7 @@ module _ {O S Q : Type 0} where
     pub gone : (number : ℕ) → number < serving → sum_by (λ v. has_ticket number v.stage) views ≡ 0
     pub out : (number : ℕ) → serving ≤ number → number < ticket → sum_by (λ v. has_ticket number v.stage) views ≡ 1
     pub to_come : (number : ℕ) → ticket ≤ number → sum_by (λ v. has_ticket number v.stage) views ≡ 0
+    -- so many views have one
     pub waiting : serving + sum_by (λ v. has_any v.stage) views ≡ ticket
 
   -- the views hold all parts, and each number at most once; the numbers that are held or in the history are below those
@@ -118,13 +127,18 @@ IsHome opening_of stands opening history noted (slot.some None) = ⊥
 IsHome opening_of stands opening history noted (slot.some (Some value)) = (noted ≡ 0) × (opening_of value ≡ opening) × stands value history
 
 module _ {V O S Q : Type 0} (opening_of : V → O) (stands : V → List (Entry S) → Type 0) (seats : ℕ) (opening : O) where
-  -- The words are the tickets drawn and served, modulo 2 ^ 64, and the count, which is the length of the one history
+  -- the rule
   pub record IsKept (state : State (Option V) (View O S Q)) : Type 0 where
+    -- the one history
     pub history : List (Entry S)
+    -- how many tickets were drawn, and which one is served
     pub ticket : ℕ
     pub serving : ℕ
+    -- how many seats are still to be split off
     pub spare : ℕ
+    -- what lies in the slot
     pub home : slot.Option (Option V)
+    -- the words are the tickets, modulo 2 ^ 64, and the count, which is the length of the history
     pub words_are : state.words ≡ ticket % 2 ^ 64 ∷ serving % 2 ^ 64 ∷ length history ∷ []
     pub few : length history ≤ 2 ^ 48
     pub few_seats : seats ≤ 4096
@@ -153,6 +167,7 @@ module _ {O S Q : Type 0} where
     old_calls = [];
   }
 
+  -- what is left of a view of which a seat was split off
   abbrev pub left_by_split : View O S Q → View O S Q
   left_by_split v = record v { spare = v.spare - 1; parts = v.parts - 1 }
 
@@ -180,6 +195,7 @@ module _ {O S Q : Type 0} where
     old_calls = own_calls other ∷ (other.old_calls ++ v.old_calls);
   }
 
+  -- the view of a seat that was joined away
   abbrev pub spent : View O S Q
   spent = record {
     stage = Idle;

@@ -17,6 +17,7 @@ stage_at found (Waits ticket) = if found == ticket % 2 ^ 64 then Turn ticket els
 stage_at found (Turn ticket) = Turn ticket
 stage_at found (Noted ticket) = Noted ticket
 
+-- who has the turn has noted the count
 abbrev pub noted_stage : Stage → Stage
 noted_stage Idle = Idle
 noted_stage (Waits ticket) = Waits ticket

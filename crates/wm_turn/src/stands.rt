@@ -13,12 +13,12 @@ pub trait Stands {
     /// What its callers ask.
     type Question;
 
-    // the opening of a value
+    // The opening of a value.
     ghost opening: { Self → Self.Opening };
 
-    // the form in which a step counts in a history
+    // The form in which a step counts in a history.
     ghost form: { Self.Step → Self.Step };
 
-    // a value stands for this history, the newest entry first, from its opening on
+    // A value stands for this history, the newest entry first, from its opening on.
     ghost stands: { Self → List (Entry Self.Step) → Type 0 };
 }

@@ -32,7 +32,7 @@ pub(crate) struct Calls {
     pub places: LinkedList<u64>,
 }
 
-/// What a seat knows. A view without parts is spent.
+/// What the rule knows of a seat. A view without parts is spent: its seat was joined away.
 pub(crate) struct View<O, S, Q> {
     pub stage: Stage,
     pub caller: u32,
