@@ -1,12 +1,14 @@
 -- A desk takes steps one after another, and what they tell is written in pieces.
 use Rattle.std.proofs.Common.{◌≡◌, ◌∙◌, refl, ap, ap₂, sym, subst, ℕ, zero, suc, ◌+◌, ◌-◌, inl, inr, List, [], ◌∷◌, ◌++◌, Option, None, Some, Result, Ok, Err, length, take, drop, arith, length-append, append_assoc}
-use Rattle.std.specs.Prelude.{OnErr, OnOk}
+use Rattle.std.specs.Prelude.{IfErr, IsErrAnd, OnErr, OnOk}
 use Rattle.std.proofs.lemmas.List.{append-nil, drop_all, take_all, take-append-drop}
 use Rattle.wm_core.specs.DeskValue.{DeskValue, Stands}
 use Rattle.wm_criteria.specs.Building.{Tells}
 use Rattle.wm_core.specs.History.{History}
 use Rattle.wm_ports.specs.Told.{TakesAll, TakesPart}
+use Rattle.wm_tool.specs.declared.replay.Stop.{Stop}
 use Rattle.wm_tool.specs.declared.status.Refused.{Refused}
+use Rattle.wm_tool.specs.Ending.{HasStopped}
 use Rattle.wm_tool.specs.Output.{after, takes, entry_of, run_entry, told}
 use Rattle.wm_tool.specs.Refusals.{IsBacked, IsRising, refusal_at, verdict_of}
 use Rattle.wm_tool.specs.Running.{Backs, Grows, Holds, IsBackedTo, Leads, Plays, Runs, Stops, Writes, fresh}
@@ -75,6 +77,11 @@ fails_part (Some t) now new said piece rest whole taken makes takes =
 pub made : (old now : Option (List ℕ)) (desk : DeskValue) (refused : List Refused) (piece : List ℕ) (tells : List Refused → History → List ℕ) (whole : List Refused → List ℕ)
     → (r : Runs old now desk refused piece tells whole) → r.said ++ (piece ++ tells refused r.history) ≡ whole refused
 made old now desk refused piece tells whole r = subst (λ rs. r.said ++ (piece ++ tells rs r.history) ≡ whole rs) (append-nil refused) (r.makes [] tt)
+
+-- a run that ends with the error of a part of it has stopped as that part did
+pub stopped_as : {A : Type 0} (old new : ℕ) (e : Stop) (r : Result A Stop) → HasStopped old new e → IsErrAnd r (λ s. s ≡ e) → IfErr r (HasStopped old new)
+stopped_as old new e (Ok x) h k = tt
+stopped_as old new e (Err s) h k = subst (HasStopped old new) (sym k) h
 
 pub on_err : {A : Type 0} {E : Type 0} {P : Type 0} (r : Result A E) → P → OnErr r P
 on_err (Ok x) p = tt

@@ -1,10 +1,11 @@
 use Rattle.std.proofs.Common.{ap, sym, subst, ◌∙◌, []}
 use Rattle.wm_core.specs.History.{opening_of}
 use Rattle.wm_ports.specs.Told.{TakesAll, TakesPart}
+use Rattle.wm_tool.specs.declared.replay.Stop.TheVariants.{NoMemory}
 use Rattle.wm_tool.specs.Drawing.{drawn_from}
 use Rattle.wm_tool.specs.Output.{line_texts}
 use Rattle.wm_tool.proofs.DrawLemmas.{begun, drawn_is, from_opening}
-use Rattle.wm_tool.proofs.RunLemmas.{on_err}
+use Rattle.wm_tool.proofs.RunLemmas.{on_err, stopped_as}
 use Rattle.wm_tool.proofs.drawing.draw.Goals as goal
 
 pub returns-in_err-play_lines-clause-backed : goal.returns-in_err-play_lines-clause-backed
@@ -79,3 +80,10 @@ returns-clause-backed g c =
     let refused = g.B.Build.refused c.args.build.now in
     let first = begun start c.args.lines.now c.in_ok-desk.desk c.args.refused.now.items texts count refused c.requires.none c.in_ok-desk.ensures.stands in
     (c.in_ok-play_lines.ensures.ok (λ rs. drawn_from start c.args.lines.now rs []) texts count refused first).backed.backed
+
+-- want of memory is no fault of the sink
+pub returns-in_err-play_lines-clause-err : goal.returns-in_err-play_lines-clause-err
+returns-in_err-play_lines-clause-err g c = stopped_as (g.W.Sink.faults c.args.sink.now) (g.W.Sink.faults c.args.sink.now) NoMemory c.from_residual-in_err-play_lines.result tt c.from_residual-in_err-play_lines.ensures.1
+
+pub returns-in_err-bytes-clause-err : goal.returns-in_err-bytes-clause-err
+returns-in_err-bytes-clause-err g c = stopped_as (g.W.Sink.faults c.args.sink.now) (g.W.Sink.faults c.args.sink.now) NoMemory c.from_residual-in_err-bytes.result tt c.from_residual-in_err-bytes.ensures.1

@@ -5,7 +5,7 @@ use Rattle.wm_tool.specs.Output.{line_texts, out_from}
 use Rattle.wm_tool.specs.declared.status.Refused.{Refused}
 use Rattle.wm_tool.specs.Running.{Plays}
 use Rattle.wm_tool.proofs.LineLemmas.{from_start}
-use Rattle.wm_tool.proofs.RunLemmas.{begins, ends, fails, on_err}
+use Rattle.wm_tool.proofs.RunLemmas.{begins, ends, fails, on_err, stopped_as}
 use Rattle.wm_tool.proofs.replay.replay.Goals as goal
 
 pub returns-in_err-run_lines-clause-part : goal.returns-in_err-run_lines-clause-part
@@ -98,3 +98,7 @@ returns-clause-backed g c =
     (subst (λ piece. Plays told told c.in_ok-desk.desk [] piece tells whole texts texts count count refused refused) (sym c.new-piece.ensures.items)
     (begins told c.in_ok-desk.desk tells texts count refused c.in_ok-desk.ensures.stands)) in
     (c.in_ok-run_lines.ensures.ok told whole texts count refused begun).backed.backed
+
+-- it has stopped as its lines did
+pub returns-in_err-run_lines-clause-err : goal.returns-in_err-run_lines-clause-err
+returns-in_err-run_lines-clause-err g c = stopped_as _ _ c.in_err-run_lines.field-0.0 c.from_residual-in_err-run_lines.result c.in_err-run_lines.ensures.err c.from_residual-in_err-run_lines.ensures.1
