@@ -1,4 +1,4 @@
-//! The program deskbench: 10,000,000 answers of clients on a desk with 20, 200 or 4,000 open windows, and what each took.
+//! The program deskbench: answers of clients on a desk with 20, 200 or 4,000 open windows, and what each took.
 #![tactic(auto)]
 
 ghost use Rattle.std.specs.Prelude.{◌<◌, ◌^◌, IfOk};
@@ -6,15 +6,18 @@ ghost use Rattle.wm_core.specs.Sizes.{IsFitStep};
 
 use std::alloc::{AllocError, AllocFailed, Global};
 use std::process::ExitCode;
-use std::time::CpuClock;
+use std::time::{CpuClock, Duration};
 use std::{env, io};
 use wm_base::{Buffer, ConId, Ink, NoMemory, Props, Size, Text};
 use wm_core::{Answer, ClientStep, Desk, Step};
 use wm_criteria::prepare_bare;
 use wm_layouts::Plan;
 
-/// How many answers are given.
+/// How many answers are given without a step between them.
 const ANSWERS: u32 = 10_000_000;
+
+/// How many answers follow steps.
+const FOLLOWING: u32 = 400_000;
 
 /// How many windows a workspace has at most.
 const CROWD: u32 = 200;
@@ -59,9 +62,12 @@ impl From<io::Error> for Fault {
     }
 }
 
-/// What a client does again and again.
+/// What clients do again and again.
 #[derive(Clone, Copy)]
 enum Call {
+    /// Each window on the screen acknowledges its new size and gives a buffer, after each step.
+    Follow,
+    /// One window after another, far from one another, does this alone.
     Acknowledge,
     Give,
     TimeOut,
@@ -78,13 +84,11 @@ fn main(rt: HostRuntime) -> ExitCode {
 fn bench(rt: &HostRuntime) -> Result<(), Fault> {
     let (windows, call) = words(rt)?;
     let (mut desk, cons) = opened(rt.alloc(), windows)?;
-    let before = rt.thread_cpu_time()?;
-    answer_all(&mut desk, &cons, call)?;
-    let after = rt.thread_cpu_time()?;
-    let Some(took) = after.checked_sub(before) else {
-        return Err(Fault::Refused);
+    let took = match call {
+        Call::Follow => follow_steps(rt, &mut desk, &cons)?.as_nanos() / u128::from(FOLLOWING),
+        _ => answer_all(rt, &mut desk, &cons, call)?.as_nanos() / u128::from(ANSWERS),
     };
-    println!(rt; "{}", took.as_nanos() / u128::from(ANSWERS))?;
+    println!(rt; "{took}")?;
     Ok(())
 }
 
@@ -100,6 +104,7 @@ fn words(rt: &HostRuntime) -> Result<(u32, Call), Fault> {
             "20" => windows = 20,
             "200" => windows = 200,
             "4000" => windows = 4000,
+            "follow" => call = Call::Follow,
             "acknowledge" => call = Call::Acknowledge,
             "give" => call = Call::Give,
             "time-out" => call = Call::TimeOut,
@@ -128,19 +133,33 @@ fn opened(alloc: Global, windows: u32) -> Result<(Desk, Vec<ConId>), Fault> {
 fn show_workspace(alloc: Global, desk: &mut Desk, number: u32) -> Result<(), Fault> {
     let mut text = String::new(alloc);
     write!(text, "workspace {number}")?;
-    let prepared = prepare_bare(alloc, &text)?;
-    if !prepared.built() || desk.steps() >= 1 << 48 {
-        return Err(Fault::Refused);
-    }
-    desk.step(CALLER, &Step::Run(prepared))?;
+    take(desk, &running(alloc, &text)?)?;
     Ok(())
 }
 
-fn open_window(alloc: Global, desk: &mut Desk) -> Result<ConId, Fault> {
+/// The step that runs a text.
+fn running(alloc: Global, text: &str) -> Result<Step, Fault>
+    ensures { IfOk result (λ step. IsFitStep step) }
+{
+    let prepared = prepare_bare(alloc, text)?;
+    if !prepared.built() {
+        return Err(Fault::Refused);
+    }
+    Ok(Step::Run(prepared))
+}
+
+/// Takes a step of the caller.
+fn take(desk: &mut Desk, step: &Step) -> Result<Answer, Fault>
+    requires { IsFitStep step.now }
+{
     if desk.steps() >= 1 << 48 {
         return Err(Fault::Refused);
     }
-    match desk.step(CALLER, &window(alloc)?)? {
+    Ok(desk.step(CALLER, step)?)
+}
+
+fn open_window(alloc: Global, desk: &mut Desk) -> Result<ConId, Fault> {
+    match take(desk, &window(alloc)?)? {
         Answer::Mapped(con) => Ok(con),
         _ => Err(Fault::Refused),
     }
@@ -168,28 +187,92 @@ fn window(alloc: Global) -> Result<Step, Fault>
     })
 }
 
-/// Answers for the windows, one after another, far from one another.
-fn answer_all(desk: &mut Desk, cons: &[ConId], call: Call) -> Result<(), Fault> {
+/// The time from one reading of the clock to a later one.
+fn between(before: Duration, after: Duration) -> Result<Duration, Fault> {
+    after.checked_sub(before).ok_or(Fault::Refused)
+}
+
+/// Answers for the windows, one after another, far from one another, and tells how long that took.
+fn answer_all(
+    rt: &HostRuntime,
+    desk: &mut Desk,
+    cons: &[ConId],
+    call: Call,
+) -> Result<Duration, Fault> {
+    let before = rt.thread_cpu_time()?;
     let mut at = 0;
     for _ in 0..ANSWERS {
         let Some(con) = cons.get(at) else {
             return Err(Fault::Refused);
         };
-        answer(desk, *con, call)?;
+        answer(desk, *con, call, 1)?;
         at = (at + 37) % cons.len();
     }
-    Ok(())
+    between(before, rt.thread_cpu_time()?)
 }
 
-fn answer(desk: &mut Desk, con: ConId, call: Call) -> Result<(), Fault> {
+fn answer(desk: &mut Desk, con: ConId, call: Call, serial: u64) -> Result<(), Fault> {
     if desk.steps() >= 1 << 48 {
         return Err(Fault::Refused);
     }
     let step = match call {
-        Call::Acknowledge => ClientStep::Ack { con, serial: 1 },
-        Call::Give => ClientStep::Buffer { con, buffer: AMBER },
-        Call::TimeOut => ClientStep::Deadline { number: 0 },
+        Call::Acknowledge => ClientStep::Ack { con, serial },
+        Call::Give | Call::Follow => ClientStep::Buffer { con, buffer: AMBER },
+        Call::TimeOut => ClientStep::Deadline { number: serial },
     };
     desk.answer_client(CALLER, &step);
+    Ok(())
+}
+
+/// Turns the workspace on the screen again and again, answers each time for its windows, and tells how long the answers
+/// took, the reading of the clock taken off.
+fn follow_steps(rt: &HostRuntime, desk: &mut Desk, cons: &[ConId]) -> Result<Duration, Fault> {
+    let shown = &cons[cons.len() - cons.len().min(CROWD as usize)..];
+    let rounds = FOLLOWING as usize / (2 * shown.len()).max(1);
+    let mut took = Duration::ZERO;
+    for _ in 0..rounds {
+        time_out_all(desk)?;
+        take(desk, &running(rt.alloc(), "layout toggle split")?)?;
+        took = took
+            .checked_add(timed(rt, desk, shown)?)
+            .ok_or(Fault::Refused)?;
+    }
+    Ok(took)
+}
+
+/// How long the answers for these windows take, a reading of the clock taken off.
+fn timed(rt: &HostRuntime, desk: &mut Desk, shown: &[ConId]) -> Result<Duration, Fault> {
+    let start = rt.thread_cpu_time()?;
+    let before = rt.thread_cpu_time()?;
+    follow(desk, shown)?;
+    let after = rt.thread_cpu_time()?;
+    let reading = between(start, before)?;
+    Ok(
+        between(before, after)?
+            .checked_sub(reading)
+            .unwrap_or(Duration::ZERO),
+    )
+}
+
+/// Each of these windows acknowledges the transaction that waits, and gives a buffer.
+fn follow(desk: &mut Desk, shown: &[ConId]) -> Result<(), Fault> {
+    let Some(waiting) = desk.state().waiting else {
+        return Err(Fault::Refused);
+    };
+    for con in shown {
+        answer(desk, *con, Call::Acknowledge, waiting.number)?;
+        answer(desk, *con, Call::Give, waiting.number)?;
+    }
+    Ok(())
+}
+
+/// Ends the transactions that wait since windows were opened.
+fn time_out_all(desk: &mut Desk) -> Result<(), Fault> {
+    for _ in 0..4 {
+        let Some(waiting) = desk.state().waiting else {
+            return Ok(());
+        };
+        answer(desk, ConId(0), Call::TimeOut, waiting.number)?;
+    }
     Ok(())
 }
