@@ -1,15 +1,11 @@
 -- Windows that are gone: what the history says of them stays so, and a window that is closed may go.
 use Rattle.std.proofs.Common.{◌≡◌, ℕ, ◌+◌, ◌≤◌, Bool, true, false, cond, [], ◌∷◌, List, length, Option, Some, None, refl, ap, sym, ◌∙◌, subst, arith}
-use Rattle.std.proofs.lemmas.Bool.Decides.{nat_tests}
-use Rattle.std.proofs.lemmas.Cmp.{nat_cmp_total}
-use Rattle.std.proofs.lemmas.Map.{lookup-remove_entry}
-use Rattle.std.proofs.lemmas.Map.Keys.{IsDistinct-from_sorted}
 use Rattle.std.specs.BTreeMap.{insert_entry, is_at}
-use Rattle.std.specs.Cmp.{eq_by_cmp_equiv}
-use Rattle.std.specs.Map.{keys_of, remove_entry}
+use Rattle.std.specs.Map.{remove_entry}
 use Rattle.std.specs.Ordering.{nat_cmp}
 use Rattle.wm_base.specs.declared.ids.Buffer.{Buffer}
 use Rattle.wm_base.specs.declared.ids.ConId.{ConId}
+use Rattle.wm_ids.proofs.EntryLemmas.{found_without, test_same}
 use Rattle.wm_tree.specs.Look.{same}
 use Rattle.wm_arrange.specs.declared.parts.Placed.{Placed}
 use Rattle.wm_txn.specs.History.{Opening, Entry, is_open}
@@ -19,7 +15,7 @@ use Rattle.wm_txn.specs.Stands.{IsGone, IsHeld, IsKept, IsLeft, IsScheduled, Kee
 use Rattle.wm_txn.specs.Windows.{AreSorted, Buffers, Windows, count_unanswered, find, is_unanswered, left_of, one_if}
 use Rattle.wm_txn.specs.declared.held.Held.{Held}
 use Rattle.wm_txn.specs.declared.held.Pending.{Pending}
-use Rattle.wm_txn.proofs.WindowLemmas.{find_insert, one_id, test_same}
+use Rattle.wm_txn.proofs.WindowLemmas.{find_insert, one_id}
 
 -- ---- what the history says of a window that is gone
 
@@ -50,12 +46,7 @@ abbrev pub without_window : ConId → Windows → Windows
 without_window c windows = remove_entry (is_at (nat_cmp c.0)) windows
 
 find_without : (c v : ConId) (windows : Windows) → AreSorted windows → find v (without_window c windows) ≡ cond (same c v) None (find v windows)
-find_without c v windows sorted =
-    lookup-remove_entry (eq_by_cmp_equiv nat_cmp_total) (is_at (nat_cmp c.0)) same_test v.0 windows (IsDistinct-from_sorted nat_cmp (keys_of windows) sorted)
-    ∙ ap (λ b. cond b None (find v windows)) (test_same c.0 v.0)
-  where
-    same_test : (x y : ℕ) → is_at (nat_cmp c.0) x ≡ true → is_at (nat_cmp c.0) y ≡ is_at (nat_cmp x) y
-    same_test x y h = grind (arith, nat_tests)
+find_without c v windows sorted = found_without c.0 v.0 windows sorted ∙ ap (λ b. cond b None (find v windows)) (test_same c.0 v.0)
 
 count_step : (n : ℕ) (w : Held) (e : ℕ × Held) (windows without : Windows) (found : Option Held) (b : Bool) → cond b (Some e.1) found ≡ Some w → (found ≡ Some w → count_unanswered n without + one_if (is_unanswered n w) ≡ count_unanswered n windows)
     → count_unanswered n (cond b windows (e ∷ without)) + one_if (is_unanswered n w) ≡ count_unanswered n (e ∷ windows)

@@ -1,5 +1,5 @@
 -- The windows by id: one that is looked up, and how many have not answered.
-use Rattle.std.proofs.Common.{◌≡◌, ℕ, ◌+◌, Bool, true, false, cond, eqb, List, [], ◌∷◌, Option, Some, None, refl, ap, sym, ◌∙◌, arith}
+use Rattle.std.proofs.Common.{◌≡◌, ℕ, ◌+◌, Bool, true, false, cond, List, [], ◌∷◌, Option, Some, None, refl, ap, sym, ◌∙◌, arith}
 use Rattle.std.proofs.lemmas.Bool.{eqb-true}
 use Rattle.std.proofs.lemmas.Bool.Decides.{nat_tests}
 use Rattle.std.proofs.lemmas.Cmp.{nat_cmp_total}
@@ -14,12 +14,10 @@ use Rattle.std.specs.Ordering.{nat_cmp, is_eq, match_ordering}
 use Rattle.std.specs.declared.cmp.Ordering.{Ordering}
 use Rattle.std.specs.declared.cmp.Ordering.TheVariants.{Less, Equal, Greater}
 use Rattle.wm_base.specs.declared.ids.ConId.{ConId}
+use Rattle.wm_ids.proofs.EntryLemmas.{test_same}
 use Rattle.wm_tree.specs.Look.{same}
 use Rattle.wm_txn.specs.Windows.{Windows, find, put, one_if, is_unanswered, count_unanswered}
 use Rattle.wm_txn.specs.declared.held.Held.{Held}
-
-pub test_same : (a b : ℕ) → is_at (nat_cmp a) b ≡ eqb a b
-test_same a b = grind (arith, nat_tests)
 
 -- two ids that pass the test are one
 pub one_id : (a b : ConId) → same a b ≡ true → a ≡ b

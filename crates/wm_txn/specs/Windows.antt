@@ -142,11 +142,6 @@ is_live (Some w) = w.live
 abbrev pub stays_open : Option (ConId × Buffer) → List ConId → Windows → ConId → Bool
 stays_open fresh gone windows v = (is_fresh v fresh || is_live (find v windows)) && not (list_any (same v) gone)
 
--- the ids of the windows that are closed
-abbrev pub closed_ids : Windows → List ConId
-closed_ids [] = []
-closed_ids (e ∷ windows) = if e.1.live then closed_ids windows else record { 0 = e.0 } ∷ closed_ids windows
-
 -- the window was never there
 abbrev pub IsNewcomer : Option (ConId × Buffer) → Windows → Buffers → Type 0
 IsNewcomer None windows buffers = Unit {0}

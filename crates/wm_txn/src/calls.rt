@@ -12,6 +12,7 @@ use std::alloc::Global;
 use std::collections::BTreeMap;
 use wm_arrange::Arrangement;
 use wm_base::{Buffer, ConId, NoMemory};
+use wm_ids::IdMap;
 
 impl Txn {
     /// Transactions that begin with an arrangement without windows, which is done.
@@ -23,7 +24,7 @@ impl Txn {
     {
         Ok(Txn {
             alloc,
-            windows: BTreeMap::new(alloc),
+            windows: IdMap::new(alloc),
             gone: BTreeMap::new(alloc),
             number: 0,
             prefix: 0,
@@ -31,6 +32,9 @@ impl Txn {
             waiting: None,
             newest: None,
             left: 0,
+            late: Vec::new(alloc),
+            spent: None,
+            older: None,
         })
     }
 
@@ -55,6 +59,7 @@ impl Txn {
         self.arrange(newest, gone);
         self.settle(place + 1);
         self.sweep(gone);
+        self.discard();
         Ok(())
     }
 

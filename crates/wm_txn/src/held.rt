@@ -1,7 +1,7 @@
 //! What is kept of a window, its last two buffers and its last two configures, and of a transaction that waits.
 ghost use Rattle.std.specs.Prelude.{◌≡◌};
 ghost use Rattle.wm_txn.specs.Machine.{judge_serial};
-ghost use Rattle.wm_txn.specs.Windows.{asked_by, buffered_with, committed_serial, held_of, is_unanswered, shown_by};
+ghost use Rattle.wm_txn.specs.Windows.{acked_with, asked_by, buffered_with, closed_held, committed_serial, held_of, is_unanswered, shown_by};
 
 use crate::answers::AckRefusal;
 use wm_arrange::Arrangement;
@@ -96,6 +96,24 @@ impl Held {
             asked: serial,
             last: self.acked,
         })
+    }
+
+    /// The window after it acknowledged the serial.
+    pub(crate) fn acked_with(self, serial: u64) -> Held
+        ensures { result ≡ acked_with serial self }
+    {
+        let mut held = self;
+        held.acked = serial;
+        held
+    }
+
+    /// The window after it closed.
+    pub(crate) fn closed(self) -> Held
+        ensures { result ≡ closed_held self }
+    {
+        let mut held = self;
+        held.live = false;
+        held
     }
 
     /// The window after it gave a buffer, where the transactions up to `done` have ended.

@@ -66,7 +66,7 @@ impl Txn {
     fn shown_of(&self, view: ConId) -> Option<Buffer>
         ensures { result ≡ shown_of view self.now }
     {
-        match self.windows.get(&view.0) {
+        match self.windows.get(view.0) {
             Some(held) => Some(held.shown_by(self.number)),
             None => self.gone.get(&view.0).copied(),
         }
@@ -75,7 +75,7 @@ impl Txn {
     fn asked_of(&self, view: ConId) -> Option<(u64, Size)>
         ensures { result ≡ asked_of (find view self.now.windows) }
     {
-        match self.windows.get(&view.0) {
+        match self.windows.get(view.0) {
             Some(held) if held.live && held.serial != 0 => Some((held.serial, held.size)),
             _ => None,
         }
@@ -97,7 +97,7 @@ impl Txn {
     fn has_acked(&self, view: ConId, number: u64) -> bool
         ensures { result ≡ has_acked number (find view self.now.windows) }
     {
-        match self.windows.get(&view.0) {
+        match self.windows.get(view.0) {
             Some(held) => held.acked == number,
             None => false,
         }

@@ -1,14 +1,12 @@
 //! Windows that are gone: what is left of them.
-ghost use Rattle.std.specs.Prelude.{◌≡◌, List, IfOk};
+ghost use Rattle.std.specs.Prelude.{◌≡◌, List};
 ghost use Rattle.wm_txn.specs.History.{Opening, Entry};
 ghost use Rattle.wm_txn.specs.Machine.{last_prefix};
 ghost use Rattle.wm_txn.specs.Stands.{Stands};
-ghost use Rattle.wm_txn.specs.Windows.{closed_ids};
 
 use crate::held::Held;
 use crate::txn::Txn;
-use std::alloc::{AllocError, Global};
-use std::collections::BTreeMap;
+use std::mem;
 use wm_base::ConId;
 
 impl Txn {
@@ -20,10 +18,9 @@ impl Txn {
         if gone.is_empty() {
             return;
         }
-        let Ok(ids) = closed_ids(self.alloc, &self.windows) else {
-            return;
-        };
-        self.tuck_all(&ids);
+        let late = mem::replace(&mut self.late, Vec::new(self.alloc));
+        self.tuck_all(&late);
+        self.tuck_all(gone);
     }
 
     /// Leaves of these windows the buffers that they show.
@@ -38,33 +35,23 @@ impl Txn {
         }
     }
 
-    /// Leaves of a closed window the buffer that it shows, where that is its newest one and there is memory for it.
+    /// Leaves of a closed window the buffer that it shows. Where that is not its newest one yet, or there is no memory
+    /// for it, this is tried again when the next window closes.
     fn tuck(&mut self, con: ConId)
         ensures stands { (o : Opening) → (history : List Entry) → Stands o history self.old → Stands o history self.new }
         ensures same { last_prefix self.new ≡ last_prefix self.old }
     {
-        let Some(held) = self.windows.get(&con.0) else {
+        let Some(held) = self.windows.get(con.0) else {
             return;
         };
-        if held.live || self.number < held.under {
+        if held.live {
             return;
         }
-        let newest = held.newest;
-        if self.gone.insert(con.0, newest).is_ok() {
-            self.windows.remove(&con.0);
+        let Held { newest, under, .. } = *held;
+        if self.number < under || self.gone.insert(con.0, newest).is_err() {
+            let _ = self.late.push(con);
+            return;
         }
+        self.windows.remove(con.0);
     }
-}
-
-/// The ids of the windows that are closed.
-fn closed_ids(alloc: Global, windows: &BTreeMap<u32, Held>) -> Result<Vec<ConId>, AllocError>
-    ensures { IfOk result (λ ids. ids.items ≡ closed_ids windows.now.entries) }
-{
-    let mut ids = Vec::new(alloc);
-    for (id, held) in windows {
-        if !held.live {
-            ids.push(ConId(*id))?;
-        }
-    }
-    Ok(ids)
 }

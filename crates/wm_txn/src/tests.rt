@@ -120,7 +120,10 @@ fn a_gone_window_shows_its_buffer(rt: HostRuntime) -> Result<(), Fail> {
         parts: List::of(Vec::new(alloc)),
     };
     txn.admit(1, empty, None, &[VIEW])?;
-    assert_eq!(rt; (txn.windows.len(), txn.gone.len()), (0, 1));
+    assert_eq!(rt;
+        (txn.windows.get(VIEW.0).is_some(), txn.gone.len()),
+        (false, 1)
+    );
     assert_eq!(rt; txn.shown(VIEW), Some(buffer(1, 640, 480)));
     assert_eq!(rt; txn.asked(VIEW), None);
     Ok(())

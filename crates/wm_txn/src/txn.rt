@@ -9,15 +9,17 @@ use crate::windows::{ask_all, close_all, one_if};
 use std::alloc::Global;
 use std::collections::BTreeMap;
 use std::marker::Model;
+use std::mem;
 use wm_arrange::Arrangement;
 use wm_base::{Buffer, ConId, NoMemory, Size};
+use wm_ids::IdMap;
 
 /// Layout transactions. The machine stands for a history: the entries that it took, from an opening on. Of a window that
 /// is gone only its id and the buffer that it shows are kept.
 #[derive(Drop)]
 pub struct Txn {
     pub(crate) alloc: Global,
-    pub(crate) windows: BTreeMap<u32, Held>,
+    pub(crate) windows: IdMap<Held>,
     pub(crate) gone: BTreeMap<u32, Buffer>,
     pub(crate) number: u64,
     pub(crate) prefix: u64,
@@ -25,6 +27,12 @@ pub struct Txn {
     pub(crate) waiting: Option<Pending>,
     pub(crate) newest: Option<Arrangement>,
     pub(crate) left: u64,
+    /// Closed windows of which the newest buffer was not shown yet.
+    pub(crate) late: Vec<ConId>,
+    /// The last arrangements that were current: what ends a transaction has no time to drop them, and the next arrangement
+    /// that comes does.
+    pub(crate) spent: Option<Arrangement>,
+    pub(crate) older: Option<Arrangement>,
 }
 
 impl Model for Txn {
@@ -35,7 +43,7 @@ impl Model for Txn {
 
     ghost coded = { txn_code };
 
-    ghost view = { λ d. record { windows = d.windows.entries; gone = d.gone.entries; number = d.number; prefix = d.prefix; current = d.current; waiting = d.waiting; newest = d.newest; left = d.left } };
+    ghost view = { λ d. record { windows = d.windows; gone = d.gone.entries; number = d.number; prefix = d.prefix; current = d.current; waiting = d.waiting; newest = d.newest; left = d.left } };
 
     ghost invariant = { λ d. (d.number ≤ d.prefix) × (d.prefix ≤ 2 ^ 48) × IfSome d.waiting (λ p. (d.number < p.prefix) × (p.prefix ≤ 2 ^ 48)) };
 }
@@ -53,7 +61,8 @@ impl Txn {
             } = pending;
             self.number += 1;
             self.prefix = prefix;
-            self.current = arrangement;
+            self.older = self.spent.take();
+            self.spent = Some(mem::replace(&mut self.current, arrangement));
         }
     }
 
@@ -133,11 +142,19 @@ impl Txn {
         self.newest = Some(newest);
     }
 
+    /// Drops the arrangements that are current no more.
+    pub(crate) fn discard(&mut self)
+        ensures { self.new ≡ self.old }
+    {
+        self.spent = None;
+        self.older = None;
+    }
+
     /// Why an acknowledgement is refused, if it is.
     fn judge_ack(&self, view: ConId, serial: u64) -> Result<(), AckRefusal>
         ensures { result ≡ judge_ack self.now.number serial (find view self.now.windows) }
     {
-        match self.windows.get(&view.0) {
+        match self.windows.get(view.0) {
             Some(held) if held.live => held.judge_ack(self.number, serial),
             _ => Err(AckRefusal::NoView),
         }
@@ -150,8 +167,9 @@ impl Txn {
         ensures same { last_prefix self.new ≡ last_prefix self.old }
     {
         self.judge_ack(view, serial)?;
-        if let Some(held) = self.windows.get_mut(&view.0) {
-            held.acked = serial;
+        if let Some(held) = self.windows.get(view.0) {
+            let after = held.acked_with(serial);
+            self.windows.set(view.0, after);
         }
         Ok(())
     }
@@ -160,7 +178,7 @@ impl Txn {
     fn judge_buffer(&self, view: ConId, buffer: Buffer) -> Result<(), BufferRefusal>
         ensures { result ≡ judge_buffer buffer (find view self.now.windows) }
     {
-        match self.windows.get(&view.0) {
+        match self.windows.get(view.0) {
             Some(held) if held.live => judge_size(buffer.size),
             _ => Err(BufferRefusal::NoView),
         }
@@ -172,10 +190,10 @@ impl Txn {
         ensures same { last_prefix self.new ≡ last_prefix self.old }
     {
         let next = self.number + 1;
-        if let Some(held) = self.windows.get_mut(&view.0) {
+        if let Some(held) = self.windows.get(view.0) {
             let before = *held;
             let after = before.buffered_with(self.number, buffer);
-            *held = after;
+            self.windows.set(view.0, after);
             let answered = before.is_unanswered(next) && !after.is_unanswered(next);
             self.left = self.left.saturating_sub(one_if(answered));
         }

@@ -5,14 +5,14 @@ ghost use Rattle.wm_txn.specs.Commits.{lesser};
 ghost use Rattle.wm_arrange.specs.Sizes.{is_content};
 
 use crate::held::Held;
-use std::collections::BTreeMap;
 use wm_arrange::{Placed, PlacedPart};
 use wm_base::{ConId, Size};
+use wm_ids::IdMap;
 
 /// Asks the windows that have a content among the parts for its size, and answers how many transaction `number` awaits.
-pub(crate) fn ask_all(windows: &mut BTreeMap<u32, Held>, parts: &[Placed], number: u64) -> u64
-    ensures windows { windows.new.entries ≡ ask_all number parts.now windows.old.entries }
-    ensures count { result ≡ count_all number parts.now windows.old.entries }
+pub(crate) fn ask_all(windows: &mut IdMap<Held>, parts: &[Placed], number: u64) -> u64
+    ensures windows { windows.new ≡ ask_all number parts.now windows.old }
+    ensures count { result ≡ count_all number parts.now windows.old }
 {
     let mut count: u64 = 0;
     let mut rest = parts;
@@ -26,24 +26,24 @@ pub(crate) fn ask_all(windows: &mut BTreeMap<u32, Held>, parts: &[Placed], numbe
 }
 
 /// Asks a window for a size, and answers 1 where transaction `number` awaits it for that.
-fn ask(windows: &mut BTreeMap<u32, Held>, con: ConId, size: Size, number: u64) -> u64
-    ensures windows { windows.new.entries ≡ ask_found number size con (find con windows.old.entries) windows.old.entries }
-    ensures count { result ≡ count_found number size (find con windows.old.entries) }
+fn ask(windows: &mut IdMap<Held>, con: ConId, size: Size, number: u64) -> u64
+    ensures windows { windows.new ≡ ask_found number size con (find con windows.old) windows.old }
+    ensures count { result ≡ count_found number size (find con windows.old) }
     ensures small { result ≤ 1 }
 {
-    let Some(held) = windows.get_mut(&con.0) else {
+    let Some(held) = windows.get(con.0) else {
         return 0;
     };
     let before = *held;
     let after = before.asked_by(number, size);
-    *held = after;
+    windows.set(con.0, after);
     one_if(before.placed != number && after.is_unanswered(number))
 }
 
 /// Closes windows, and answers how many of them transaction `number` awaited.
-pub(crate) fn close_all(windows: &mut BTreeMap<u32, Held>, gone: &[ConId], number: u64) -> u64
-    ensures windows { windows.new.entries ≡ close_all gone.now windows.old.entries }
-    ensures count { result ≡ count_closed number gone.now windows.old.entries }
+pub(crate) fn close_all(windows: &mut IdMap<Held>, gone: &[ConId], number: u64) -> u64
+    ensures windows { windows.new ≡ close_all gone.now windows.old }
+    ensures count { result ≡ count_closed number gone.now windows.old }
 {
     let mut count: u64 = 0;
     let mut rest = gone;
@@ -55,26 +55,22 @@ pub(crate) fn close_all(windows: &mut BTreeMap<u32, Held>, gone: &[ConId], numbe
 }
 
 /// Closes a window, and answers 1 where transaction `number` awaited it.
-fn close(windows: &mut BTreeMap<u32, Held>, con: ConId, number: u64) -> u64
-    ensures windows { windows.new.entries ≡ close_found con (find con windows.old.entries) windows.old.entries }
-    ensures count { result ≡ count_awaited number (find con windows.old.entries) }
+fn close(windows: &mut IdMap<Held>, con: ConId, number: u64) -> u64
+    ensures windows { windows.new ≡ close_found con (find con windows.old) windows.old }
+    ensures count { result ≡ count_awaited number (find con windows.old) }
     ensures small { result ≤ 1 }
 {
-    let Some(held) = windows.get_mut(&con.0) else {
+    let Some(held) = windows.get(con.0) else {
         return 0;
     };
     let before = *held;
-    held.live = false;
+    windows.set(con.0, before.closed());
     one_if(before.is_unanswered(number))
 }
 
 /// The least window with a content among the parts that transaction `number` awaits and that has not answered.
-pub(crate) fn least_left(
-    windows: &BTreeMap<u32, Held>,
-    parts: &[Placed],
-    number: u64,
-) -> Option<ConId>
-    ensures { result ≡ least_left number windows.now.entries parts.now }
+pub(crate) fn least_left(windows: &IdMap<Held>, parts: &[Placed], number: u64) -> Option<ConId>
+    ensures { result ≡ least_left number windows.now parts.now }
 {
     let mut least: Option<ConId> = None;
     let mut rest = parts;
@@ -96,10 +92,10 @@ fn lesser(con: ConId, other: Option<ConId>) -> ConId
     }
 }
 
-fn is_left(windows: &BTreeMap<u32, Held>, con: ConId, number: u64) -> bool
-    ensures { result ≡ is_left number (find con windows.now.entries) }
+fn is_left(windows: &IdMap<Held>, con: ConId, number: u64) -> bool
+    ensures { result ≡ is_left number (find con windows.now) }
 {
-    match windows.get(&con.0) {
+    match windows.get(con.0) {
         Some(held) => held.is_unanswered(number),
         None => false,
     }

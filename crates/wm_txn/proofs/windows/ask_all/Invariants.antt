@@ -6,8 +6,8 @@ use Rattle.wm_txn.proofs.windows.ask_all.Given as goal
 abbrev pub invariant-loop-rest : goal.invariant-loop-rest
 invariant-loop-rest l =
     record {
-      windows : ask_all l.number l.rest l.windows.entries ≡ ask_all l.number l.fn.parts l.fn.windows.entries;
-      count : l.count + count_all l.number l.rest l.windows.entries ≡ count_all l.number l.fn.parts l.fn.windows.entries;
+      windows : ask_all l.number l.rest l.windows ≡ ask_all l.number l.fn.parts l.fn.windows;
+      count : l.count + count_all l.number l.rest l.windows ≡ count_all l.number l.fn.parts l.fn.windows;
       small : l.count + length l.rest ≤ length l.fn.parts;
     }
 

@@ -6,8 +6,8 @@ use Rattle.wm_txn.proofs.windows.close_all.Given as goal
 abbrev pub invariant-loop-rest : goal.invariant-loop-rest
 invariant-loop-rest l =
     record {
-      windows : close_all l.rest l.windows.entries ≡ close_all l.fn.gone l.fn.windows.entries;
-      count : l.count + count_closed l.number l.rest l.windows.entries ≡ count_closed l.number l.fn.gone l.fn.windows.entries;
+      windows : close_all l.rest l.windows ≡ close_all l.fn.gone l.fn.windows;
+      count : l.count + count_closed l.number l.rest l.windows ≡ count_closed l.number l.fn.gone l.fn.windows;
       small : l.count + length l.rest ≤ length l.fn.gone;
     }
 

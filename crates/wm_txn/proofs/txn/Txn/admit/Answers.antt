@@ -18,5 +18,5 @@ returns-clause-stands c = λ o history at s fit.
     let sorted = subst Sorted_in made sorted_windows in
     let left : c.settle.new.self ≡ settled (c.args.place + 1) (arranged c.args.newest c.args.gone.now (opened c.args.fresh d)) =
     c.settle.ensures.value ∙ ap (settled (c.args.place + 1)) (c.arrange.ensures.value ∙ ap (arranged c.args.newest c.args.gone.now) made) in
-    c.sweep.ensures.stands o (Arranged c.args.newest.parts c.args.fresh c.args.gone.now ∷ history)
-    (rw left (stands_arranged o (heard o history) d s c.args.newest c.args.fresh c.args.gone.now (c.args.place + 1) (ap (λ n. n + 1) (sym at ∙ sym (heard_length o history))) fits.0 fits.1 sorted))
+    rw c.discard.ensures (c.sweep.ensures.stands o (Arranged c.args.newest.parts c.args.fresh c.args.gone.now ∷ history)
+    (rw left (stands_arranged o (heard o history) d s c.args.newest c.args.fresh c.args.gone.now (c.args.place + 1) (ap (λ n. n + 1) (sym at ∙ sym (heard_length o history))) fits.0 fits.1 sorted)))

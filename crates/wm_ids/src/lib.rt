@@ -1,0 +1,8 @@
+//! Maps by id, in which a look-up takes as long however many ids there are.
+#![tactic(auto)]
+
+mod map;
+#[cfg(test)]
+mod tests;
+
+pub use map::IdMap;
