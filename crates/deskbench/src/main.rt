@@ -19,6 +19,9 @@ const ANSWERS: u32 = 10_000_000;
 /// How many answers follow steps.
 const FOLLOWING: u32 = 400_000;
 
+/// How many answers a round counts for at least, where it has fewer.
+const FEWEST: usize = 100;
+
 /// How many windows a workspace has at most.
 const CROWD: u32 = 200;
 
@@ -67,6 +70,8 @@ impl From<io::Error> for Fault {
 enum Call {
     /// Each window on the screen acknowledges its new size and gives a buffer, after each step.
     Follow,
+    /// The time of the transaction is over, after each step.
+    Expire,
     /// One window after another, far from one another, does this alone.
     Acknowledge,
     Give,
@@ -85,7 +90,8 @@ fn bench(rt: &HostRuntime) -> Result<(), Fault> {
     let (windows, call) = words(rt)?;
     let (mut desk, cons) = opened(rt.alloc(), windows)?;
     let took = match call {
-        Call::Follow => follow_steps(rt, &mut desk, &cons)?.as_nanos() / u128::from(FOLLOWING),
+        Call::Follow => end_steps(rt, &mut desk, shown(&cons))?,
+        Call::Expire => end_steps(rt, &mut desk, &[])?,
         _ => answer_all(rt, &mut desk, &cons, call)?.as_nanos() / u128::from(ANSWERS),
     };
     println!(rt; "{took}")?;
@@ -105,6 +111,7 @@ fn words(rt: &HostRuntime) -> Result<(u32, Call), Fault> {
             "200" => windows = 200,
             "4000" => windows = 4000,
             "follow" => call = Call::Follow,
+            "expire" => call = Call::Expire,
             "acknowledge" => call = Call::Acknowledge,
             "give" => call = Call::Give,
             "time-out" => call = Call::TimeOut,
@@ -218,33 +225,43 @@ fn answer(desk: &mut Desk, con: ConId, call: Call, serial: u64) -> Result<(), Fa
     let step = match call {
         Call::Acknowledge => ClientStep::Ack { con, serial },
         Call::Give | Call::Follow => ClientStep::Buffer { con, buffer: AMBER },
-        Call::TimeOut => ClientStep::Deadline { number: serial },
+        Call::TimeOut | Call::Expire => ClientStep::Deadline { number: serial },
     };
     desk.answer_client(CALLER, &step);
     Ok(())
 }
 
-/// Turns the workspace on the screen again and again, answers each time for its windows, and tells how long the answers
-/// took, the reading of the clock taken off.
-fn follow_steps(rt: &HostRuntime, desk: &mut Desk, cons: &[ConId]) -> Result<Duration, Fault> {
-    let shown = &cons[cons.len() - cons.len().min(CROWD as usize)..];
-    let rounds = FOLLOWING as usize / (2 * shown.len()).max(1);
+/// The windows on the screen: those that were opened last.
+fn shown(cons: &[ConId]) -> &[ConId] {
+    &cons[cons.len() - cons.len().min(CROWD as usize)..]
+}
+
+/// Turns the workspace on the screen again and again, ends each time what waits, and tells how many nanoseconds one of the
+/// answers took, the reading of the clock taken off.
+fn end_steps(rt: &HostRuntime, desk: &mut Desk, shown: &[ConId]) -> Result<u128, Fault> {
+    let answers = (2 * shown.len()).max(1);
+    let rounds = FOLLOWING as usize / answers.max(FEWEST);
     let mut took = Duration::ZERO;
     for _ in 0..rounds {
         time_out_all(desk)?;
         take(desk, &running(rt.alloc(), "layout toggle split")?)?;
-        took = took
-            .checked_add(timed(rt, desk, shown)?)
-            .ok_or(Fault::Refused)?;
+        let waiting = desk.state().waiting.ok_or(Fault::Refused)?;
+        let more = timed(rt, desk, shown, waiting.number)?;
+        took = took.checked_add(more).ok_or(Fault::Refused)?;
     }
-    Ok(took)
+    Ok(took.as_nanos() / (rounds * answers).max(1) as u128)
 }
 
-/// How long the answers for these windows take, a reading of the clock taken off.
-fn timed(rt: &HostRuntime, desk: &mut Desk, shown: &[ConId]) -> Result<Duration, Fault> {
+/// How long the answers take that end the transaction of this number, a reading of the clock taken off.
+fn timed(
+    rt: &HostRuntime,
+    desk: &mut Desk,
+    shown: &[ConId],
+    number: u64,
+) -> Result<Duration, Fault> {
     let start = rt.thread_cpu_time()?;
     let before = rt.thread_cpu_time()?;
-    follow(desk, shown)?;
+    end(desk, shown, number)?;
     let after = rt.thread_cpu_time()?;
     let reading = between(start, before)?;
     Ok(
@@ -254,14 +271,14 @@ fn timed(rt: &HostRuntime, desk: &mut Desk, shown: &[ConId]) -> Result<Duration,
     )
 }
 
-/// Each of these windows acknowledges the transaction that waits, and gives a buffer.
-fn follow(desk: &mut Desk, shown: &[ConId]) -> Result<(), Fault> {
-    let Some(waiting) = desk.state().waiting else {
-        return Err(Fault::Refused);
-    };
+/// Each of these windows acknowledges the transaction of this number and gives a buffer. Where there are none, its time is over.
+fn end(desk: &mut Desk, shown: &[ConId], number: u64) -> Result<(), Fault> {
+    if shown.is_empty() {
+        answer(desk, ConId(0), Call::Expire, number)?;
+    }
     for con in shown {
-        answer(desk, *con, Call::Acknowledge, waiting.number)?;
-        answer(desk, *con, Call::Give, waiting.number)?;
+        answer(desk, *con, Call::Acknowledge, number)?;
+        answer(desk, *con, Call::Give, number)?;
     }
     Ok(())
 }

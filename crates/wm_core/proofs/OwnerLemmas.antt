@@ -1,5 +1,5 @@
 -- The callers of the open windows, before and after a step.
-use Rattle.std.proofs.Common.{◌≡◌, ◌≢◌, ℕ, ◌≤◌, ◌==◌, Bool, true, false, cond, not, ◌&&◌, ◌||◌, List, [], ◌∷◌, Option, Some, None, is_some, refl, ap, sym, subst, ◌∙◌, arith}
+use Rattle.std.proofs.Common.{◌≡◌, ◌≢◌, ℕ, ◌≤◌, ◌==◌, Bool, true, false, cond, not, ◌&&◌, ◌||◌, List, [], Option, Some, None, is_some, refl, ap, sym, subst, ◌∙◌, arith}
 use Rattle.std.proofs.lemmas.Bool.Decides.{nat_tests}
 use Rattle.std.specs.List.{list_any}
 use Rattle.std.specs.Option.{option_or}
@@ -8,6 +8,7 @@ use Rattle.wm_base.specs.declared.ids.ConId.{ConId}
 use Rattle.wm_focus.specs.Swaps.{is_window_kind}
 use Rattle.wm_opens.proofs.OwnerLemmas.{owned_found, owned_seen}
 use Rattle.wm_opens.specs.Opens.{is_owned_kind, is_owned_of, is_owned_part, is_window_of, is_window_part, owned_at}
+use Rattle.wm_tree.proofs.ExchangeSound.{zero_has}
 use Rattle.wm_tree.proofs.ForestLemmas.{only_absent}
 use Rattle.wm_tree.proofs.RecencyLemmas.{same_is}
 use Rattle.wm_tree.specs.Counts.{count}
@@ -18,11 +19,11 @@ use Rattle.wm_tree.specs.Look.{con_kind, first_part, has, kind_by, kind_of, same
 use Rattle.wm_tree.specs.Sound.{IsSound}
 use Rattle.wm_tree.specs.TreeValue.{TreeValue}
 use Rattle.wm_txn.specs.History.{is_fresh}
-use Rattle.wm_core.specs.ByWindow.{left_of, put_at, value_at}
+use Rattle.wm_core.specs.ByWindow.{left_of, value_at}
 use Rattle.wm_core.specs.DeskValue.{AreOwners, Follows}
 use Rattle.wm_core.specs.History.{closed}
 use Rattle.wm_core.specs.Windows.{is_caller, is_window, kind_owner, owner_of, owner_then, part_owner}
-use Rattle.wm_core.proofs.FollowLemmas.{closed_are, swapped}
+use Rattle.wm_core.proofs.FollowLemmas.{closed_are}
 use Rattle.wm_core.proofs.GoneLemmas.{some_part}
 
 -- ---- looking a window up
@@ -146,14 +147,26 @@ none_added t fresh con buffer v before is none = subst (λ z. before ≡ owner_t
 
 -- where it has it, its caller is
 pub one_added : (t : TreeValue) (fresh : Option (ConId × Buffer)) (con : ConId) (buffer : Buffer) (owner : ℕ) (v : ConId) (before : Option ℕ) → fresh ≡ Some (con, buffer) → owner_of t con ≡ Some owner
-    → put_at (con ∷ []) owner v before ≡ owner_then t fresh v before
-one_added t fresh con buffer owner v before is some = subst (λ z. put_at (con ∷ []) owner v before ≡ owner_then t z v before) (sym is) (by (same con v) refl)
+    → cond (same con v) (Some owner) before ≡ owner_then t fresh v before
+one_added t fresh con buffer owner v before is some = subst (λ z. cond (same con v) (Some owner) before ≡ owner_then t z v before) (sym is) (by (same con v) refl)
   where
-    by : (b : Bool) → same con v ≡ b → put_at (con ∷ []) owner v before ≡ cond b (option_or (owner_of t v) before) before
-    by true e =
-        ap (λ b. cond (b || false) (Some owner) before) (swapped v con ∙ e)
-        ∙ sym (ap (λ o. option_or o before) (ap (owner_of t) (sym (same_is con v e)) ∙ some))
-    by false e = ap (λ b. cond (b || false) (Some owner) before) (swapped v con ∙ e)
+    by : (b : Bool) → same con v ≡ b → cond b (Some owner) before ≡ cond b (option_or (owner_of t v) before) before
+    by true e = sym (ap (λ o. option_or o before) (ap (owner_of t) (sym (same_is con v e)) ∙ some))
+    by false e = refl
+
+-- where the fresh window is taken out again, the map has the callers of the old tree
+pub owners_again : (old new : TreeValue) (fresh : Option (ConId × Buffer)) → IsSound old → Follows old new fresh → (before added after : List (ℕ × ℕ)) → AreOwners before old
+    → ((v : ConId) → value_at added v ≡ owner_then new fresh v (value_at before v)) → ((v : ConId) → value_at after v ≡ cond (is_fresh v fresh) None (value_at added v)) → AreOwners after old
+owners_again old new fresh sound f before added after were put took v = took v ∙ (ap (cond (is_fresh v fresh) None) (put v) ∙ by (is_fresh v fresh) refl)
+  where
+    not_yet : is_fresh v fresh ≡ true → owner_of old v ≡ None
+    not_yet e =
+        let absent : has v old.nodes ≡ false = zero_has v old.nodes (sound.fresh v (f.fresh_id v e).0) in
+        ap part_owner (ap (λ g. kind_by con_kind (first_part g)) (only_absent v old.nodes absent))
+
+    by : (b : Bool) → is_fresh v fresh ≡ b → cond b None (cond b (option_or (owner_of new v) (value_at before v)) (value_at before v)) ≡ owner_of old v
+    by true e = sym (not_yet e)
+    by false e = were v
 
 -- ---- the opening
 

@@ -16,13 +16,14 @@ use crate::by_window::{forget, renew};
 use crate::counting::closed;
 use crate::frame::painted;
 use crate::kills::noted;
-use crate::owners::with_opened;
+use crate::owners::{disown, forget_owners, own};
 use crate::step::{Answer, Step};
 use std::alloc::Global;
 use std::collections::BTreeMap;
 use std::marker::Model;
 use wm_arrange::arrange;
 use wm_base::{Buffer, ConId, List, NoMemory};
+use wm_ids::IdMap;
 use wm_layouts::Plan;
 use wm_paint::Frame;
 use wm_tree::Tree;
@@ -39,7 +40,7 @@ pub struct Desk {
     pub(crate) stopped: bool,
     pub(crate) kills: BTreeMap<u32, u64>,
     /// By the id of each open window, the number of its caller.
-    pub(crate) owners: BTreeMap<u32, u32>,
+    pub(crate) owners: IdMap<u32>,
 }
 
 impl Model for Desk {
@@ -54,7 +55,7 @@ impl Model for Desk {
 
     ghost view = { λ d. record { plan = d.plan; steps = d.steps; tree = d.tree; txn = d.txn; stopped = d.stopped; kills = d.kills.entries } };
 
-    ghost invariant = { λ d. ((last_prefix d.txn ≤ d.steps) × AreOwners d.owners.entries d.tree) × trees.IsSound d.tree };
+    ghost invariant = { λ d. ((last_prefix d.txn ≤ d.steps) × AreOwners d.owners d.tree) × trees.IsSound d.tree };
 }
 
 impl Desk {
@@ -76,7 +77,7 @@ impl Desk {
             txn,
             stopped: false,
             kills: BTreeMap::new(alloc),
-            owners: BTreeMap::new(alloc),
+            owners: IdMap::new(alloc),
         })
     }
 
@@ -189,15 +190,17 @@ impl Desk {
         let noted = noted(&self.kills, asked, self.steps + 1)?;
         let newest = arrange(self.alloc, &tree)?;
         let gone = closed(self.alloc, &self.tree, &tree, opened)?;
-        let owners = with_opened(&self.owners, &tree, opened)?;
-        self.txn.admit(self.steps, newest, opened, &gone)?;
+        own(&mut self.owners, &tree, opened)?;
+        if let Err(error) = self.txn.admit(self.steps, newest, opened, &gone) {
+            disown(&mut self.owners, opened);
+            return Err(error);
+        }
         self.steps += 1;
         self.tree = tree;
         self.stopped = either(self.stopped, stops);
         renew(&mut self.kills, noted);
         forget(&mut self.kills, &gone);
-        renew(&mut self.owners, owners);
-        forget(&mut self.owners, &gone);
+        forget_owners(&mut self.owners, &gone);
         Ok(())
     }
 }

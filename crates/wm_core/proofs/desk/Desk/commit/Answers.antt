@@ -6,10 +6,9 @@ use Rattle.wm_arrange.specs.declared.parts.Placed.{Placed}
 use Rattle.wm_base.specs.declared.ids.ConId.{ConId}
 use Rattle.wm_txn.specs.History as commits
 use Rattle.wm_txn.specs.Stands as transactions
-use Rattle.wm_core.specs.ByWindow.{value_at}
 use Rattle.wm_core.specs.DeskValue.{AreOwners, DeskValue, Follows, Stands, kill_after, kill_in, may_come}
 use Rattle.wm_core.specs.History.{closed, entries, first, opening_of}
-use Rattle.wm_core.proofs.OwnerLemmas.{owners_after}
+use Rattle.wm_core.proofs.OwnerLemmas.{owners_after, owners_again}
 use Rattle.wm_core.proofs.StandsLemmas.{fits, not_gone, place, stands_left}
 use Rattle.wm_core.proofs.desk.Desk.commit.Goals as goal
 
@@ -29,7 +28,7 @@ returns-clause-stands c = λ history entry s after says does.
     let Fit : List Placed → List ConId → Type 0 = λ parts ids. transactions.IsFit o h parts fresh ids in
     let Came : List Placed → List ConId → Type 0 = λ parts ids. transactions.Stands o (commits.Arranged parts fresh ids ∷ h) c.admit.new.self in
     let fit : Fit (arranged t) (closed d.tree t fresh) = fits d history stood t fresh c.self.invariant.1 c.requires.sound f in
-    let admitted = c.in_ok-admit.ensures.stands o h (place d history stood) stood.commits (subst (λ z. Fit z c.deref.result.now) (sym newest) (subst (Fit (arranged t)) (sym gone) fit)) in
+    let admitted = c.in_default.ensures.stands o h (place d history stood) stood.commits (subst (λ z. Fit z c.deref.result.now) (sym newest) (subst (Fit (arranged t)) (sym gone) fit)) in
     let came : Came (arranged t) (closed d.tree t fresh) = subst (Came (arranged t)) gone (subst (λ z. Came z c.deref.result.now) newest admitted) in
     let lasts : (v : ConId) → may_come t v ≡ true → list_any (same v) c.deref-2.result.now ≡ false = λ v may.
     ap (list_any (same v)) (c.deref-2.ensures.value ∙ c.in_ok-gone.ensures f) ∙ not_gone d history stood t fresh c.self.invariant.1 c.requires.sound f v may in
@@ -44,7 +43,16 @@ pub invariant_of-self-2 : goal.invariant_of-self-2
 invariant_of-self-2 c =
     let t = c.self.inside.tree in
     let f : Follows t c.args.tree c.args.opened = rw (← c.self.view_is) at c.requires.follows in
-    let owners : AreOwners c.forget-2.new.map.entries c.args.tree =
-    owners_after t c.args.tree c.args.opened c.self.invariant.1 c.requires.sound f c.self.inside.owners.entries c.renew-2.new.map.entries c.forget-2.new.map.entries c.deref-3.result.now
-    (c.deref-3.ensures.value ∙ c.in_ok-gone.ensures f) c.self.invariant.0.1 (λ v. ap (λ m. value_at m v) c.renew-2.ensures ∙ c.in_ok-owners.ensures v) c.forget-2.ensures in
-    ((omega (arith, c.in_ok-admit.ensures.prefix), owners), c.requires.sound)
+    let owners : AreOwners c.forget_owners.new.owners c.args.tree =
+    owners_after t c.args.tree c.args.opened c.self.invariant.1 c.requires.sound f c.self.inside.owners c.own.new.owners c.forget_owners.new.owners c.deref-3.result.now
+    (c.deref-3.ensures.value ∙ c.in_ok-gone.ensures f) c.self.invariant.0.1 c.in_ok-own.ensures.ok c.forget_owners.ensures in
+    ((omega (arith, c.in_default.ensures.prefix), owners), c.requires.sound)
+
+-- where there was no memory the callers are those of the old tree
+pub invariant_of-self-in-Err : goal.invariant_of-self-in-Err
+invariant_of-self-in-Err c =
+    let t = c.self.inside.tree in
+    let f : Follows t c.args.tree c.args.opened = rw (← c.self.view_is) at c.requires.follows in
+    let owners : AreOwners c.disown.new.owners t =
+    owners_again t c.args.tree c.args.opened c.self.invariant.1 f c.self.inside.owners c.own.new.owners c.disown.new.owners c.self.invariant.0.1 c.in_ok-own.ensures.ok c.disown.ensures in
+    ((rw c.in-Err.ensures.err c.self.invariant.0.0, owners), c.self.invariant.1)
