@@ -1,5 +1,5 @@
 //! The seats at a turnstile.
-ghost use Rattle.std.specs.Prelude.{◌≡◌, length};
+ghost use Rattle.std.specs.Prelude.{◌≡◌, ◌≤◌, ◌^◌, length};
 ghost use Rattle.wm_turn.specs.Pass.{IsLegal, IsSeated, pass_of};
 
 use crate::rule::ViewOf;
@@ -36,9 +36,10 @@ impl<V: Stands> Seat<V> {
         self.caller
     }
 
-    /// How many entries its caller has seen.
+    /// How many entries its caller has seen, at most 2^48.
     pub fn count(&self) -> u64
         ensures count { result ≡ length self.now.seen }
+        ensures few { result ≤ 2 ^ 48 }
         ensures legal { IsLegal self.now }
     {
         self.count
