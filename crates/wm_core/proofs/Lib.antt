@@ -1,6 +1,7 @@
 pub mod BackLemmas
 pub mod BeginningLemmas
 pub mod ContentLemmas
+pub mod EntryLemmas
 pub mod FollowLemmas
 pub mod GoneLemmas
 pub mod LastingLemmas

@@ -1,12 +1,14 @@
 pub mod Act
 pub mod ByWindow
 pub mod DeskValue
+pub mod Entries
 pub mod Frame
 pub mod History
 pub mod LastingLaws
 pub mod Laws
 pub mod Look
 pub mod Outputs
+pub mod Passes
 pub mod Screen
 pub mod Sizes
 pub mod Windows
