@@ -1,0 +1,29 @@
+-- A step in the form of a history says the same, and as many entries stand in what they give.
+use Rattle.std.specs.Prelude.{◌≡◌, List, length, refl}
+use Rattle.std.proofs.Common.{◌∙◌}
+use Rattle.std.proofs.lemmas.List.{length-map}
+use Rattle.wm_core.specs.Act.{act_of}
+use Rattle.wm_core.specs.DeskValue.{DeskValue, Stands}
+use Rattle.wm_core.specs.Entries.{bare_step, desk_entry, history_of}
+use Rattle.wm_core.specs.declared.step.Step.{Step}
+use Rattle.wm_core.specs.declared.step.Step.TheVariants as step
+use Rattle.wm_turn.specs.declared.view.Entry.{Entry}
+
+-- the form of a step says the same to the history
+pub says_form : (s : Step) → act_of (bare_step s) ≡ act_of s
+says_form (step.Run p) = refl
+says_form (step.Map props buffer then) = refl
+says_form (step.Close con) = refl
+says_form (step.Retitle con title) = refl
+says_form (step.Urgent con on) = refl
+says_form step.Gone = refl
+says_form (step.OutputAdd plan) = refl
+says_form (step.OutputRemove name) = refl
+says_form (step.Reserve name edges) = refl
+says_form (step.Client s) = refl
+says_form (step.Key chord choices) = refl
+says_form (step.Tick payload) = refl
+
+-- a desk has counted the entries
+pub counts : (desk : DeskValue) (entries : List (Entry Step)) → Stands desk (history_of entries) → desk.steps ≡ length entries
+counts desk entries s = s.counted ∙ length-map entries desk_entry
