@@ -5,6 +5,7 @@ use Rattle.wm_tool.specs.declared.replay.Stop.TheVariants.{NoMemory}
 use Rattle.wm_tool.specs.Drawing.{drawn_from}
 use Rattle.wm_tool.specs.Output.{line_texts}
 use Rattle.wm_tool.proofs.DrawLemmas.{begun, drawn_is, from_opening}
+use Rattle.wm_tool.proofs.EndLemmas.{nothing_taken}
 use Rattle.wm_tool.proofs.RunLemmas.{on_err, stopped_as}
 use Rattle.wm_tool.proofs.drawing.draw.Goals as goal
 
@@ -87,3 +88,10 @@ returns-in_err-play_lines-clause-err g c = stopped_as (g.W.Sink.faults c.args.si
 
 pub returns-in_err-bytes-clause-err : goal.returns-in_err-bytes-clause-err
 returns-in_err-bytes-clause-err g c = stopped_as (g.W.Sink.faults c.args.sink.now) (g.W.Sink.faults c.args.sink.now) NoMemory c.from_residual-in_err-bytes.result tt c.from_residual-in_err-bytes.ensures.1
+
+-- nor was anything written then
+pub returns-in_err-play_lines-clause-part : goal.returns-in_err-play_lines-clause-part
+returns-in_err-play_lines-clause-part g c = on_err c.from_residual-in_err-play_lines.result (nothing_taken (g.W.Sink.taken c.args.sink.now) _)
+
+pub returns-in_err-bytes-clause-part : goal.returns-in_err-bytes-clause-part
+returns-in_err-bytes-clause-part g c = on_err c.from_residual-in_err-bytes.result (nothing_taken (g.W.Sink.taken c.args.sink.now) _)

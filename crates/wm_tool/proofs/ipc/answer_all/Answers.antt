@@ -2,7 +2,7 @@ use Rattle.std.proofs.Common.{ℕ, [], List, refl, subst, sym}
 use Rattle.wm_tool.specs.Ipc.{message_texts, replies_from}
 use Rattle.wm_tool.specs.declared.status.Refused.{Refused}
 use Rattle.wm_tool.specs.Running.{Plays}
-use Rattle.wm_tool.proofs.RunLemmas.{begins, ends_written, on_err}
+use Rattle.wm_tool.proofs.RunLemmas.{begins, ends_written, on_err, stopped_as}
 use Rattle.wm_tool.proofs.ipc.answer_all.Goals as goal
 
 pub returns-in_err-answer_queue-clause-part : goal.returns-in_err-answer_queue-clause-part
@@ -56,3 +56,7 @@ returns-clause-backed g c =
     subst (λ rs. Plays told told c.in_ok-desk.desk rs [] tells whole texts texts count count refused refused) (sym c.requires.none)
     (begins told c.in_ok-desk.desk tells texts count refused c.in_ok-desk.ensures.stands) in
     (c.in_ok-answer_queue.ensures.ok told whole texts count refused begun).backed.backed
+
+-- what stopped the queue stopped all
+pub returns-in_err-answer_queue-clause-err : goal.returns-in_err-answer_queue-clause-err
+returns-in_err-answer_queue-clause-err g c = stopped_as _ _ c.in_err-answer_queue.field-0.0 c.from_residual-in_err-answer_queue.result c.in_err-answer_queue.ensures.err c.from_residual-in_err-answer_queue.ensures.1
