@@ -13,7 +13,7 @@ use Rattle.wm_floats.specs.Scratchpad.{brought, coming_place, first_brought, fir
 use Rattle.wm_floats.specs.Windows.{flag_set, full_set, rect_set, restated, state_of, sticky_set}
 use Rattle.wm_showing.proofs.RiseLemmas.{ids_focusing, ids_same}
 use Rattle.wm_showing.specs.Subject.{is_hidden}
-use Rattle.wm_spaces.specs.Sending.{rect_of}
+use Rattle.wm_showing.specs.Rects.{rect_of}
 use Rattle.wm_tree.proofs.IdLemmas.{ids_edited, ids_moved, ids_raised, ids_refl, ids_trans}
 use Rattle.wm_tree.specs.declared.kind.KindEdit.TheVariants as edits
 use Rattle.wm_tree.specs.declared.part.ConState.{ConState}

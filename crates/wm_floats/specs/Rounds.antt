@@ -13,7 +13,7 @@ use Rattle.wm_showing.specs.Keys.{least, with_key}
 use Rattle.wm_showing.specs.Refusing.{error_if}
 use Rattle.wm_showing.specs.Showing.{focusing}
 use Rattle.wm_showing.specs.Subject.{is_hidden}
-use Rattle.wm_spaces.specs.Sending.{rect_of}
+use Rattle.wm_showing.specs.Rects.{rect_of}
 use Rattle.wm_tree.specs.Forest.{Forest, end, con}
 use Rattle.wm_tree.specs.Look.{same}
 use Rattle.wm_tree.specs.TreeValue.{TreeValue, workspace_of}

@@ -13,7 +13,7 @@ use Rattle.wm_floats.specs.Places.{held_middle}
 use Rattle.wm_floats.specs.Windows.{flag_set, window_refusal}
 use Rattle.wm_showing.specs.Refusing.{full_error}
 use Rattle.wm_showing.specs.Subject.{is_hidden}
-use Rattle.wm_spaces.specs.Sending.{rect_of}
+use Rattle.wm_showing.specs.Rects.{rect_of}
 use Rattle.wm_tree.specs.declared.part.OutputPart.{OutputPart}
 use Rattle.wm_tree.specs.declared.place.Place.{Place}
 use Rattle.wm_tree.specs.declared.place.Place.TheVariants.{Float, Scratchpad}

@@ -11,9 +11,9 @@ ghost use Rattle.wm_tree.specs.Sound.{IsSound};
 ghost use Rattle.wm_tree.specs.TreeValue.{is_tiled_con, workspace_of};
 
 use crate::places::{NOWHERE, held_middle, outer_size};
-use crate::windows::{natural_by, output_part_of, set_flag, window_refusal};
+use crate::windows::{natural_by, set_flag, window_refusal};
 use wm_base::{Border, ConId, Rect, Refusal, Size};
-use wm_showing::refused;
+use wm_showing::{output_part_of, refused};
 use wm_tree::{ConPart, OutputPart, Place, Tree};
 
 /// Puts the container at the place.

@@ -6,9 +6,9 @@ ghost use Rattle.wm_showing.specs.Subject.{IsSubject};
 ghost use Rattle.wm_tree.specs.Sound.{IsSound};
 
 use crate::places::{is_in_range, middle_of};
-use crate::windows::{output_part_of, rect_of, set_rect};
+use crate::windows::set_rect;
 use wm_base::{ConId, ErrorText, Rect, Refusal};
-use wm_showing::{is_hidden, is_space};
+use wm_showing::{is_hidden, is_space, output_part_of, rect_of};
 use wm_tree::{OutputPart, Tree};
 
 /// Why the floating window is not put at this place, in pixels.

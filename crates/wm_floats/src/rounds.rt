@@ -7,9 +7,8 @@ ghost use Rattle.wm_showing.specs.Subject.{IsSubject};
 ghost use Rattle.wm_tree.specs.Sound.{IsSound};
 
 use crate::placing::place_at;
-use crate::windows::rect_of;
 use wm_base::{ConId, Dir, ErrorText, NoMemory, Rect, Refusal};
-use wm_showing::{Key, focus, is_hidden, lesser};
+use wm_showing::{Key, focus, is_hidden, lesser, rect_of};
 use wm_tree::{Cursor, Tree};
 
 /// How many ids there are.

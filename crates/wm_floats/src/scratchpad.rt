@@ -12,9 +12,9 @@ ghost use Rattle.wm_tree.specs.Sound.{IsSound};
 use crate::floating::{floating_rect, go};
 use crate::kinds::{Kind, is_of_space, latest};
 use crate::places::held_middle;
-use crate::windows::{rect_of, set_flag, window_refusal};
+use crate::windows::{set_flag, window_refusal};
 use wm_base::{ConId, ErrorText, Rect, Refusal, Size};
-use wm_showing::is_hidden;
+use wm_showing::{is_hidden, rect_of};
 use wm_tree::{OutputPart, Place, Tree};
 
 /// Puts the window last into the scratchpad, floating and flagged. It loses fullscreen.

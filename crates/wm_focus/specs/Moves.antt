@@ -10,7 +10,8 @@ use Rattle.wm_focus.specs.declared.rungs.Aim.TheVariants.{Beside, Out}
 use Rattle.wm_showing.specs.Outputs.{output_from}
 use Rattle.wm_showing.specs.Refusing.{error_if, full_error}
 use Rattle.wm_showing.specs.Showing.{entered, remembering, shown_on}
-use Rattle.wm_focus.specs.Rungs.{aimed, is_forward, nearest, rung, runs_con}
+use Rattle.wm_focus.specs.Rungs.{aimed, nearest, rung, runs_con}
+use Rattle.wm_showing.specs.Neighbours.{is_forward}
 use Rattle.wm_showing.specs.Subject.{is_hidden, is_space}
 use Rattle.wm_focus.specs.Swaps.{deep_error}
 use Rattle.wm_tree.specs.declared.kind.KindEdit.TheVariants as edits

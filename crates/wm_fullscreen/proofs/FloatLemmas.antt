@@ -12,7 +12,7 @@ use Rattle.wm_floats.specs.Scratchpad.{put_away, to_scratchpad_refusal, to_scrat
 use Rattle.wm_floats.specs.Windows.{flag_set, natural_of, window_refusal}
 use Rattle.wm_fullscreen.proofs.SingleLemmas.{Single, single_moved, single_reset}
 use Rattle.wm_showing.specs.Refusing.{full_error}
-use Rattle.wm_spaces.specs.Sending.{rect_of}
+use Rattle.wm_showing.specs.Rects.{rect_of}
 use Rattle.wm_tree.specs.declared.part.ConState.{ConState}
 use Rattle.wm_tree.specs.declared.place.Place.TheVariants.{Scratchpad}
 use Rattle.wm_tree.specs.Move.{moved, passed_by_move}

@@ -13,7 +13,7 @@ use Rattle.wm_lasting.specs.Flags.{FlagsOnlyWindows, may_be_flagged}
 use Rattle.wm_lasting.specs.Lasting.{Lasts}
 use Rattle.wm_opens.proofs.SureSpaces.{none_of_two}
 use Rattle.wm_showing.specs.Refusing.{full_error}
-use Rattle.wm_spaces.specs.Sending.{rect_of}
+use Rattle.wm_showing.specs.Rects.{rect_of}
 use Rattle.wm_tree.specs.Change.{is_id, without}
 use Rattle.wm_tree.specs.declared.kind.KindEdit.TheVariants as edits
 use Rattle.wm_tree.specs.declared.part.NodeKind.{NodeKind}

@@ -15,7 +15,7 @@ use Rattle.wm_lasting.specs.Changes.{is_plain}
 use Rattle.wm_lasting.specs.Each.{Each, IsLoose}
 use Rattle.wm_lasting.specs.Flags.{may_be_flagged}
 use Rattle.wm_opens.proofs.OpenLemmas.{IsAt, found_at}
-use Rattle.wm_spaces.proofs.SendLemmas.{con_there}
+use Rattle.wm_showing.proofs.KidLemmas.{con_there}
 use Rattle.wm_tree.proofs.ChangeLemmas.{by_change}
 use Rattle.wm_tree.proofs.CountLemmas.{counted, tally-absent}
 use Rattle.wm_tree.specs.Change.{arriving, at, placed, unfull_kind, without}

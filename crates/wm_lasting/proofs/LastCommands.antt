@@ -20,7 +20,7 @@ use Rattle.wm_focus.specs.declared.direction.Goal.TheVariants as goals
 use Rattle.wm_focus.specs.Direction.{focus_dir_tree, focusing_some, goal_of as dir_goal, gone_to}
 use Rattle.wm_focus.specs.Moves.{IsGoal, IsTurn, after_child, beside, entry, held_out, is_split_con, move_dir_refusal, move_dir_tree, near_end, out_refusal, out_tree, over_refusal, over_tree, runs_split, side_of, space_over, step_refusal, step_tree, turned}
 use Rattle.wm_focus.specs.Parents.{raised_some}
-use Rattle.wm_focus.specs.Rungs.{is_forward}
+use Rattle.wm_showing.specs.Neighbours.{is_forward}
 use Rattle.wm_focus.specs.Splits.{gives_layout, laid, laid_as, layout_refusal, split_as}
 use Rattle.wm_focus.specs.Swaps.{beside_refusal, deep_error, exchange_refusal, exchanged_with, is_part, moved_after}
 use Rattle.wm_grammar.specs.declared.arguments.OnOff.{OnOff}

@@ -18,7 +18,7 @@ use Rattle.wm_opens.proofs.SureSpaces.{none_of_two}
 use Rattle.wm_showing.proofs.ShowLemmas.{workspace_is}
 use Rattle.wm_showing.specs.Refusing.{full_error}
 use Rattle.wm_showing.specs.Subject.{IsSubject, is_hidden}
-use Rattle.wm_spaces.specs.Sending.{rect_of}
+use Rattle.wm_showing.specs.Rects.{rect_of}
 use Rattle.wm_tree.proofs.MoveLemmas.{sound-moved}
 use Rattle.wm_tree.specs.declared.part.ConState.{ConState}
 use Rattle.wm_tree.specs.declared.place.Place.{Place}

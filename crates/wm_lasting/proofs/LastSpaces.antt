@@ -16,7 +16,8 @@ use Rattle.wm_showing.specs.Showing.{current_some, entered, focusing, followed, 
 use Rattle.wm_showing.specs.Subject.{is_space}
 use Rattle.wm_spaces.proofs.KeptLemmas.{con_kept}
 use Rattle.wm_spaces.proofs.MoveLemmas.{free_here, freed_by, freed_new_by, held_on, moved_is}
-use Rattle.wm_spaces.proofs.SendLemmas.{con_there, ready}
+use Rattle.wm_spaces.proofs.SendLemmas.{ready}
+use Rattle.wm_showing.proofs.KidLemmas.{con_there}
 use Rattle.wm_spaces.proofs.ShowLemmas.{new_is}
 use Rattle.wm_spaces.proofs.StandLemmas.{home_output}
 use Rattle.wm_spaces.specs.Coming.{free_name}
@@ -24,7 +25,8 @@ use Rattle.wm_spaces.specs.declared.targets.Goal.{Goal}
 use Rattle.wm_spaces.specs.declared.targets.Goal.TheVariants.{There, Absent, Refused}
 use Rattle.wm_spaces.specs.Moving.{IsFree, aside_refusal, going_refusal, other_refusal, other_space, set_aside, showing_other, space_goes}
 use Rattle.wm_spaces.specs.Renaming.{renamed}
-use Rattle.wm_spaces.specs.Sending.{goal_sent, goal_sent_refusal, output_part_of, rect_of, sent, sent_place, sent_refusal, sent_some, sent_some_refusal, shifted}
+use Rattle.wm_spaces.specs.Sending.{goal_sent, goal_sent_refusal, sent, sent_place, sent_refusal, sent_some, sent_some_refusal, shifted}
+use Rattle.wm_showing.specs.Rects.{output_part_of, rect_of}
 use Rattle.wm_spaces.specs.Shows.{goal_refusal, goal_shown, then_shown}
 use Rattle.wm_spaces.specs.Targets.{IsGoal as IsTarget, home}
 use Rattle.wm_tree.proofs.RecencyLemmas.{same_is, same_self}

@@ -22,8 +22,8 @@ use Rattle.wm_opens.proofs.OpenLemmas.{IsAt, found_at}
 use Rattle.wm_opens.proofs.SureSpaces.{none_of_two}
 use Rattle.wm_showing.specs.Refusing.{full_error}
 use Rattle.wm_showing.specs.Subject.{is_container}
-use Rattle.wm_spaces.proofs.SendLemmas.{con_there}
-use Rattle.wm_spaces.specs.Sending.{rect_of}
+use Rattle.wm_showing.proofs.KidLemmas.{con_there}
+use Rattle.wm_showing.specs.Rects.{rect_of}
 use Rattle.wm_tree.proofs.AttachLemmas.{has_row}
 use Rattle.wm_tree.proofs.CountLemmas.{counted, tally-absent}
 use Rattle.wm_tree.proofs.SoundLemmas.{gone-detached}

@@ -20,7 +20,7 @@ use Rattle.wm_lasting.proofs.StowedWords.{stowed_along, stowed_bare, stowed_edit
 use Rattle.wm_lasting.specs.Lasting.{Lasts}
 use Rattle.wm_showing.specs.Subject.{is_space}
 use Rattle.wm_spaces.proofs.ComingLemmas.{heir_output}
-use Rattle.wm_spaces.specs.Sending.{rect_of}
+use Rattle.wm_showing.specs.Rects.{rect_of}
 use Rattle.wm_tree.proofs.PlaceLemmas.{place_fits}
 use Rattle.wm_tree.specs.Change.{is_vacant, settled_row, shown_of, without}
 use Rattle.wm_tree.specs.declared.kind.KindEdit.TheVariants as edits

@@ -3,9 +3,9 @@ use Rattle.std.proofs.Common.{◌≡◌, Bool, true, false, cond, ◌||◌, ◌�
 use Rattle.std.specs.Option.{option_or}
 use Rattle.wm_base.specs.declared.geometry.Dir.{Dir}
 use Rattle.wm_base.specs.declared.ids.ConId.{ConId}
-use Rattle.wm_focus.proofs.BesideLemmas.{first_there, neighbour_two, right}
+use Rattle.wm_showing.proofs.NeighbourLemmas.{first_there, neighbour_two, right}
 use Rattle.wm_showing.proofs.DownLemmas.{Once, in_floats, in_kids, in_rest, once_floats, once_kids, once_only, once_rest}
-use Rattle.wm_focus.proofs.KidLemmas.{holder_in_row, kid_of, spot_tiled, tiled_in}
+use Rattle.wm_showing.proofs.KidLemmas.{holder_in_row, kid_of, spot_tiled, tiled_in}
 use Rattle.wm_laws.proofs.RaiseKeeps.{Stands, raise_differs}
 use Rattle.wm_focus.proofs.RungLemmas.{first_aimed-append, holder_is}
 use Rattle.wm_focus.proofs.SubjectLemmas.{tiled_is}
@@ -16,7 +16,8 @@ use Rattle.wm_focus.specs.declared.direction.Goal.TheVariants.{Node}
 use Rattle.wm_focus.specs.Direction.{first_goal, focus_dir_tree, focusing_some, goal_of, gone_to}
 use Rattle.wm_laws.specs.Focusing.{ChildKeeps, DifferInFocus, DirectionKeeps, ParentKeeps}
 use Rattle.wm_focus.specs.Parents.{raised_some}
-use Rattle.wm_focus.specs.Rungs.{aimed, far_end, first_aimed, first_id, is_forward, last_id, nearest, neighbour, rung, rungs, runs}
+use Rattle.wm_focus.specs.Rungs.{aimed, far_end, first_aimed, nearest, rung, rungs, runs}
+use Rattle.wm_showing.specs.Neighbours.{first_id, is_forward, last_id, neighbour}
 use Rattle.wm_showing.specs.Outputs.{output_from}
 use Rattle.wm_showing.specs.Subject.{is_space}
 use Rattle.wm_focus.specs.declared.rungs.Aim.{Aim}

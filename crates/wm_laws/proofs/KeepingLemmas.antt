@@ -23,7 +23,8 @@ use Rattle.wm_showing.proofs.RiseLemmas.{output_same}
 use Rattle.wm_showing.specs.Showing.{current_some, entered, output_focused, shown_on, space_name}
 use Rattle.wm_spaces.specs.Coming.{left_output, output_gone, output_gone_some, output_removed_tree}
 use Rattle.wm_spaces.specs.Names.{output_named}
-use Rattle.wm_spaces.specs.Sending.{rect_of, send_to_output_tree, sent_place, sent_some}
+use Rattle.wm_spaces.specs.Sending.{send_to_output_tree, sent_place, sent_some}
+use Rattle.wm_showing.specs.Rects.{rect_of}
 use Rattle.wm_focus.specs.Marks.{holder_of}
 use Rattle.wm_focus.specs.Swaps.{exchanged_with, move_to_mark_tree, moved_after, partner, swap_tree}
 

@@ -3,7 +3,7 @@ use Rattle.std.proofs.Common.{◌≡◌, ◌≢◌, ℕ, Bool, true, false, cond
 use Rattle.std.specs.Prelude.{is_some}
 use Rattle.wm_base.specs.declared.ids.ConId.{ConId}
 use Rattle.wm_showing.proofs.DownLemmas.{Once, has_only, in_floats, in_kids, in_rest, once_floats, once_kids, once_rest}
-use Rattle.wm_focus.proofs.KidLemmas.{row_kid, tiled_in}
+use Rattle.wm_showing.proofs.KidLemmas.{row_kid, tiled_in}
 use Rattle.wm_laws.specs.Focusing.{DifferInFocus}
 use Rattle.wm_showing.specs.Subject.{is_space}
 use Rattle.wm_tree.proofs.AttachLemmas.{has_row}

@@ -9,7 +9,8 @@ use Rattle.wm_laws.specs.Sending.{SendsBack, unplaced}
 use Rattle.wm_showing.proofs.ShowLemmas.{space_is}
 use Rattle.wm_showing.specs.Refusing.{full_error}
 use Rattle.wm_showing.specs.Subject.{is_container, is_space}
-use Rattle.wm_spaces.proofs.SendLemmas.{Ready, con_there, ready}
+use Rattle.wm_spaces.proofs.SendLemmas.{Ready, ready}
+use Rattle.wm_showing.proofs.KidLemmas.{con_there}
 use Rattle.wm_spaces.specs.Sending.{sent, sent_place, sent_refusal}
 use Rattle.wm_tree.proofs.CountLemmas.{count-without}
 use Rattle.wm_tree.proofs.LookLemmas.{seen-without}

@@ -4,12 +4,14 @@ use Rattle.std.specs.Prelude.{is_some, option_and_then}
 use Rattle.wm_base.specs.declared.geometry.Dir.{Dir}
 use Rattle.wm_base.specs.declared.geometry.Dir.TheVariants.{Left, Right, Up, Down}
 use Rattle.wm_base.specs.declared.ids.ConId.{ConId}
-use Rattle.wm_focus.proofs.BesideLemmas.{below_two, neighbour_two}
+use Rattle.wm_focus.proofs.BesideLemmas.{below_two}
+use Rattle.wm_showing.proofs.NeighbourLemmas.{neighbour_two}
 use Rattle.wm_showing.proofs.DownLemmas.{Once, has_only, in_floats, in_kids, in_rest, not_below, once_floats, once_kids, once_only, once_rest}
 use Rattle.wm_focus.proofs.GiveLemmas.{container_there}
-use Rattle.wm_focus.proofs.KidLemmas.{child_there, in_tiled, kid_of, kid_there, takes_containers}
+use Rattle.wm_showing.proofs.KidLemmas.{child_there, in_tiled, kid_of, kid_there, takes_containers}
 use Rattle.wm_focus.specs.Moves.{beside, is_split_con, is_split_part, move_dir_tree, neighbour_below, turned}
-use Rattle.wm_focus.specs.Rungs.{after, aimed, before, dir_axis, first_id, neighbour, rung, runs, runs_con, same_axis, axis_of}
+use Rattle.wm_focus.specs.Rungs.{aimed, rung, runs, runs_con}
+use Rattle.wm_showing.specs.Neighbours.{after, before, dir_axis, first_id, neighbour, same_axis, axis_of}
 use Rattle.wm_showing.specs.Subject.{is_container}
 use Rattle.wm_focus.specs.Swaps.{con_named, exchanged_with, swap_tree}
 use Rattle.wm_focus.specs.declared.rungs.Aim.TheVariants.{Beside}

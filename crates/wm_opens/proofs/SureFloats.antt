@@ -21,7 +21,7 @@ use Rattle.wm_opens.proofs.TidyLemmas.{tidy_unfull_but}
 use Rattle.wm_showing.proofs.ShowLemmas.{workspace_is}
 use Rattle.wm_showing.specs.Refusing.{full_error}
 use Rattle.wm_showing.specs.Subject.{IsSubject, is_hidden}
-use Rattle.wm_spaces.specs.Sending.{rect_of}
+use Rattle.wm_showing.specs.Rects.{rect_of}
 use Rattle.wm_tree.proofs.SoundLemmas.{sound-edited}
 use Rattle.wm_tree.specs.declared.kind.KindEdit.TheVariants as edits
 use Rattle.wm_tree.specs.declared.part.ConState.{ConState}

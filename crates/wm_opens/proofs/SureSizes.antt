@@ -34,7 +34,7 @@ use Rattle.wm_sizes.specs.Gaps.{all_gapped, default_gapped, each_gapped, gapped,
 use Rattle.wm_sizes.specs.Resizing.{resize_refusal, resize_tree}
 use Rattle.wm_sizes.specs.Tiled.{cannot, children_of, lacks, length_of, rung_deal, rung_refusal, rung_tree, shares_set, tiled_refusal, tiled_tree}
 use Rattle.wm_sizes.specs.Windows.{border_set}
-use Rattle.wm_spaces.specs.Sending.{rect_of}
+use Rattle.wm_showing.specs.Rects.{rect_of}
 use Rattle.wm_showing.specs.Subject.{is_hidden, is_space}
 use Rattle.wm_tree.proofs.SoundLemmas.{sound-edited}
 use Rattle.wm_tree.specs.declared.kind.KindEdit.{KindEdit}

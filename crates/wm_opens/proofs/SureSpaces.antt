@@ -18,7 +18,8 @@ use Rattle.wm_showing.specs.Showing.{current_some, entered, focusing, followed, 
 use Rattle.wm_showing.specs.Subject.{is_space}
 use Rattle.wm_spaces.proofs.KeptLemmas.{con_kept}
 use Rattle.wm_spaces.proofs.MoveLemmas.{free_here, freed_by, freed_new_by, held_on, moved_is}
-use Rattle.wm_spaces.proofs.SendLemmas.{con_there, ready}
+use Rattle.wm_spaces.proofs.SendLemmas.{ready}
+use Rattle.wm_showing.proofs.KidLemmas.{con_there}
 use Rattle.wm_spaces.proofs.ShowLemmas.{new_is}
 use Rattle.wm_spaces.proofs.StandLemmas.{home_output}
 use Rattle.wm_spaces.specs.Coming.{free_name}

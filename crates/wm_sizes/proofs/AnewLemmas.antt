@@ -2,9 +2,9 @@
 use Rattle.std.proofs.Common.{◌≡◌, ◌≢◌, ℕ, ◌+◌, ◌-◌, ◌≤◌, ◌<◌, Bool, true, false, cond, not, ◌&&◌, ◌||◌, List, [], ◌∷◌, Option, None, Some, refl, ap, sym, ◌∙◌, arith}
 use Rattle.std.specs.Prelude.{◌==◌}
 use Rattle.wm_base.specs.declared.ids.ConId.{ConId}
-use Rattle.wm_focus.proofs.BesideLemmas.{neighbour_two}
-use Rattle.wm_focus.proofs.KidLemmas.{kid_of}
-use Rattle.wm_focus.specs.Rungs.{neighbour}
+use Rattle.wm_showing.proofs.NeighbourLemmas.{neighbour_two}
+use Rattle.wm_showing.proofs.KidLemmas.{kid_of}
+use Rattle.wm_showing.specs.Neighbours.{neighbour}
 use Rattle.wm_grammar.specs.declared.arguments.Side.{Side}
 use Rattle.wm_grammar.specs.declared.arguments.Side.TheVariants.{Width, Height, At}
 use Rattle.wm_showing.proofs.DownLemmas.{Once, not_below, once_kids, once_only, once_rest}

@@ -21,7 +21,7 @@ use Rattle.wm_sizes.specs.Resizing.{resize_tree}
 use Rattle.wm_sizes.specs.Tiled.{children_of, rung_deal, rung_tree, shares_set, tiled_tree}
 use Rattle.wm_sizes.specs.Titles.{title_format_tree}
 use Rattle.wm_sizes.specs.Windows.{border_set}
-use Rattle.wm_spaces.specs.Sending.{rect_of}
+use Rattle.wm_showing.specs.Rects.{rect_of}
 use Rattle.wm_tree.specs.declared.part.ConState.{ConState}
 use Rattle.wm_tree.specs.declared.part.SpacePart.{SpacePart}
 use Rattle.wm_tree.specs.Ids.{IdsRise}

@@ -12,7 +12,7 @@ use Rattle.wm_grammar.specs.declared.arguments.Side.TheVariants.{Width, Height, 
 use Rattle.wm_showing.specs.Refusing.{error_if}
 use Rattle.wm_showing.specs.Subject.{is_hidden, is_space}
 use Rattle.wm_sizes.specs.declared.floating.Frame.{Frame}
-use Rattle.wm_spaces.specs.Sending.{rect_of}
+use Rattle.wm_showing.specs.Rects.{rect_of}
 use Rattle.wm_tree.specs.TreeValue.{TreeValue, is_tiled_con}
 
 -- ---- a size that is given

@@ -6,7 +6,7 @@ use Rattle.wm_base.specs.declared.errors.ErrorText.TheVariants as texts
 use Rattle.wm_base.specs.declared.errors.Refusal.{Refusal}
 use Rattle.wm_base.specs.declared.errors.Refusal.TheVariants.{NoTarget}
 use Rattle.wm_base.specs.declared.ids.ConId.{ConId}
-use Rattle.wm_focus.specs.Rungs.{neighbour}
+use Rattle.wm_showing.specs.Neighbours.{neighbour}
 use Rattle.wm_grammar.specs.declared.arguments.Side.{Side}
 use Rattle.wm_grammar.specs.declared.arguments.Side.TheVariants.{Width, Height, At}
 use Rattle.wm_showing.specs.Refusing.{error_if}

@@ -5,10 +5,10 @@ ghost use Rattle.wm_sizes.specs.Floating.{IsStep, as_rect, fits, grow_refusal, g
 ghost use Rattle.wm_showing.specs.Subject.{IsSubject};
 ghost use Rattle.wm_tree.specs.Sound.{IsSound};
 
-use crate::windows::{put_rect, rect_of};
+use crate::windows::put_rect;
 use wm_base::{ConId, Dir, ErrorText, Rect, Refusal};
 use wm_grammar::Side;
-use wm_showing::{is_hidden, is_space};
+use wm_showing::{is_hidden, is_space, rect_of};
 use wm_tree::Tree;
 
 /// How long a side of a window is at most, in pixels.
