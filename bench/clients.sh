@@ -5,9 +5,9 @@
 # usage: bench/clients.sh [PROGRAM]
 set -eu
 . "$(dirname "$0")/program.sh"
-desk=$here/crates/deskbench/out/deskbench
+desk=$here/crates/bench_desk/out/bench_desk
 if [ ! -x "$desk" ]; then
-    (cd "$here/crates/deskbench" && rt run -- 20 give >/dev/null)
+    (cd "$here/crates/bench_desk" && rt run -- 20 give >/dev/null)
 fi
 
 python3 - "$program" "$folder" "$here/bench" "$desk" <<'PROGRAM'

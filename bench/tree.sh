@@ -4,9 +4,9 @@
 # usage: bench/tree.sh
 set -eu
 here=$(cd "$(dirname "$0")/.." && pwd)
-program=$here/crates/treebench/out/treebench
+program=$here/crates/bench_tree/out/bench_tree
 if [ ! -x "$program" ]; then
-    (cd "$here/crates/treebench" && rt run -- 400 raise >/dev/null)
+    (cd "$here/crates/bench_tree" && rt run -- 400 raise >/dev/null)
 fi
 python3 - "$program" <<'PROGRAM'
 import resource, subprocess, sys

@@ -10,14 +10,14 @@ use Rattle.wm_floats.specs.Floating.{IsGoal}
 use Rattle.wm_floats.specs.Kinds.{is_flagged_state, is_of, is_of_space}
 use Rattle.wm_floats.specs.Scratchpad.{coming_place, first_hidden, middle_on}
 use Rattle.wm_floats.specs.Windows.{natural_in, natural_of, state_of, window_refusal}
-use Rattle.wm_showing.proofs.ShowLemmas.{space_is}
-use Rattle.wm_showing.proofs.SpaceLemmas.{not_within}
-use Rattle.wm_showing.specs.Refusing.{error_if, full_error, refusal_by}
-use Rattle.wm_showing.specs.Subject.{IsSubject, is_hidden, is_space, is_subject_kind}
-use Rattle.wm_showing.proofs.KidLemmas.{con_there}
-use Rattle.wm_showing.proofs.StandingLemmas.{shown_stands, stands_space}
-use Rattle.wm_showing.specs.Rects.{rect_of}
-use Rattle.wm_showing.proofs.SpaceOfLemmas.{IsLow, LowKind, below_space}
+use Rattle.wm_shared.proofs.ShowLemmas.{space_is}
+use Rattle.wm_shared.proofs.SpaceLemmas.{not_within}
+use Rattle.wm_shared.specs.Refusing.{error_if, full_error, refusal_by}
+use Rattle.wm_shared.specs.Subject.{IsSubject, is_hidden, is_space, is_subject_kind}
+use Rattle.wm_shared.proofs.KidLemmas.{con_there}
+use Rattle.wm_shared.proofs.StandingLemmas.{shown_stands, stands_space}
+use Rattle.wm_shared.specs.Rects.{rect_of}
+use Rattle.wm_shared.proofs.SpaceOfLemmas.{IsLow, LowKind, below_space}
 use Rattle.wm_tree.proofs.AlongLemmas.{space_there}
 use Rattle.wm_tree.proofs.AttachLemmas.{has_row}
 use Rattle.wm_tree.proofs.OnceLemmas.{only_floats}

@@ -3,7 +3,7 @@ ghost use Rattle.std.specs.Prelude.{◌≡◌, ◌<◌, min, ◌+◌};
 ghost use Rattle.wm_floats.specs.Places.{border_height, border_width, held_middle, is_in_range, middle_of, outer_size};
 
 use wm_base::{Border, Rect, Size};
-use wm_showing::held;
+use wm_shared::held;
 
 /// The least and the greatest number of a place.
 const LEAST: i64 = -131_072;

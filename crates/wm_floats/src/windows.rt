@@ -4,7 +4,7 @@ ghost use Rattle.wm_floats.specs.Windows.{flag_set, full_set, natural_by, natura
 ghost use Rattle.wm_tree.specs.Sound.{IsSound};
 
 use wm_base::{ConId, ErrorText, Rect, Refusal, Size};
-use wm_showing::{is_hidden, is_space};
+use wm_shared::{is_hidden, is_space};
 use wm_tree::{ConKind, ConState, Tree};
 
 /// The natural size of a window. `None` exactly where it is a split or a placeholder.

@@ -3,7 +3,7 @@ use Rattle.std.proofs.Common.{◌≡◌, ◌≢◌, ℕ, Bool, true, false, cond
 use Rattle.std.specs.Option.{option_or}
 use Rattle.wm_base.specs.declared.geometry.Dir.{Dir}
 use Rattle.wm_base.specs.declared.ids.ConId.{ConId}
-use Rattle.wm_showing.proofs.DownLemmas.{Once, down_floats, down_kids, down_rest, in_floats, in_kids, in_rest, once_floats, once_kids, once_rest}
+use Rattle.wm_shared.proofs.DownLemmas.{Once, down_floats, down_kids, down_rest, in_floats, in_kids, in_rest, once_floats, once_kids, once_rest}
 use Rattle.wm_focus.proofs.RungLemmas.{first_aimed-append, holder_is}
 use Rattle.wm_focus.specs.declared.rungs.Aim.TheVariants.{Out}
 use Rattle.wm_focus.specs.Rungs.{first_aimed, nearest, rung, rungs, runs}
@@ -20,7 +20,7 @@ use Rattle.wm_tree.specs.Place.{IsTiled, is_tiled}
 use Rattle.wm_tree.specs.Sound.{IsNode, IsSoundRow, Level, below, containers, outputs, roots, spaces}
 use Rattle.wm_tree.specs.Spot.{room_below, spot_below, spot_in, spot_of, top}
 use Rattle.wm_tree.specs.TreeValue.{or_id, row_holder, tiled_by, tiled_kids}
-use Rattle.wm_showing.proofs.KidLemmas.{IsKid, child_kid, holder_holds, kid_floats, kid_kids, kid_rest, kid_there}
+use Rattle.wm_shared.proofs.KidLemmas.{IsKid, child_kid, holder_holds, kid_floats, kid_kids, kid_rest, kid_there}
 
 runs_tiled : (d : Dir) (kind : NodeKind) (kids : Forest) → runs d kind ≡ true → tiled_by kind kids ≡ kids
 runs_tiled d (Root c) kids h = cc

@@ -4,13 +4,13 @@ use Rattle.std.specs.Option.{option_or}
 use Rattle.std.specs.Prelude.{option_and_then}
 use Rattle.wm_base.specs.declared.geometry.Dir.{Dir}
 use Rattle.wm_base.specs.declared.ids.ConId.{ConId}
-use Rattle.wm_showing.proofs.DownLemmas.{Once, down_kids, down_rest, has_only, none, not_below, once_only, once_rest, only_below}
-use Rattle.wm_showing.proofs.KidLemmas.{child_there}
-use Rattle.wm_showing.proofs.NeighbourLemmas.{AreTwo, neighbour_two, right}
+use Rattle.wm_shared.proofs.DownLemmas.{Once, down_kids, down_rest, has_only, none, not_below, once_only, once_rest, only_below}
+use Rattle.wm_shared.proofs.KidLemmas.{child_there}
+use Rattle.wm_shared.proofs.NeighbourLemmas.{AreTwo, neighbour_two, right}
 use Rattle.wm_focus.specs.declared.rungs.Aim.TheVariants.{Beside}
 use Rattle.wm_focus.specs.Moves.{beside, neighbour_below}
 use Rattle.wm_focus.specs.Rungs.{aimed, rung, runs}
-use Rattle.wm_showing.specs.Neighbours.{after, before, first_id, is_forward, neighbour}
+use Rattle.wm_shared.specs.Neighbours.{after, before, first_id, is_forward, neighbour}
 use Rattle.wm_focus.specs.Walks.{neighbour_at}
 use Rattle.wm_tree.proofs.AttachLemmas.{has_row}
 use Rattle.wm_tree.proofs.CountLemmas.{counted}

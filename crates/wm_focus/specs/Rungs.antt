@@ -9,7 +9,7 @@ use Rattle.wm_tree.specs.declared.part.ConKind.{ConKind}
 use Rattle.wm_tree.specs.declared.part.ConKind.TheVariants.{Split, Window, Placeholder}
 use Rattle.wm_tree.specs.declared.part.NodeKind.{NodeKind}
 use Rattle.wm_tree.specs.declared.part.NodeKind.TheVariants.{Root, Output, Space, Con}
-use Rattle.wm_showing.specs.Neighbours.{axis_of, dir_axis, first_id, is_forward, last_id, neighbour, same_axis}
+use Rattle.wm_shared.specs.Neighbours.{axis_of, dir_axis, first_id, is_forward, last_id, neighbour, same_axis}
 use Rattle.wm_tree.specs.Change.{is_end}
 use Rattle.wm_tree.specs.Forest.{Forest, end, con}
 use Rattle.wm_tree.specs.Look.{has, rest_of, same}

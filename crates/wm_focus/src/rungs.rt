@@ -1,11 +1,11 @@
 //! Climbing from a container along the nodes that hold it.
 ghost use Rattle.std.specs.Prelude.{◌≡◌};
 ghost use Rattle.wm_focus.specs.Rungs.{aimed, far_end, nearest, rung, runs, runs_con};
-ghost use Rattle.wm_showing.specs.Neighbours.{after, axis_of, before, dir_axis, first_id, is_forward, last_id, neighbour};
+ghost use Rattle.wm_shared.specs.Neighbours.{after, axis_of, before, dir_axis, first_id, is_forward, last_id, neighbour};
 ghost use Rattle.wm_focus.specs.Walks.{held};
 
 use wm_base::{ConId, Dir};
-use wm_showing::{axis, dir_axis, first_id, is_forward, last_id, neighbour};
+use wm_shared::{axis, dir_axis, first_id, is_forward, last_id, neighbour};
 use wm_tree::{ConKind, Cursor, NodeKind};
 
 /// What is looked for at a node along the axis of a direction: the neighbour on that side of the child that holds a

@@ -5,7 +5,7 @@ ghost use Rattle.wm_sizes.specs.Climbing.{climb, has_two, rung_at, rung_of, runs
 
 use wm_base::{Axis, ConId, Dir};
 use wm_grammar::Side;
-use wm_showing::axis;
+use wm_shared::axis;
 use wm_tree::{ConKind, Cursor, NodeKind, Part, Tree};
 
 /// A node with two or more children along an axis, and which of them is a container or holds it.

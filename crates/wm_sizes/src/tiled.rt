@@ -14,7 +14,7 @@ use crate::deals::{Deal, Sibling, amount};
 use wm_arrange::area_of;
 use wm_base::{Axis, ConId, ErrorText, Rect, Refusal};
 use wm_grammar::Side;
-use wm_showing::neighbour;
+use wm_shared::neighbour;
 use wm_tree::{Cursor, Tree};
 
 /// By how much a container grows or shrinks at a side: by hundredths of its parent where `ppt` is above 0, else by

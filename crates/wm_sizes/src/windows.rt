@@ -5,7 +5,7 @@ ghost use Rattle.wm_sizes.specs.Windows.{border_set, look_refusal};
 ghost use Rattle.wm_tree.specs.Sound.{IsSound};
 
 use wm_base::{Border, ConId, ErrorText, Rect, Refusal, Size};
-use wm_showing::is_space;
+use wm_shared::is_space;
 use wm_tree::{ConKind, ConState, Tree};
 
 /// The natural size of a window. `None` exactly where it is a split or a placeholder.

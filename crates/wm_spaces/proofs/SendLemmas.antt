@@ -1,17 +1,17 @@
 -- The place to which a container is sent is one where it may go.
 use Rattle.std.proofs.Common.{◌≡◌, ◌≢◌, Bool, true, false, cond, ◌||◌, not, inl, inr, List, Option, None, Some, refl, ap, sym, ◌∙◌, subst}
 use Rattle.wm_base.specs.declared.ids.ConId.{ConId}
-use Rattle.wm_showing.proofs.KidLemmas.{con_there}
-use Rattle.wm_showing.proofs.ShowLemmas.{space_is}
-use Rattle.wm_showing.proofs.SpaceLemmas.{IsSpaceIn, not_within}
-use Rattle.wm_showing.specs.Refusing.{full_error, refusal_by}
-use Rattle.wm_showing.specs.Showing.{shown_on}
-use Rattle.wm_showing.specs.Subject.{is_space}
-use Rattle.wm_showing.proofs.SpaceOfLemmas.{IsLow, LowKind, below_space}
+use Rattle.wm_shared.proofs.KidLemmas.{con_there}
+use Rattle.wm_shared.proofs.ShowLemmas.{space_is}
+use Rattle.wm_shared.proofs.SpaceLemmas.{IsSpaceIn, not_within}
+use Rattle.wm_shared.specs.Refusing.{full_error, refusal_by}
+use Rattle.wm_shared.specs.Showing.{shown_on}
+use Rattle.wm_shared.specs.Subject.{is_space}
+use Rattle.wm_shared.proofs.SpaceOfLemmas.{IsLow, LowKind, below_space}
 use Rattle.wm_spaces.proofs.StandLemmas.{shown_stands_on}
-use Rattle.wm_showing.proofs.StandingLemmas.{stands_space}
+use Rattle.wm_shared.proofs.StandingLemmas.{stands_space}
 use Rattle.wm_spaces.specs.Sending.{sent_place, sent_refusal, shifted}
-use Rattle.wm_showing.specs.Rects.{output_part_of, rect_of}
+use Rattle.wm_shared.specs.Rects.{output_part_of, rect_of}
 use Rattle.wm_tree.proofs.AlongLemmas.{space_there}
 use Rattle.wm_tree.proofs.ForestLemmas.{first_held_end, only_absent}
 use Rattle.wm_tree.proofs.LeafLaws.{first_there}

@@ -6,11 +6,11 @@ use Rattle.wm_base.specs.declared.errors.ErrorText.TheVariants as texts
 use Rattle.wm_base.specs.declared.ids.ConId.{ConId}
 use Rattle.wm_grammar.specs.declared.arguments.Target.{Target}
 use Rattle.wm_grammar.specs.declared.arguments.Target.TheVariants as targets
-use Rattle.wm_showing.specs.declared.keys.Key.{Key}
-use Rattle.wm_showing.proofs.StandingLemmas.{either, of_output, shown_stands, stands_has, stands_on, stands_space}
-use Rattle.wm_showing.specs.Keys.{comes_before}
-use Rattle.wm_showing.specs.Showing.{shown_on}
-use Rattle.wm_showing.specs.Subject.{is_space}
+use Rattle.wm_shared.specs.declared.keys.Key.{Key}
+use Rattle.wm_shared.proofs.StandingLemmas.{either, of_output, shown_stands, stands_has, stands_on, stands_space}
+use Rattle.wm_shared.specs.Keys.{comes_before}
+use Rattle.wm_shared.specs.Showing.{shown_on}
+use Rattle.wm_shared.specs.Subject.{is_space}
 use Rattle.wm_spaces.specs.declared.order.Pick.{Pick}
 use Rattle.wm_spaces.specs.declared.order.Pick.TheVariants as picking
 use Rattle.wm_spaces.specs.declared.targets.Goal.{Goal}

@@ -7,10 +7,10 @@ use Rattle.wm_base.specs.declared.errors.Refusal.TheVariants.{NoTarget}
 use Rattle.wm_base.specs.declared.geometry.Rect.{Rect}
 use Rattle.wm_base.specs.declared.ids.ConId.{ConId}
 use Rattle.wm_grammar.specs.declared.arguments.Target.{Target}
-use Rattle.wm_showing.specs.Rects.{held, output_part_of, rect_of}
-use Rattle.wm_showing.specs.Refusing.{error_if, full_error}
-use Rattle.wm_showing.specs.Showing.{shown_on}
-use Rattle.wm_showing.specs.Subject.{is_hidden, is_space}
+use Rattle.wm_shared.specs.Rects.{held, output_part_of, rect_of}
+use Rattle.wm_shared.specs.Refusing.{error_if, full_error}
+use Rattle.wm_shared.specs.Showing.{shown_on}
+use Rattle.wm_shared.specs.Subject.{is_hidden, is_space}
 use Rattle.wm_spaces.specs.declared.targets.Goal.{Goal}
 use Rattle.wm_spaces.specs.declared.targets.Goal.TheVariants.{There, Absent, Refused}
 use Rattle.wm_spaces.specs.Targets.{goal_of, home}

@@ -1,11 +1,11 @@
 //! Sending containers to other workspaces.
 ghost use Rattle.std.specs.Prelude.{◌≡◌, ◌≢◌, ◌+ℤ◌, ◌-ℤ◌, None, Some, true, OnOk, OnErr, IfErr};
 ghost use Rattle.std.specs.Option.{option_copied};
-ghost use Rattle.wm_showing.specs.Refusing.{IsCause};
-ghost use Rattle.wm_showing.specs.Showing.{shown_on};
-ghost use Rattle.wm_showing.specs.Subject.{IsSubject, is_space};
+ghost use Rattle.wm_shared.specs.Refusing.{IsCause};
+ghost use Rattle.wm_shared.specs.Showing.{shown_on};
+ghost use Rattle.wm_shared.specs.Subject.{IsSubject, is_space};
 ghost use Rattle.wm_spaces.specs.Sending.{send_to_output_refusal, send_to_output_tree, send_to_refusal, send_to_tree, sent, sent_new, sent_new_refusal, sent_place, sent_refusal, shifted};
-ghost use Rattle.wm_showing.specs.Rects.{held, output_part_of, rect_of};
+ghost use Rattle.wm_shared.specs.Rects.{held, output_part_of, rect_of};
 ghost use Rattle.wm_tree.specs.Look.{con_kind, kind_of};
 ghost use Rattle.wm_tree.specs.Move.{apart};
 ghost use Rattle.wm_tree.specs.Outputs.{IsOutput};
@@ -14,7 +14,7 @@ ghost use Rattle.wm_tree.specs.Sound.{IsSound};
 use crate::targets::{Goal, find_goal, home};
 use wm_base::{ConId, ErrorText, Rect, Refusal, Text};
 use wm_grammar::Target;
-use wm_showing::{held, is_hidden, is_space, output_part_of, rect_of, refused, shown_on};
+use wm_shared::{held, is_hidden, is_space, output_part_of, rect_of, refused, shown_on};
 use wm_tree::{OutputPart, Place, Tree};
 
 /// How far it is from one number to another.
