@@ -1,14 +1,12 @@
-//! The program bench_desk: answers of clients on a desk with 20, 200 or 4,000 open windows, and what each took.
-#![tactic(auto)]
-
+//! Answers of clients on a desk with 20, 200 or 4,000 open windows, and what each took.
 ghost use Rattle.std.specs.Prelude.{◌<◌, ◌^◌, IfOk};
 ghost use Rattle.wm_core.specs.Sizes.{IsFitStep};
 
-use std::alloc::{AllocError, AllocFailed, Global};
-use std::process::ExitCode;
+use crate::fault::Fault;
+use crate::texts::props;
+use std::alloc::Global;
 use std::time::{CpuClock, Duration};
-use std::{env, io};
-use wm_base::{Buffer, ConId, Ink, NoMemory, Props, Size, Text};
+use wm_base::{Buffer, ConId, Ink, NoMemory, Size};
 use wm_core::{Answer, ClientStep, Desk, Step};
 use wm_criteria::prepare_bare;
 use wm_layouts::Plan;
@@ -34,37 +32,6 @@ const AMBER: Buffer = Buffer {
     size: Size { w: 64, h: 48 },
 };
 
-/// Why the program did not end well.
-#[derive(Debug, Drop)]
-enum Fault {
-    BadWords,
-    Refused,
-}
-
-impl From<NoMemory> for Fault {
-    fn from(_none: NoMemory) -> Fault {
-        Fault::Refused
-    }
-}
-
-impl From<AllocError> for Fault {
-    fn from(_none: AllocError) -> Fault {
-        Fault::Refused
-    }
-}
-
-impl<T: Drop> From<AllocFailed<T>> for Fault {
-    fn from(_none: AllocFailed<T>) -> Fault {
-        Fault::Refused
-    }
-}
-
-impl From<io::Error> for Fault {
-    fn from(_error: io::Error) -> Fault {
-        Fault::Refused
-    }
-}
-
 /// What clients do again and again.
 #[derive(Clone, Copy)]
 enum Call {
@@ -78,70 +45,78 @@ enum Call {
     TimeOut,
 }
 
-fn main(rt: HostRuntime) -> ExitCode {
-    match bench(&rt) {
-        Ok(()) => ExitCode::from(0),
-        Err(Fault::BadWords) => ExitCode::from(2),
-        Err(Fault::Refused) => ExitCode::from(9),
-    }
-}
-
-fn bench(rt: &HostRuntime) -> Result<(), Fault> {
-    let (windows, call) = words(rt)?;
-    let (mut desk, cons) = opened(rt.alloc(), windows)?;
-    let took = match call {
-        Call::Follow => end_steps(rt, &mut desk, shown(&cons))?,
-        Call::Expire => end_steps(rt, &mut desk, &[])?,
-        _ => answer_all(rt, &mut desk, &cons, call)?.as_nanos() / u128::from(ANSWERS),
+/// Opens so many windows, and writes how many nanoseconds an answer took.
+pub fn bench(rt: &HostRuntime, count: &str, call: &str) -> Result<(), Fault> {
+    let windows = match count {
+        "20" => 20,
+        "200" => 200,
+        "4000" => 4000,
+        _ => return Err(Fault::BadWords),
     };
+    let took = time_on_desk(rt, windows, named(call)?)?;
     println!(rt; "{took}")?;
     Ok(())
 }
 
-/// How many windows, and the call, from the words `200 give` and the like.
-fn words(rt: &HostRuntime) -> Result<(u32, Call), Fault> {
-    let Ok(args) = env::args(rt) else {
-        return Err(Fault::BadWords);
-    };
-    let mut windows = 0;
-    let mut call = Call::Give;
-    for word in args.skip(1) {
-        match word.as_str() {
-            "20" => windows = 20,
-            "200" => windows = 200,
-            "4000" => windows = 4000,
-            "follow" => call = Call::Follow,
-            "expire" => call = Call::Expire,
-            "acknowledge" => call = Call::Acknowledge,
-            "give" => call = Call::Give,
-            "time-out" => call = Call::TimeOut,
-            _ => return Err(Fault::BadWords),
-        }
+fn named(word: &str) -> Result<Call, Fault> {
+    match word {
+        "follow" => Ok(Call::Follow),
+        "expire" => Ok(Call::Expire),
+        "acknowledge" => Ok(Call::Acknowledge),
+        "give" => Ok(Call::Give),
+        "time-out" => Ok(Call::TimeOut),
+        _ => Err(Fault::BadWords),
     }
-    if windows == 0 {
-        return Err(Fault::BadWords);
-    }
-    Ok((windows, call))
 }
 
-/// A desk on which the caller opened so many windows, and their ids.
-fn opened(alloc: Global, windows: u32) -> Result<(Desk, Vec<ConId>), Fault> {
-    let mut desk = Desk::start(alloc, Plan::standard(alloc)?)?;
+fn time_on_desk(rt: &HostRuntime, windows: u32, call: Call) -> Result<u128, Fault> {
+    let mut desk = started(rt.alloc())?;
+    time_answers(rt, &mut desk, windows, call)
+}
+
+fn started(alloc: Global) -> Result<Desk, NoMemory> {
+    Desk::start(alloc, Plan::standard(alloc)?)
+}
+
+fn time_answers(
+    rt: &HostRuntime,
+    desk: &mut Desk,
+    windows: u32,
+    call: Call,
+) -> Result<u128, Fault> {
+    let cons = open_windows(rt.alloc(), desk, windows)?;
+    match call {
+        Call::Follow => end_steps(rt, desk, shown(&cons)),
+        Call::Expire => end_steps(rt, desk, &[]),
+        _ => Ok(answer_all(rt, desk, &cons, call)?.as_nanos() / u128::from(ANSWERS)),
+    }
+}
+
+/// Lets the caller open so many windows, and gives their ids.
+fn open_windows(alloc: Global, desk: &mut Desk, windows: u32) -> Result<Vec<ConId>, Fault> {
     let mut cons = Vec::new(alloc);
     for number in 0..windows {
         if number % CROWD == 0 {
-            show_workspace(alloc, &mut desk, number / CROWD)?;
+            show_workspace(alloc, desk, number / CROWD)?;
         }
-        cons.push(open_window(alloc, &mut desk)?)?;
+        cons.push(open_window(alloc, desk)?)?;
     }
-    Ok((desk, cons))
+    Ok(cons)
 }
 
 fn show_workspace(alloc: Global, desk: &mut Desk, number: u32) -> Result<(), Fault> {
     let mut text = String::new(alloc);
     write!(text, "workspace {number}")?;
-    take(desk, &running(alloc, &text)?)?;
-    Ok(())
+    run(alloc, desk, &text)
+}
+
+/// Takes the step that runs a text.
+fn run(alloc: Global, desk: &mut Desk, text: &str) -> Result<(), Fault> {
+    let step = running(alloc, text)?;
+    match take(desk, &step) {
+        Ok(_) => Ok(()),
+        Err(_) => Err(Fault::Refused),
+    }
 }
 
 /// The step that runs a text.
@@ -166,8 +141,9 @@ fn take(desk: &mut Desk, step: &Step) -> Result<Answer, Fault>
 }
 
 fn open_window(alloc: Global, desk: &mut Desk) -> Result<ConId, Fault> {
-    match take(desk, &window(alloc)?)? {
-        Answer::Mapped(con) => Ok(con),
+    let step = window(alloc)?;
+    match take(desk, &step) {
+        Ok(Answer::Mapped(con)) => Ok(con),
         _ => Err(Fault::Refused),
     }
 }
@@ -176,19 +152,8 @@ fn open_window(alloc: Global, desk: &mut Desk) -> Result<ConId, Fault> {
 fn window(alloc: Global) -> Result<Step, Fault>
     ensures { IfOk result (λ step. IsFitStep step) }
 {
-    let Ok(text) = Text::new(alloc, "w") else {
-        return Err(Fault::Refused);
-    };
-    let props = Props {
-        class: text.clone()?,
-        instance: text.clone()?,
-        role: text.clone()?,
-        kind: text.clone()?,
-        machine: text.clone()?,
-        title: text,
-    };
     Ok(Step::Map {
-        props,
+        props: props(alloc)?,
         buffer: AMBER,
         then: None,
     })
@@ -244,7 +209,7 @@ fn end_steps(rt: &HostRuntime, desk: &mut Desk, shown: &[ConId]) -> Result<u128,
     let mut took = Duration::ZERO;
     for _ in 0..rounds {
         time_out_all(desk)?;
-        take(desk, &running(rt.alloc(), "layout toggle split")?)?;
+        run(rt.alloc(), desk, "layout toggle split")?;
         let waiting = desk.state().waiting.ok_or(Fault::Refused)?;
         let more = timed(rt, desk, shown, waiting.number)?;
         took = took.checked_add(more).ok_or(Fault::Refused)?;
