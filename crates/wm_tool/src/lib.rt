@@ -23,22 +23,3 @@ mod window_lines;
 pub use laws::{bad_line_is_first, script_is_its_lines};
 pub use run::tool;
 pub use status::{Refused, Status};
-
-#[cfg(test)]
-mod client_tests;
-#[cfg(test)]
-mod command_tests;
-#[cfg(test)]
-mod float_tests;
-#[cfg(test)]
-mod ipc_tests;
-#[cfg(test)]
-mod line_tests;
-#[cfg(test)]
-mod output_tests;
-#[cfg(test)]
-mod size_tests;
-#[cfg(test)]
-mod space_tests;
-#[cfg(test)]
-mod tests;
