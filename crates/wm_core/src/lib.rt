@@ -22,8 +22,6 @@ mod screen;
 mod stands;
 mod state;
 mod step;
-#[cfg(test)]
-mod tests;
 mod windows;
 
 pub use asked::Asked;

@@ -12,22 +12,3 @@ mod status;
 
 pub use run::tool;
 pub use status::{Refused, Status};
-
-#[cfg(test)]
-mod client_tests;
-#[cfg(test)]
-mod command_tests;
-#[cfg(test)]
-mod float_tests;
-#[cfg(test)]
-mod ipc_tests;
-#[cfg(test)]
-mod line_tests;
-#[cfg(test)]
-mod output_tests;
-#[cfg(test)]
-mod size_tests;
-#[cfg(test)]
-mod space_tests;
-#[cfg(test)]
-mod tests;
