@@ -1,5 +1,5 @@
-//! The program cases_bytes: frames, replies, texts, rectangles, sources and sinks, pictures, maps and plans, from files of
-//! such cases.
+//! The program cases_bytes: frames, replies, texts, rectangles, sources and sinks, pictures and maps, from files of such
+//! cases.
 #![tactic(auto)]
 
 mod fault;
@@ -9,7 +9,6 @@ mod lists;
 mod maps;
 mod memory;
 mod pictures;
-mod plans;
 mod quads;
 mod rects;
 mod replies;
@@ -71,7 +70,7 @@ fn tell(alloc: Global, line: &str, out: &mut String) -> Result<(), Fault> {
     }
 }
 
-/// The same, of ports, rectangles, pictures, maps and plans.
+/// The same, of rectangles, ports, pictures and maps.
 fn tell_other(alloc: Global, word: &str, rest: &str, out: &mut String) -> Result<(), Fault> {
     match word {
         "inset" => rects::tell_inset(alloc, rest, out),
@@ -85,8 +84,6 @@ fn tell_other(alloc: Global, word: &str, rest: &str, out: &mut String) -> Result
         "frame" => pictures::tell_frame(alloc, rest, out),
         "canvas" => pictures::tell_canvas(alloc, rest, out),
         "map" => maps::tell_map(alloc, rest, out),
-        "plan" => plans::tell_plan(alloc, rest, out),
-        "rect" => plans::tell_fit(alloc, rest, out),
         _ => tell_bad_line(out),
     }
 }

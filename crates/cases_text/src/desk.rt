@@ -97,7 +97,8 @@ fn ended(alloc: Global, class: &str, end: &str) -> Result<Text, Fault> {
     text(alloc, whole.as_str())
 }
 
-fn text(alloc: Global, text: &str) -> Result<Text, Fault> {
+/// A short text.
+pub fn text(alloc: Global, text: &str) -> Result<Text, Fault> {
     match Text::new(alloc, text) {
         Ok(text) => Ok(text),
         Err(_) => Err(Fault::Desk),

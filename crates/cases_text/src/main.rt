@@ -1,4 +1,5 @@
-//! The program cases_text: what texts of commands and criteria read as, print as and match, from files of such cases.
+//! The program cases_text: what texts of commands and criteria read as, print as and match, and which plans are sound, from
+//! files of such cases.
 #![tactic(auto)]
 
 mod desk;
@@ -6,6 +7,7 @@ mod fault;
 mod form;
 mod matched;
 mod patterns;
+mod plans;
 mod prepared;
 mod reads;
 
@@ -52,6 +54,8 @@ fn tell(alloc: Global, line: &str, out: &mut String) -> Result<(), Fault> {
         "plain" => patterns::tell_plain(alloc, rest, out),
         "prepares" => prepared::tell_prepared(alloc, rest, out),
         "prepares_long" => prepared::tell_long(alloc, rest, out),
+        "plan" => plans::tell_plan(alloc, rest, out),
+        "rect" => plans::tell_fit(alloc, rest, out),
         "matches" => matched::tell_matches(alloc, rest, out),
         _ => fault::tell_bad_line(out),
     }

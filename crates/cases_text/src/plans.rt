@@ -1,9 +1,27 @@
 //! Cases of plans: whether their limits hold.
+use crate::desk::text;
 use crate::fault::{Fault, tell_bad_line};
-use crate::words::{number, rect_of, text_of};
 use std::alloc::Global;
-use wm_base::{Border, Edges, List, OutputPlan};
+use wm_base::{Border, Edges, List, OutputPlan, Rect};
 use wm_layouts::{Plan, is_fit_rect};
+
+/// The number of a text, 0 where it is none.
+fn number(text: &str) -> u32 {
+    text.parse::<u32>().unwrap_or(0)
+}
+
+/// The rectangle of a text `X,Y WxH`, if it is one.
+fn rect_of(text: &str) -> Option<Rect> {
+    let (place, size) = text.split_once(" ")?;
+    let (x, y) = place.split_once(",")?;
+    let (w, h) = size.split_once("x")?;
+    Some(Rect {
+        x: x.parse::<i32>().ok()?,
+        y: y.parse::<i32>().ok()?,
+        w: w.parse::<u32>().ok()?,
+        h: h.parse::<u32>().ok()?,
+    })
+}
 
 /// Whether an output may have a rectangle.
 pub fn tell_fit(_alloc: Global, data: &str, out: &mut String) -> Result<(), Fault> {
@@ -66,13 +84,13 @@ fn outputs_of(alloc: Global, data: &str) -> Result<Option<Vec<OutputPlan>>, Faul
     Ok(Some(outputs))
 }
 
-fn output_of(alloc: Global, text: &str) -> Result<Option<OutputPlan>, Fault> {
-    let (name, rest) = text.split_once(" ").unwrap_or((text, ""));
+fn output_of(alloc: Global, data: &str) -> Result<Option<OutputPlan>, Fault> {
+    let (name, rest) = data.split_once(" ").unwrap_or((data, ""));
     let (rect, edges) = rest.split_once(" keeps ").unwrap_or((rest, ""));
     let Some(rect) = rect_of(rect) else {
         return Ok(None);
     };
-    let name = text_of(alloc, name)?;
+    let name = text(alloc, name)?;
     Ok(Some(OutputPlan {
         name,
         rect,
