@@ -27,6 +27,9 @@ pub fn bytes_of(alloc: Global, text: &str) -> Result<Vec<u8>, AllocError> {
     for byte in text.as_bytes() {
         part = take(part, *byte, &mut bytes)?;
     }
+    if matches!(part, Part::Escape) {
+        bytes.push(b'\\')?;
+    }
     Ok(bytes)
 }
 
