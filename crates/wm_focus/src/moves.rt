@@ -10,11 +10,11 @@ ghost use Rattle.wm_tree.specs.Move.{is_too_deep, moved, passed_by_move, share_i
 ghost use Rattle.wm_tree.specs.Sound.{IsSound};
 ghost use Rattle.wm_tree.specs.TreeValue.{is_tiled_con};
 
-use crate::rungs::{Aim, aimed, is_forward, nearest, runs_con};
+use crate::rungs::{Aim, aimed, nearest, runs_con};
 use wm_base::{ConId, Dir, ErrorText, Refusal};
 use wm_floats::shift;
 use wm_shared::{
-    enter, is_hidden, is_space, output_from, refused, remember, shown_on, space_name,
+    enter, is_forward, is_hidden, is_space, output_from, refused, remember, shown_on, space_name,
 };
 use wm_tree::{ConKind, Cursor, Place, Tree};
 

@@ -5,7 +5,7 @@ ghost use Rattle.wm_shared.specs.Neighbours.{after, axis_of, before, dir_axis, f
 ghost use Rattle.wm_focus.specs.Walks.{held};
 
 use wm_base::{ConId, Dir};
-use wm_shared::{axis, dir_axis, first_id, is_forward, last_id, neighbour};
+use wm_shared::{dir_axis, first_id, is_forward, last_id, layout_axis, neighbour};
 use wm_tree::{ConKind, Cursor, NodeKind};
 
 /// What is looked for at a node along the axis of a direction: the neighbour on that side of the child that holds a
@@ -86,7 +86,7 @@ pub(crate) fn runs(d: Dir, kind: &NodeKind) -> bool
 {
     match kind {
         NodeKind::Root { .. } | NodeKind::Output(_) => false,
-        NodeKind::Space(space) => axis(space.layout) == dir_axis(d),
+        NodeKind::Space(space) => layout_axis(space.layout) == dir_axis(d),
         NodeKind::Con(con) => runs_con(d, &con.kind),
     }
 }
@@ -96,7 +96,7 @@ pub(crate) fn runs_con(d: Dir, kind: &ConKind) -> bool
     ensures { result ≡ runs_con d kind.now }
 {
     match kind {
-        ConKind::Split { layout, .. } => axis(*layout) == dir_axis(d),
+        ConKind::Split { layout, .. } => layout_axis(*layout) == dir_axis(d),
         ConKind::Window { .. } | ConKind::Placeholder { .. } => false,
     }
 }

@@ -10,7 +10,7 @@ mod showing;
 mod subject;
 
 pub use keys::{Key, lesser};
-pub use neighbours::{axis, dir_axis, first_id, is_forward, last_id, neighbour};
+pub use neighbours::{dir_axis, first_id, is_forward, last_id, layout_axis, neighbour};
 pub use outputs::{output_from, output_in, output_of};
 pub use rects::{held, output_part_of, rect_of};
 pub use refusing::refused;

@@ -6,7 +6,7 @@ use wm_base::{Axis, ConId, Dir, Layout};
 use wm_tree::Cursor;
 
 /// The axis along which a layout puts its children.
-pub fn axis(layout: Layout) -> Axis
+pub fn layout_axis(layout: Layout) -> Axis
     ensures { result ≡ axis_of layout }
 {
     match layout {

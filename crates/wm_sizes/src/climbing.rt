@@ -5,7 +5,7 @@ ghost use Rattle.wm_sizes.specs.Climbing.{climb, has_two, rung_at, rung_of, runs
 
 use wm_base::{Axis, ConId, Dir};
 use wm_grammar::Side;
-use wm_shared::axis;
+use wm_shared::layout_axis;
 use wm_tree::{ConKind, Cursor, NodeKind, Part, Tree};
 
 /// A node with two or more children along an axis, and which of them is a container or holds it.
@@ -38,7 +38,7 @@ fn runs(axis: Axis, kind: &NodeKind) -> bool
 {
     match kind {
         NodeKind::Root { .. } | NodeKind::Output(_) => false,
-        NodeKind::Space(space) => axis(space.layout) == axis,
+        NodeKind::Space(space) => layout_axis(space.layout) == axis,
         NodeKind::Con(con) => runs_con(axis, &con.kind),
     }
 }
@@ -47,7 +47,7 @@ fn runs_con(axis: Axis, kind: &ConKind) -> bool
     ensures { result ≡ runs_con axis kind.now }
 {
     match kind {
-        ConKind::Split { layout, .. } => axis(*layout) == axis,
+        ConKind::Split { layout, .. } => layout_axis(*layout) == axis,
         ConKind::Window { .. } | ConKind::Placeholder { .. } => false,
     }
 }
