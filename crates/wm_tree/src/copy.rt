@@ -1,12 +1,14 @@
-//! Copies of the tree's nodes. A copied text shares its bytes.
-ghost use Rattle.std.specs.Prelude.{◌≡◌, ◌++◌, ◌∷◌, [], IfOk};
+//! Copies of a tree and of its nodes. A copied text shares its bytes.
+ghost use Rattle.std.specs.Prelude.{◌≡◌, ◌++◌, ◌∷◌, [], IfOk, OnOk};
 ghost use Rattle.wm_tree.specs.Forest.{end, con};
 ghost use Rattle.wm_tree.specs.Row.{row_of};
+ghost use Rattle.wm_tree.specs.TreeValue.{bare, filled};
 
 use crate::part::{ConKind, ConPart, NodeKind, OutputPart, Part, SpacePart, Swallow, SwallowKey};
 use crate::row::{Cell, Row};
+use crate::tree::Tree;
 use std::alloc::{AllocError, Global};
-use wm_base::{List, Props, Text};
+use wm_base::{Border, List, NoMemory, Props, Text};
 
 pub fn copy_props(props: &Props) -> Result<Props, AllocError>
     ensures { IfOk result (λ copy. copy ≡ props.now) }
@@ -159,5 +161,55 @@ impl Row {
         copy.set_floats(cell.floats.copy(alloc)?);
         copy.set_rest(cell.rest.copy(alloc)?);
         Ok(Row { first: Some(copy) })
+    }
+}
+
+impl Tree {
+    /// An equal tree.
+    pub fn copy(&self) -> Result<Tree, NoMemory>
+        ensures { IfOk result (λ tree. tree ≡ self.now) }
+    {
+        let (alloc, next_id) = (self.alloc, self.next_id);
+        let mut copy = Tree::bare(alloc, next_id, self.border, self.inner, self.outer)?;
+        copy.copy_from(self)?;
+        Ok(copy)
+    }
+
+    /// Gives this tree the nodes of another, and what is said of them.
+    fn copy_from(&mut self, from: &Tree) -> Result<(), NoMemory>
+        ensures { OnOk result (self.new ≡ filled from.now self.old) }
+    {
+        self.previous = match &from.previous {
+            None => None,
+            Some(name) => Some(name.clone()?),
+        };
+        self.recency = Vec::from_slice(self.alloc, &from.recency)?;
+        self.urgent = Vec::from_slice(self.alloc, &from.urgent)?;
+        self.nodes = from.nodes.copy(self.alloc)?;
+        Ok(())
+    }
+
+    /// A tree with no node yet.
+    pub(crate) fn bare(
+        alloc: Global,
+        next_id: u32,
+        border: Border,
+        inner: u32,
+        outer: u32,
+    ) -> Result<Tree, NoMemory>
+        ensures { IfOk result (λ tree. tree ≡ bare next_id border inner outer) }
+    {
+        Ok(Tree {
+            alloc,
+            nodes: Row::new(),
+            recency: Vec::new(alloc),
+            urgent: Vec::new(alloc),
+            previous: None,
+            next_id,
+            border,
+            inner,
+            outer,
+            spare: Box::new(alloc, Cell::hole(alloc))?,
+        })
     }
 }

@@ -1,12 +1,12 @@
 //! The tree: its nodes, the order of recency, the urgent windows, the next id, and what new nodes get.
-ghost use Rattle.std.specs.Prelude.{◌≡◌, ◌≤◌, ◌<◌, ◌+◌, ◌*◌, ◌∷◌, [], IfOk, IfSome, MatchOption, OnOk, OnSome, true, length, slice_get};
+ghost use Rattle.std.specs.Prelude.{◌≡◌, ◌≤◌, ◌<◌, ◌+◌, ◌*◌, ◌∷◌, [], IfSome, MatchOption, OnSome, true, length, slice_get};
 ghost use Rattle.std.specs.Option.{option_copied};
 ghost use Rattle.wm_tree.specs.Forest.{Forest, end, con};
 ghost use Rattle.wm_tree.specs.Holding.{is_held};
 ghost use Rattle.wm_tree.specs.Look.{node_in, con_kind, first_floats, first_kids, first_marks, has, kind_of, nth_id, only, output_kind, space_kind};
 ghost use Rattle.wm_tree.specs.Row.{alone, row_of};
 ghost use Rattle.wm_tree.specs.Sound.{IsSound};
-ghost use Rattle.wm_tree.specs.TreeValue.{bare, filled, current, current_of, current_in, floating_row, focused, focused_child, focused_in, floats_by, leaf, parent, shown, shown_space, spot, tiled_by, tiled_kids, workspace_of};
+ghost use Rattle.wm_tree.specs.TreeValue.{current, current_of, current_in, floating_row, focused, focused_child, focused_in, floats_by, leaf, parent, shown, shown_space, spot, tiled_by, tiled_kids, workspace_of};
 
 use crate::cursor::Cursor;
 use crate::part::{ConPart, NodeKind, OutputPart, SpacePart};
@@ -15,7 +15,7 @@ use crate::row::{Cell, Row};
 use crate::spot::{Spot, TOP};
 use std::alloc::Global;
 use std::marker::Model;
-use wm_base::{Border, ConId, NoMemory, Text};
+use wm_base::{Border, ConId, Text};
 
 /// The id of the node that holds the outputs and the scratchpad.
 pub(crate) const ROOT: ConId = ConId(1);
@@ -58,54 +58,6 @@ impl NodeKind {
 }
 
 impl Tree {
-    /// An equal tree.
-    pub fn copy(&self) -> Result<Tree, NoMemory>
-        ensures { IfOk result (λ tree. tree ≡ self.now) }
-    {
-        let (alloc, next_id) = (self.alloc, self.next_id);
-        let mut copy = Tree::bare(alloc, next_id, self.border, self.inner, self.outer)?;
-        copy.copy_from(self)?;
-        Ok(copy)
-    }
-
-    /// Gives this tree the nodes of another, and what is said of them.
-    fn copy_from(&mut self, from: &Tree) -> Result<(), NoMemory>
-        ensures { OnOk result (self.new ≡ filled from.now self.old) }
-    {
-        self.previous = match &from.previous {
-            None => None,
-            Some(name) => Some(name.clone()?),
-        };
-        self.recency = Vec::from_slice(self.alloc, &from.recency)?;
-        self.urgent = Vec::from_slice(self.alloc, &from.urgent)?;
-        self.nodes = from.nodes.copy(self.alloc)?;
-        Ok(())
-    }
-
-    /// A tree with no node yet.
-    pub(crate) fn bare(
-        alloc: Global,
-        next_id: u32,
-        border: Border,
-        inner: u32,
-        outer: u32,
-    ) -> Result<Tree, NoMemory>
-        ensures { IfOk result (λ tree. tree ≡ bare next_id border inner outer) }
-    {
-        Ok(Tree {
-            alloc,
-            nodes: Row::new(),
-            recency: Vec::new(alloc),
-            urgent: Vec::new(alloc),
-            previous: None,
-            next_id,
-            border,
-            inner,
-            outer,
-            spare: Box::new(alloc, Cell::hole(alloc))?,
-        })
-    }
-
     /// The output with this id. `None` exactly where the id names no output.
     pub fn output(&self, con: ConId) -> Option<&OutputPart>
         ensures { option_copied result ≡ kind_of output_kind con self.now.nodes }
