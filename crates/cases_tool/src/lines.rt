@@ -1,6 +1,4 @@
 //! Lines that a run wrote, each as it is, and many of one kind as one.
-ghost use Rattle.std.specs.Prelude.{◌≤◌, length};
-
 use case_data::push_shown;
 use std::alloc::AllocError;
 use std::str;
@@ -18,11 +16,12 @@ pub fn push_lines(out: &mut String, bytes: &[u8]) -> Result<(), AllocError> {
 
 fn push_text(out: &mut String, text: &str) -> Result<(), AllocError> {
     let lines: Vec<&str> = text.lines().collect(*out.allocator())?;
-    let mut rest = lines.as_slice();
-    while let [first, after @ ..] = rest {
-        let more = more_of(first, after);
-        push_run(out, first, &after[..more])?;
-        rest = &after[more..];
+    let mut shown = 0;
+    for at in 0..lines.len() {
+        if at >= shown {
+            let more = push_front(out, &lines[at..])?;
+            shown = at.saturating_add(more);
+        }
     }
     if text.is_empty() || text.ends_with("\n") {
         Ok(())
@@ -31,10 +30,18 @@ fn push_text(out: &mut String, text: &str) -> Result<(), AllocError> {
     }
 }
 
+/// Appends the first of the lines and those that go on like it, and tells how many they are.
+fn push_front(out: &mut String, lines: &[&str]) -> Result<usize, AllocError> {
+    let [first, after @ ..] = lines else {
+        return Ok(0);
+    };
+    let more = more_of(first, after);
+    push_run(out, first, after.get(..more).unwrap_or(after))?;
+    Ok(more.saturating_add(1))
+}
+
 /// How many lines go on like the one before them: equal ones, or those that give the next ids.
-fn more_of(first: &str, after: &[&str]) -> usize
-    ensures { result ≤ length after.now }
-{
+fn more_of(first: &str, after: &[&str]) -> usize {
     let equal = equal_ones(first, after);
     if equal > 0 {
         equal
@@ -44,25 +51,28 @@ fn more_of(first: &str, after: &[&str]) -> usize
 }
 
 /// How many lines are equal to the one before them.
-fn equal_ones(first: &str, after: &[&str]) -> usize
-    ensures { result ≤ length after.now }
-{
-    let mut count = 0;
-    while count < after.len() && after[count] == first {
-        count += 1;
+fn equal_ones(first: &str, after: &[&str]) -> usize {
+    let mut count: usize = 0;
+    for line in after {
+        if *line != first {
+            break;
+        }
+        count = count.saturating_add(1);
     }
     count
 }
 
 /// How many lines are `ok` with an id that is one more than that of the line before.
-fn next_ids(first: &str, after: &[&str]) -> usize
-    ensures { result ≤ length after.now }
-{
+fn next_ids(first: &str, after: &[&str]) -> usize {
     let mut last = id_of(first);
-    let mut count = 0;
-    while count < after.len() && is_next(last, id_of(after[count])) {
-        last = id_of(after[count]);
-        count += 1;
+    let mut count: usize = 0;
+    for line in after {
+        let id = id_of(line);
+        if !is_next(last, id) {
+            break;
+        }
+        last = id;
+        count = count.saturating_add(1);
     }
     count
 }

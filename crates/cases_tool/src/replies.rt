@@ -10,7 +10,10 @@ pub fn push_replies(out: &mut String, bytes: &[u8]) -> Result<(), AllocError> {
         return out.push_str("\n");
     }
     let mut rest = bytes;
-    while let Some((kind, payload, after)) = frame_of(rest) {
+    for _ in 0..bytes.len() {
+        let Some((kind, payload, after)) = frame_of(rest) else {
+            break;
+        };
         push_reply(out, kind, payload)?;
         rest = after;
     }
@@ -26,7 +29,10 @@ fn push_reply(out: &mut String, kind: u32, payload: &[u8]) -> Result<(), AllocEr
 /// Whether the bytes are whole frames.
 fn are_frames(bytes: &[u8]) -> bool {
     let mut rest = bytes;
-    while let Some((_, _, after)) = frame_of(rest) {
+    for _ in 0..bytes.len() {
+        let Some((_, _, after)) = frame_of(rest) else {
+            break;
+        };
         rest = after;
     }
     rest.is_empty()

@@ -1,7 +1,7 @@
 //! Runs of the tool as cases ask for them.
 use crate::case::Case;
 use crate::slow::SlowSource;
-use std::alloc::AllocError;
+use std::alloc::{AllocError, Global};
 use wm_criteria::ListBuild;
 use wm_ports::{MemSink, MemSource, Source};
 use wm_tool::{Status, tool};
@@ -44,11 +44,16 @@ fn run_on<R: Source>(
     source: &mut R,
     write_faults: Vec<u64>,
 ) -> Result<Ran, AllocError> {
+    let mut build = ListBuild::new(vec![in case.alloc; String::from_str(case.alloc, "(")?]?);
     let Ok(mut sink) = MemSink::new(case.alloc, ROOM, write_faults) else {
         return Err(AllocError);
     };
-    let mut build = ListBuild::new(vec![in case.alloc; String::from_str(case.alloc, "(")?]?);
     let status = tool(case.alloc, &case.words, source, &mut sink, &mut build);
-    let written = sink.taken().to_vec(case.alloc)?;
+    ended(case.alloc, status, sink.taken())
+}
+
+/// How a run ended, and a copy of what it wrote.
+fn ended(alloc: Global, status: Status, taken: &[u8]) -> Result<Ran, AllocError> {
+    let written = taken.to_vec(alloc)?;
     Ok(Ran { status, written })
 }

@@ -1,5 +1,4 @@
 //! A source that gives one byte at a time.
-use std::alloc::Global;
 use wm_ports::{Failed, Source};
 
 /// The bytes of a text, of which each reading gives the next one.

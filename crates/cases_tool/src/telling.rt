@@ -22,8 +22,13 @@ fn push_case(out: &mut String, case: &Case) -> Result<(), AllocError> {
     let name = case.name.as_str();
     write!(out, "== {name}\n")?;
     let ran = run(case)?;
+    push_ran(out, case, &ran)
+}
+
+/// Appends how a run ended, and what it wrote.
+fn push_ran(out: &mut String, case: &Case, ran: &Ran) -> Result<(), AllocError> {
     push_status(out, &ran.status)?;
-    push_written(out, case, &ran)
+    push_written(out, case, &ran.written)
 }
 
 /// Appends the number of a status, its text, and the patterns that were refused.
@@ -45,8 +50,7 @@ fn push_status(out: &mut String, status: &Status) -> Result<(), AllocError> {
 }
 
 /// Appends what was written.
-fn push_written(out: &mut String, case: &Case, ran: &Ran) -> Result<(), AllocError> {
-    let written = ran.written.as_slice();
+fn push_written(out: &mut String, case: &Case, written: &[u8]) -> Result<(), AllocError> {
     if !case.write_faults.is_empty() && written.len() > MOST {
         return push_part(out, case, written);
     }
