@@ -6,8 +6,8 @@ use Rattle.wm_base.specs.declared.errors.ErrorText.TheVariants as texts
 use Rattle.wm_base.specs.declared.ids.ConId.{ConId}
 use Rattle.wm_grammar.specs.declared.arguments.Target.{Target}
 use Rattle.wm_grammar.specs.declared.arguments.Target.TheVariants as targets
-use Rattle.wm_showing.specs.declared.keys.Key.{Key}
-use Rattle.wm_showing.specs.Subject.{is_space}
+use Rattle.wm_shared.specs.declared.keys.Key.{Key}
+use Rattle.wm_shared.specs.Subject.{is_space}
 use Rattle.wm_spaces.specs.declared.order.Pick.{Pick}
 use Rattle.wm_spaces.specs.declared.order.Pick.TheVariants as picking
 use Rattle.wm_spaces.specs.declared.targets.Goal.{Goal}
@@ -97,7 +97,7 @@ goal_of targets.NextOnOutput t = There (neighbour true false t)
 goal_of targets.PrevOnOutput t = There (neighbour true true t)
 goal_of targets.BackAndForth t = before t.previous t
 goal_of (targets.Number n) t = numbered n (num n) t
-goal_of (targets.Name n) t = goal_named n t
+goal_of (targets.Named n) t = goal_named n t
 goal_of targets.Current t = There (shown t)
 
 -- a workspace that is there is one
