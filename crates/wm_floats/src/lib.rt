@@ -10,12 +10,6 @@ mod placing;
 mod rounds;
 mod scratchpad;
 mod sticking;
-#[cfg(test)]
-mod tests;
-#[cfg(test)]
-mod tests_floating;
-#[cfg(test)]
-mod tests_rounds;
 mod windows;
 
 pub use floating::{float, sink};

@@ -11,16 +11,6 @@ mod parents;
 mod rungs;
 mod splits;
 mod swaps;
-#[cfg(test)]
-mod tests;
-#[cfg(test)]
-mod tests_directions;
-#[cfg(test)]
-mod tests_marks;
-#[cfg(test)]
-mod tests_moves;
-#[cfg(test)]
-mod tests_swaps;
 mod within;
 
 pub use direction::focus_dir;

@@ -7,10 +7,6 @@ mod deals;
 mod floating;
 mod gaps;
 mod resizing;
-#[cfg(test)]
-mod tests;
-#[cfg(test)]
-mod tests_resizing;
 mod tiled;
 mod titles;
 mod windows;

@@ -10,8 +10,6 @@ mod renaming;
 mod sending;
 mod showing;
 mod targets;
-#[cfg(test)]
-mod tests;
 
 pub use coming::{focus_output, output_added, output_removed};
 pub use moving::move_workspace;

@@ -1,8 +1,0 @@
-use Rattle.wm_tree.specs.Sound.{IsSound}
-use Rattle.wm_floats.proofs.tests_floating.hides_in_the_scratchpad.Given as goal
-
-abbrev pub invariant-loop-con : goal.invariant-loop-con
-invariant-loop-con g l = IsSound l.tree
-
-abbrev pub invariant-loop-con-2 : goal.invariant-loop-con-2
-invariant-loop-con-2 g l = IsSound l.tree

@@ -1,5 +1,0 @@
-use Rattle.wm_tree.specs.Sound.{IsSound}
-use Rattle.wm_focus.proofs.tests_swaps.swaps.Given as goal
-
-abbrev pub invariant-loop-con : goal.invariant-loop-con
-invariant-loop-con g l = IsSound l.tree
