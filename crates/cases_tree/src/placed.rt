@@ -108,7 +108,7 @@ pub fn cut_all(words: &mut Words<'_>, out: &mut String) -> Result<(), Fault> {
     for index in 0..shares.len() {
         push_cut(out, width, &shares, index)?;
     }
-    Ok(out.push('\n')?)
+    Ok(())
 }
 
 fn shares(words: &mut Words<'_>) -> Result<Vec<u32>, Fault> {
@@ -124,10 +124,10 @@ fn shares(words: &mut Words<'_>) -> Result<Vec<u32>, Fault> {
 
 fn push_cut(out: &mut String, width: u32, shares: &[u32], index: usize) -> Result<(), AllocError> {
     if !is_fit(width, shares, index) {
-        return out.push_str(UNKNOWN);
+        return writeln!(out, "{UNKNOWN}");
     }
     let (start, length) = cut(width, shares, index);
-    write!(out, "{start}+{length} ")
+    writeln!(out, "{start}+{length}")
 }
 
 /// Whether a child's cut may be asked for.
