@@ -1,6 +1,6 @@
 //! What the lines of a case act on: a tree, and what was kept of it and of its arrangement.
-ghost use Rattle.std.specs.Prelude.{◌≡◌, ◌≤◌, true, length, IfOk, IsTrue};
-ghost use Rattle.wm_tree.specs.Sound.{FitPlans, IsOutputRect, IsSound};
+ghost use Rattle.std.specs.Prelude.{◌≡◌, true, IfOk};
+ghost use Rattle.wm_tree.specs.Sound.{FitPlans, IsOutputRect};
 ghost use Rattle.cases_tree.specs.Desk.{Holds};
 
 use crate::fault::Fault;
@@ -94,11 +94,10 @@ fn are_fit(plans: &[OutputPlan]) -> bool
 pub fn is_fit(rect: Rect) -> bool
     ensures { result ≡ true → IsOutputRect rect }
 {
-    is_near(rect.x) && is_near(rect.y) && rect.w <= 16_384 && rect.h <= 16_384
-}
-
-fn is_near(place: i32) -> bool
-    ensures { result ≡ true → (negsuc 131071 ≤ℤ place) × (place ≤ℤ pos 131071) }
-{
-    -131_072 <= place && place <= 131_071
+    -131_072 <= rect.x
+        && rect.x <= 131_071
+        && -131_072 <= rect.y
+        && rect.y <= 131_071
+        && rect.w <= 16_384
+        && rect.h <= 16_384
 }

@@ -1,5 +1,5 @@
 //! Arrangements and areas as lines.
-ghost use Rattle.std.specs.Prelude.{◌≡◌, ◌≤◌, true, All, length};
+ghost use Rattle.std.specs.Prelude.{◌≡◌, ◌<◌, ◌≤◌, true, All, length};
 ghost use Rattle.cases_tree.specs.Desk.{Holds};
 
 use crate::desk::Desk;
@@ -131,7 +131,13 @@ fn push_cut(out: &mut String, width: u32, shares: &[u32], index: usize) -> Resul
 }
 
 /// Whether a child's cut may be asked for.
-fn is_fit(width: u32, shares: &[u32], index: usize) -> bool {
+fn is_fit(width: u32, shares: &[u32], index: usize) -> bool
+    ensures index { result ≡ true → index < length shares.now }
+    ensures few { result ≡ true → length shares.now ≤ 256 }
+    ensures some { result ≡ true → All (λ share. 1 ≤ share) shares.now }
+    ensures small { result ≡ true → All (λ share. share ≤ 1048576) shares.now }
+    ensures short { result ≡ true → width ≤ 16384 }
+{
     width <= 16_384
         && index < shares.len()
         && shares.len() <= 256
