@@ -7,6 +7,7 @@ use std::io::{self, ErrorKind};
 use std::process::ExitCode;
 use wm_base::List;
 use wm_criteria::RegexBuild;
+use wm_json::VERSION;
 use wm_ports::{StdSink, StdSource};
 use wm_tool::{Status, tool};
 
@@ -47,11 +48,7 @@ The commands on layouts, focus, moves, marks, workspaces, outputs, floating wind
 and `kill` are done; the others are read, and answered with `not built yet`. Of the messages of i3-ipc RUN_COMMAND and
 GET_VERSION do what they say; the other types up to 12 are answered {\"success\":false}, and those above have no reply.
 
-Exit status: 0 done, 2 bad words, 3 bad script, 4 bad frames, 5 frames cut short, 6 input too large, 7 read fault, 8 write fault, 9 no memory.
-";
-
-/// What `--version` writes.
-const VERSION: &str = "i3replay 0.1.0\n";
+Exit status: 0 done, 2 bad words, 3 bad script, 4 bad frames, 5 frames cut short, 6 input too large, 7 read fault, 8 write fault, 9 no memory.";
 
 fn main(rt: HostRuntime) -> ExitCode {
     let status = match words(&rt) {
@@ -94,9 +91,9 @@ fn answer(rt: &HostRuntime, words: &[String]) -> Status {
     }
 }
 
-/// Writes a text to standard output.
+/// Writes a text and a line feed to standard output.
 fn say(rt: &HostRuntime, text: &str) -> Status {
-    match print!(rt; "{text}") {
+    match println!(rt; "{text}") {
         Ok(()) => Status::Done {
             refused: List::of(Vec::new(rt.alloc())),
         },

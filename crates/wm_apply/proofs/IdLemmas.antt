@@ -19,12 +19,14 @@ use Rattle.wm_floats.specs.declared.kinds.Kind.TheVariants as kinds
 use Rattle.wm_floats.specs.Floating.{float_tree, sink_tree}
 use Rattle.wm_floats.specs.Kinds.{is_of}
 use Rattle.wm_floats.specs.Rounds.{focus_round_tree, shift_tree}
+use Rattle.wm_floats.specs.Scratchpad.{show_scratchpad_tree}
 use Rattle.wm_grammar.specs.declared.arguments.OnOff.{OnOff}
 use Rattle.wm_grammar.specs.declared.batch.Group.{Group}
 use Rattle.wm_grammar.specs.declared.command.Command.{Command}
 use Rattle.wm_grammar.specs.declared.command.Command.TheVariants as commands
 use Rattle.wm_showing.proofs.RiseLemmas.{ids_focusing, ids_same as as_same, output_same, over_same}
-use Rattle.wm_showing.specs.Showing.{output_focused}
+use Rattle.wm_showing.specs.Showing.{focusing, output_focused}
+use Rattle.wm_showing.specs.Subject.{is_hidden}
 use Rattle.wm_apply.specs.FloatRows.{floating_tree, is_on}
 use Rattle.wm_apply.specs.OutputRows.{output_some, to_named_tree, to_output_tree}
 use Rattle.wm_showing.specs.Showing.{shown_on}
@@ -44,7 +46,7 @@ use Rattle.wm_apply.specs.declared.rows.How.{How}
 use Rattle.wm_apply.specs.declared.targets.Targets.{Targets}
 use Rattle.wm_apply.specs.Batches.{Outcome, command_done, commands_done, group_done, groups_done, groups_of, outcome, targets}
 use Rattle.wm_apply.specs.Commands.{Course, course, course_tree, on, refused, whole}
-use Rattle.wm_apply.specs.Rows.{row_refusal, row_tree, matched_subject, whole_refusal, whole_tree}
+use Rattle.wm_apply.specs.Rows.{focus_tree, row_refusal, row_tree, matched_subject, whole_refusal, whole_tree}
 use Rattle.wm_apply.specs.Subjects.{each_tree, is_there, one_tree, unless_refused}
 
 -- ---- the commands
@@ -161,11 +163,18 @@ ids_floating c arg t = by_test (is_on arg (is_of kinds.Floating t c))
     by_test true = ids_floated c (workspace_of t c) t
     by_test false = ids_sunk c (workspace_of t c) t
 
+ids_focus : (c : ConId) (t : TreeValue) → IdsRise t (focus_tree c t)
+ids_focus c t = by_test (is_hidden t c)
+  where
+    by_test : (b : Bool) → IdsRise t (cond b (show_scratchpad_tree (Some c) t) (focusing c t))
+    by_test true = ids_scratchpad (Some c) t
+    by_test false = ids_focusing c t
+
 pub ids_row : (homes : List (List ℕ × List ℕ)) (how : How) (command : Command) (c : ConId) (t : TreeValue) → IdsRise t (row_tree homes how command c t)
 ids_row homes how (commands.Split arg) c t = ids_split c _ t
 ids_row homes how (commands.SetLayout arg) c t = ids_laid c _ t
 ids_row homes how (commands.CycleLayout cycle) c t = ids_laid c _ t
-ids_row homes how commands.Focus c t = ids_focusing c t
+ids_row homes how commands.Focus c t = ids_focus c t
 ids_row homes how (commands.FocusDir d) c t = ids_toward d c t
 ids_row homes how commands.FocusParent c t = ids_raised_some _ t
 ids_row homes how commands.FocusChild c t = ids_raised_some _ t

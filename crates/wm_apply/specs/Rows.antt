@@ -1,6 +1,6 @@
 -- What each command does to one subject, or to the tree as a whole, and why it is refused: a case for each command that is
 -- built.
-use Rattle.std.specs.Prelude.{List, ℕ, Option, None, Some}
+use Rattle.std.specs.Prelude.{if◌then◌else◌, List, ℕ, Option, None, Some}
 use Rattle.wm_base.specs.declared.errors.ErrorText.TheVariants as errors
 use Rattle.wm_base.specs.declared.errors.Refusal.{Refusal}
 use Rattle.wm_base.specs.declared.errors.Refusal.TheVariants.{NoTarget}
@@ -29,14 +29,22 @@ use Rattle.wm_spaces.specs.Renaming.{rename_refusal, rename_tree}
 use Rattle.wm_spaces.specs.Shows.{show_refusal, show_tree}
 use Rattle.wm_tree.specs.TreeValue.{TreeValue}
 use Rattle.wm_showing.specs.Showing.{focusing}
+use Rattle.wm_showing.specs.Subject.{is_hidden}
 use Rattle.wm_apply.specs.declared.rows.How.{How}
 use Rattle.wm_apply.specs.declared.rows.How.TheVariants.{Matched, Handed, Focused}
 
+-- a window of the scratchpad comes as `scratchpad show` brings it, any other subject is focused where it is
+abbrev pub focus_tree : ConId → TreeValue → TreeValue
+focus_tree c t = if is_hidden t c then show_scratchpad_tree (Some c) t else focusing c t
+
+abbrev pub come_refusal : ConId → TreeValue → Option Refusal
+come_refusal c t = if is_hidden t c then show_scratchpad_refusal (Some c) t else None
+
 -- `focus` alone needs a subject: one that criteria match, or one that is handed in
-abbrev pub focus_refusal : How → Option Refusal
-focus_refusal Matched = None
-focus_refusal Handed = None
-focus_refusal Focused = Some (NoTarget errors.NoCriteria)
+abbrev pub focus_refusal : How → ConId → TreeValue → Option Refusal
+focus_refusal Matched c t = come_refusal c t
+focus_refusal Handed c t = come_refusal c t
+focus_refusal Focused c t = Some (NoTarget errors.NoCriteria)
 
 -- `unmark` and `scratchpad show` are for the subject where criteria stand, else for all containers, or for the window whose
 -- turn it is
@@ -62,7 +70,7 @@ abbrev pub row_refusal : List (List ℕ × List ℕ) → How → Command → Con
 row_refusal homes how (commands.Split arg) c t = split_refusal c arg t
 row_refusal homes how (commands.SetLayout arg) c t = set_layout_refusal c arg t
 row_refusal homes how (commands.CycleLayout cycle) c t = cycle_layout_refusal c cycle t
-row_refusal homes how commands.Focus c t = focus_refusal how
+row_refusal homes how commands.Focus c t = focus_refusal how c t
 row_refusal homes how (commands.FocusDir d) c t = focus_dir_refusal c d t
 row_refusal homes how commands.FocusParent c t = focus_parent_refusal c t
 row_refusal homes how commands.FocusChild c t = focus_child_refusal c t
@@ -97,7 +105,7 @@ abbrev pub row_tree : List (List ℕ × List ℕ) → How → Command → ConId 
 row_tree homes how (commands.Split arg) c t = split_tree c arg t
 row_tree homes how (commands.SetLayout arg) c t = set_layout_tree c arg t
 row_tree homes how (commands.CycleLayout cycle) c t = cycle_layout_tree c cycle t
-row_tree homes how commands.Focus c t = focusing c t
+row_tree homes how commands.Focus c t = focus_tree c t
 row_tree homes how (commands.FocusDir d) c t = focus_dir_tree c d t
 row_tree homes how commands.FocusParent c t = focus_parent_tree c t
 row_tree homes how commands.FocusChild c t = focus_child_tree c t

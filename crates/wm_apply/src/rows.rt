@@ -1,8 +1,7 @@
 //! One command on one subject, or on the tree as a whole: a case for each command that is built.
 ghost use Rattle.std.specs.Prelude.{◌≡◌, None, OnOk, OnErr, IfErr};
-ghost use Rattle.wm_apply.specs.Rows.{focus_refusal, row_refusal, row_tree, matched_subject, whole_refusal, whole_tree};
+ghost use Rattle.wm_apply.specs.Rows.{come_refusal, focus_refusal, focus_tree, row_refusal, row_tree, matched_subject, whole_refusal, whole_tree};
 ghost use Rattle.wm_showing.specs.Refusing.{IsCause};
-ghost use Rattle.wm_showing.specs.Showing.{focusing};
 ghost use Rattle.wm_showing.specs.Subject.{IsSubject};
 ghost use Rattle.wm_tree.specs.Sound.{IsSound};
 
@@ -17,6 +16,7 @@ use wm_focus::{
     split, swap, unmark,
 };
 use wm_grammar::Command;
+use wm_showing::is_hidden;
 use wm_sizes::{cycle_border, resize, resize_set, set_border, set_gaps, title_format};
 use wm_spaces::{rename, send_to, show};
 use wm_tree::Tree;
@@ -104,19 +104,34 @@ pub fn run_whole(t: &mut Tree, homes: &[(Text, Text)], command: &Command) -> Res
 
 /// Focuses a container that criteria matched or that was handed in.
 fn focus(t: &mut Tree, how: How, con: ConId) -> Result<(), Refusal>
-    requires { IsSound t.old }
-    ensures tree { OnOk result (t.new ≡ focusing con t.old) }
-    ensures fine { OnOk result (focus_refusal how ≡ None) }
+    requires { IsSubject t.old con }
+    ensures tree { OnOk result (t.new ≡ focus_tree con t.old) }
+    ensures fine { OnOk result (focus_refusal how con t.old ≡ None) }
     ensures err { OnErr result (t.new ≡ t.old) }
-    ensures cause { IfErr result (IsCause (focus_refusal how)) }
+    ensures cause { IfErr result (IsCause (focus_refusal how con t.old)) }
     ensures sound { IsSound t.new }
 {
     match how {
-        How::Matched | How::Handed => match wm_showing::focus(t, con) {
-            Ok(()) => Ok(()),
-            Err(NoMemory) => Err(Refusal::NoMemory),
-        },
+        How::Matched | How::Handed => come(t, con),
         How::Focused => Err(Refusal::NoTarget(ErrorText::NoCriteria)),
+    }
+}
+
+/// Brings a window of the scratchpad, and focuses any other subject where it is.
+fn come(t: &mut Tree, con: ConId) -> Result<(), Refusal>
+    requires { IsSubject t.old con }
+    ensures tree { OnOk result (t.new ≡ focus_tree con t.old) }
+    ensures fine { OnOk result (come_refusal con t.old ≡ None) }
+    ensures err { OnErr result (t.new ≡ t.old) }
+    ensures cause { IfErr result (IsCause (come_refusal con t.old)) }
+    ensures sound { IsSound t.new }
+{
+    if is_hidden(t, con) {
+        return show_scratchpad(t, Some(con));
+    }
+    match wm_showing::focus(t, con) {
+        Ok(()) => Ok(()),
+        Err(NoMemory) => Err(Refusal::NoMemory),
     }
 }
 

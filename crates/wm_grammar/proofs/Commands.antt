@@ -69,7 +69,7 @@ to_workspace_again targets.PrevOnOutput e a end = command_plain (codes "move con
 to_workspace_again targets.BackAndForth e a end = command_plain (codes "move container to workspace back_and_forth") e verbs.Move (commands.MoveToWorkspace targets.BackAndForth) refl end refl refl
 to_workspace_again targets.Current e a end = command_plain (codes "move container to workspace current") e verbs.Move (commands.MoveToWorkspace targets.Current) refl end refl refl
 to_workspace_again (targets.Number n) e a end = quoted_command (codes "move container to workspace number ") verbs.Move (openings.MoveToNumbered) to_numbered_opening n e (commands.MoveToWorkspace (targets.Number n)) a end (λ h. rw h refl)
-to_workspace_again (targets.Name n) e a end = quoted_command (codes "move container to workspace ") verbs.Move (openings.MoveToWorkspace) to_workspace_opening n e (commands.MoveToWorkspace (targets.Name n)) a end (λ h. rw h refl)
+to_workspace_again (targets.Named n) e a end = quoted_command (codes "move container to workspace ") verbs.Move (openings.MoveToWorkspace) to_workspace_opening n e (commands.MoveToWorkspace (targets.Named n)) a end (λ h. rw h refl)
 
 workspace_again : (t : Target) (e : List ℕ) → IsShown t → ends e ≡ true → command_at (spelled (commands.Workspace t) ++ e) ≡ Some (commands.Workspace t, e)
 unfolding verb_of until from has skip is_word single plain_form focus_form focus_word only_output move_form past_to move_to_form past_one_to move_workspace_form position_form border_form kill_form scratchpad_form spelled made
@@ -79,7 +79,7 @@ workspace_again targets.NextOnOutput e a end = command_plain (codes "workspace n
 workspace_again targets.PrevOnOutput e a end = command_plain (codes "workspace prev_on_output") e verbs.Workspace (commands.Workspace targets.PrevOnOutput) refl end refl refl
 workspace_again targets.BackAndForth e a end = command_plain (codes "workspace back_and_forth") e verbs.Workspace (commands.Workspace targets.BackAndForth) refl end refl refl
 workspace_again (targets.Number n) e a end = quoted_command (codes "workspace number ") verbs.Workspace (openings.WorkspaceNumbered) numbered_opening n e (commands.Workspace (targets.Number n)) a end (λ h. rw h refl)
-workspace_again (targets.Name n) e a end = quoted_command (codes "workspace ") verbs.Workspace (openings.Workspace) workspace_opening n e (commands.Workspace (targets.Name n)) a end (λ h. rw h refl)
+workspace_again (targets.Named n) e a end = quoted_command (codes "workspace ") verbs.Workspace (openings.Workspace) workspace_opening n e (commands.Workspace (targets.Named n)) a end (λ h. rw h refl)
 workspace_again targets.Current e a end = elim a [ ]
 
 -- ---- marks, names

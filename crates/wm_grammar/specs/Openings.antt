@@ -116,7 +116,7 @@ text_at one_word s =
 -- the command of its keywords and its argument
 abbrev pub named : Opening → List ℕ → Option Command
 named openings.FocusOutput n = Some (commands.FocusOutput (outs.Named n))
-named openings.MoveToWorkspace n = Some (commands.MoveToWorkspace (targets.Name n))
+named openings.MoveToWorkspace n = Some (commands.MoveToWorkspace (targets.Named n))
 named openings.MoveToNumbered n = Some (commands.MoveToWorkspace (targets.Number n))
 named openings.MoveToOutput n = Some (commands.MoveToOutput (outs.Named n))
 named openings.MoveWorkspace n = Some (commands.MoveWorkspace (outs.Named n))
@@ -124,7 +124,7 @@ named openings.MoveToMark n = Some (commands.MoveToMark n)
 named openings.SwapMark n = Some (commands.Swap (swaps.Mark n))
 named (openings.Mark add toggle) n = Some (commands.Mark add toggle n)
 named openings.Unmark n = Some (commands.Unmark (Some n))
-named openings.Workspace n = Some (commands.Workspace (targets.Name n))
+named openings.Workspace n = Some (commands.Workspace (targets.Named n))
 named openings.WorkspaceNumbered n = Some (commands.Workspace (targets.Number n))
 named openings.RenameFocused n = Some (commands.Rename None n)
 named openings.RenameNamed n = None

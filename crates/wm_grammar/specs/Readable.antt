@@ -43,13 +43,13 @@ IsOutput o = Unit {0}
 -- a workspace to which containers are moved
 abbrev pub IsSentTo : Target → Type 0
 IsSentTo (targets.Number n) = IsArgument n
-IsSentTo (targets.Name n) = IsArgument n
+IsSentTo (targets.Named n) = IsArgument n
 IsSentTo t = Unit {0}
 
 -- a workspace that is shown: the focused one has no keyword there
 abbrev pub IsShown : Target → Type 0
 IsShown (targets.Number n) = IsArgument n
-IsShown (targets.Name n) = IsArgument n
+IsShown (targets.Named n) = IsArgument n
 IsShown targets.Current = ⊥
 IsShown t = Unit {0}
 

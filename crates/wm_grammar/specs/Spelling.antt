@@ -109,7 +109,7 @@ target_text targets.NextOnOutput = codes "next_on_output"
 target_text targets.PrevOnOutput = codes "prev_on_output"
 target_text targets.BackAndForth = codes "back_and_forth"
 target_text (targets.Number n) = codes "number " ++ quoted n
-target_text (targets.Name n) = quoted n
+target_text (targets.Named n) = quoted n
 target_text targets.Current = codes "current"
 
 abbrev pub swap_text : SwapArg → List ℕ

@@ -72,7 +72,7 @@ pub enum Target {
     PrevOnOutput,
     BackAndForth,
     Number(Text),
-    Name(Text),
+    Named(Text),
     Current,
 }
 

@@ -105,7 +105,7 @@ fn put_target(out: &mut String, keywords: &str, target: &Target) -> Result<(), N
             put(out, keywords)?;
             put_named(out, "number ", name)
         }
-        Target::Name(name) => put_named(out, keywords, name),
+        Target::Named(name) => put_named(out, keywords, name),
         Target::Current => put_two(out, keywords, "current"),
     }
 }

@@ -70,7 +70,7 @@ fn named(opening: Opening, name: Text) -> Option<Command>
 {
     Some(match opening {
         Opening::FocusOutput => Command::FocusOutput(OutArg::Named(name)),
-        Opening::MoveToWorkspace => Command::MoveToWorkspace(Target::Name(name)),
+        Opening::MoveToWorkspace => Command::MoveToWorkspace(Target::Named(name)),
         Opening::MoveToNumbered => Command::MoveToWorkspace(Target::Number(name)),
         Opening::MoveToOutput => Command::MoveToOutput(OutArg::Named(name)),
         Opening::MoveWorkspace => Command::MoveWorkspace(OutArg::Named(name)),
@@ -78,7 +78,7 @@ fn named(opening: Opening, name: Text) -> Option<Command>
         Opening::SwapMark => Command::Swap(SwapArg::Mark(name)),
         Opening::Mark { add, toggle } => Command::Mark { add, toggle, name },
         Opening::Unmark => Command::Unmark(Some(name)),
-        Opening::Workspace => Command::Workspace(Target::Name(name)),
+        Opening::Workspace => Command::Workspace(Target::Named(name)),
         Opening::WorkspaceNumbered => Command::Workspace(Target::Number(name)),
         Opening::RenameFocused => Command::Rename(None, name),
         Opening::RenameNamed => return None,

@@ -9,6 +9,9 @@ use serde_json::{Value, json};
 use std::alloc::{AllocError, Global};
 use wm_base::{NoMemory, Text};
 
+/// The program's name and version.
+pub const VERSION: &str = "i3replay 1.0.0";
+
 /// The object that says whether something was done, `{"success":true}` or `{"success":false}`.
 pub fn success_value(alloc: Global, b: bool) -> Result<Value, NoMemory>
     ensures value { IfOk result (λ v. view v ≡ success_data b) }
@@ -39,7 +42,7 @@ pub fn version_value(alloc: Global) -> Result<Value, NoMemory>
     ensures whole { IfOk result (λ v. has_float (view v) ≡ false) }
 {
     Ok(json!(in alloc; {
-        "human_readable": "i3replay 1.0.0",
+        "human_readable": VERSION,
         "loaded_config_file_name": "",
         "major": 1u64,
         "minor": 0u64,

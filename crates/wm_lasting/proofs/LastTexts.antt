@@ -6,7 +6,7 @@ use Rattle.wm_apply.specs.declared.rows.How.{How}
 use Rattle.wm_apply.specs.declared.rows.How.TheVariants.{Matched, Handed, Focused}
 use Rattle.wm_apply.specs.declared.targets.Targets.{Targets}
 use Rattle.wm_apply.specs.OutputRows.{to_named_refusal}
-use Rattle.wm_apply.specs.Rows.{matched_subject, row_refusal, row_tree, whole_refusal, whole_tree}
+use Rattle.wm_apply.specs.Rows.{focus_refusal, focus_tree, matched_subject, row_refusal, row_tree, whole_refusal, whole_tree}
 use Rattle.wm_apply.specs.Subjects.{each_tree, is_there, one_tree, unless_refused}
 use Rattle.wm_base.specs.declared.errors.ErrorText.TheVariants as texts
 use Rattle.wm_base.specs.declared.errors.Refusal.{Refusal}
@@ -21,7 +21,9 @@ use Rattle.wm_lasting.proofs.LastSizes.{last_border, last_cycled, last_format, l
 use Rattle.wm_lasting.proofs.LastSpaces.{last_focusing, last_goal_sent, last_goal_shown, last_renamed}
 use Rattle.wm_lasting.specs.Lasting.{Lasts}
 use Rattle.wm_opens.proofs.SureCommands.{subject_con, unless}
-use Rattle.wm_opens.proofs.TextLemmas.{sure_row, sure_whole}
+use Rattle.wm_opens.proofs.TextLemmas.{come_fits, sure_row, sure_whole}
+use Rattle.wm_floats.specs.Scratchpad.{show_scratchpad_refusal, show_scratchpad_tree}
+use Rattle.wm_showing.specs.Showing.{focusing}
 use Rattle.wm_showing.specs.Subject.{IsSubject, is_hidden, is_space}
 use Rattle.wm_spaces.proofs.StandLemmas.{goal_by}
 use Rattle.wm_spaces.specs.Outs.{output_at}
@@ -46,12 +48,19 @@ pub record HasLast (P : TreeValue → Type 0) (t : TreeValue) : Type 0 where
 module _ {P : TreeValue → Type 0} (k : Lasts P) where
   -- ---- one command on one subject
 
+  last_focus : (how : How) (c : ConId) (t : TreeValue) → IsSubject t c → focus_refusal how c t ≡ None → P t → P (focus_tree c t)
+  last_focus how c t sub h p = by_test (is_hidden t c) (come_fits how c t h)
+    where
+      by_test : (b : Bool) → cond b (show_scratchpad_refusal (Some c) t) None ≡ None → P (cond b (show_scratchpad_tree (Some c) t) (focusing c t))
+      by_test true fits = last_scratchpad k (Some c) t (λ x e. subst (IsSubject t) (matched_is Matched c x e) sub) sub.sound fits p
+      by_test false fits = last_focusing k c t sub.sound p
+
   -- a command on a subject, where it is not refused
   pub last_row : (homes : List (List ℕ × List ℕ)) (how : How) (command : Command) (c : ConId) (t : TreeValue) → IsSubject t c → row_refusal homes how command c t ≡ None → P t → P (row_tree homes how command c t)
   last_row homes how (commands.Split arg) c t sub h p = last_split k c _ t sub.sound h p
   last_row homes how (commands.SetLayout arg) c t sub h p = last_laid k c _ t p
   last_row homes how (commands.CycleLayout cycle) c t sub h p = last_laid k c _ t p
-  last_row homes how commands.Focus c t sub h p = last_focusing k c t sub.sound p
+  last_row homes how commands.Focus c t sub h p = last_focus how c t sub h p
   last_row homes how (commands.FocusDir d) c t sub h p = last_focus_dir k d c t sub.sound p
   last_row homes how commands.FocusParent c t sub h p = last_raised_some k _ t sub.sound p
   last_row homes how commands.FocusChild c t sub h p = last_raised_some k _ t sub.sound p

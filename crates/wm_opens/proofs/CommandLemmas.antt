@@ -6,7 +6,7 @@ use Rattle.wm_apply.specs.declared.rows.How.{How}
 use Rattle.wm_apply.specs.declared.targets.Targets.{Targets}
 use Rattle.wm_apply.specs.FloatRows.{floating_tree, is_on}
 use Rattle.wm_apply.specs.OutputRows.{output_some, to_named_tree, to_output_tree}
-use Rattle.wm_apply.specs.Rows.{matched_subject, row_refusal, row_tree, whole_refusal, whole_tree}
+use Rattle.wm_apply.specs.Rows.{focus_tree, matched_subject, row_refusal, row_tree, whole_refusal, whole_tree}
 use Rattle.wm_apply.specs.Subjects.{each_tree, is_there, one_tree, unless_refused}
 use Rattle.wm_base.specs.declared.errors.Refusal.{Refusal}
 use Rattle.wm_base.specs.declared.geometry.Dir.{Dir}
@@ -35,8 +35,9 @@ use Rattle.wm_opens.proofs.ShowingLemmas.{kept_entered, kept_focusing, kept_outp
 use Rattle.wm_opens.proofs.SizeLemmas.{kept_border, kept_cycled, kept_gaps, kept_rect, kept_resized, kept_round}
 use Rattle.wm_opens.proofs.SpaceLemmas.{kept_goal_sent, kept_goal_shown, kept_renamed, kept_sent_some, kept_space_goes}
 use Rattle.wm_opens.proofs.WordLemmas.{count-bare, count-taken_off}
-use Rattle.wm_showing.specs.Showing.{entered, shown_on}
-use Rattle.wm_showing.specs.Subject.{is_subject_kind}
+use Rattle.wm_floats.specs.Scratchpad.{show_scratchpad_tree}
+use Rattle.wm_showing.specs.Showing.{entered, focusing, shown_on}
+use Rattle.wm_showing.specs.Subject.{is_hidden, is_subject_kind}
 use Rattle.wm_spaces.specs.Outs.{output_at}
 use Rattle.wm_spaces.specs.Renaming.{renamed_space}
 use Rattle.wm_spaces.specs.Sending.{sent_some}
@@ -180,12 +181,19 @@ kept_floating c arg t = step (is_on arg (is_of kinds.Floating t c))
 
 -- ---- the commands
 
+kept_focus : (c : ConId) (t : TreeValue) → Kept t (focus_tree c t)
+kept_focus c t = by_test (is_hidden t c)
+  where
+    by_test : (b : Bool) → Kept t (cond b (show_scratchpad_tree (Some c) t) (focusing c t))
+    by_test true = kept_scratchpad (Some c) t
+    by_test false = kept_focusing c t
+
 -- a command on a subject that is there
 pub kept_row : (homes : List (List ℕ × List ℕ)) (how : How) (command : Command) (c : ConId) (t : TreeValue) → has c t.nodes ≡ true → Kept t (row_tree homes how command c t)
 kept_row homes how (commands.Split arg) c t h = kept_split c _ t
 kept_row homes how (commands.SetLayout arg) c t h = kept_laid c _ t
 kept_row homes how (commands.CycleLayout cycle) c t h = kept_laid c _ t
-kept_row homes how commands.Focus c t h = kept_focusing c t
+kept_row homes how commands.Focus c t h = kept_focus c t
 kept_row homes how (commands.FocusDir d) c t h = kept_dir d c t
 kept_row homes how commands.FocusParent c t h = kept_raised_some _ t
 kept_row homes how commands.FocusChild c t h = kept_raised_some _ t

@@ -7,12 +7,13 @@ use Rattle.wm_apply.specs.declared.rows.How.{How}
 use Rattle.wm_apply.specs.declared.rows.How.TheVariants.{Matched, Handed, Focused}
 use Rattle.wm_apply.specs.declared.targets.Targets.{Targets}
 use Rattle.wm_apply.specs.OutputRows.{to_named_refusal}
-use Rattle.wm_apply.specs.Rows.{matched_subject, row_refusal, row_tree, whole_refusal, whole_tree}
+use Rattle.wm_apply.specs.Rows.{come_refusal, focus_refusal, focus_tree, matched_subject, row_refusal, row_tree, whole_refusal, whole_tree}
 use Rattle.wm_apply.specs.Subjects.{each_tree, is_there, one_tree, unless_refused}
 use Rattle.wm_base.specs.declared.errors.ErrorText.TheVariants as texts
 use Rattle.wm_base.specs.declared.errors.Refusal.{Refusal}
 use Rattle.wm_base.specs.declared.ids.ConId.{ConId}
 use Rattle.wm_criteria.specs.declared.verdict.Verdict.{Verdict}
+use Rattle.wm_floats.specs.Scratchpad.{show_scratchpad_refusal, show_scratchpad_tree}
 use Rattle.wm_focus.proofs.SubjectLemmas.{subject_there}
 use Rattle.wm_focus.specs.Marks.{give_refusal, is_mark, mark_tree}
 use Rattle.wm_grammar.specs.declared.batch.Group.{Group}
@@ -30,6 +31,7 @@ use Rattle.wm_opens.proofs.SureSizes.{sure_border, sure_cycled, sure_format, sur
 use Rattle.wm_opens.proofs.SureSpaces.{sure_focusing, sure_goal_sent, sure_goal_shown, sure_renamed}
 use Rattle.wm_opens.proofs.TidyLemmas.{tidy_settled}
 use Rattle.wm_opens.specs.Opens.{Holds, IsGood, is_owned_of, is_window_of}
+use Rattle.wm_showing.specs.Showing.{focusing}
 use Rattle.wm_showing.specs.Subject.{IsSubject, is_container, is_hidden, is_space}
 use Rattle.wm_spaces.proofs.StandLemmas.{goal_by}
 use Rattle.wm_spaces.specs.Outs.{output_at}
@@ -63,12 +65,24 @@ matched_is Matched c x h = cc
 matched_is Handed c x h = cc
 matched_is Focused c x h = cc
 
+pub come_fits : (how : How) (c : ConId) (t : TreeValue) → focus_refusal how c t ≡ None → come_refusal c t ≡ None
+come_fits Matched c t h = h
+come_fits Handed c t h = h
+come_fits Focused c t h = cc
+
+sure_focus : (how : How) (c : ConId) (t : TreeValue) → IsSubject t c → focus_refusal how c t ≡ None → Sure t (focus_tree c t)
+sure_focus how c t sub h = by_test (is_hidden t c) (come_fits how c t h)
+  where
+    by_test : (b : Bool) → cond b (show_scratchpad_refusal (Some c) t) None ≡ None → Sure t (cond b (show_scratchpad_tree (Some c) t) (focusing c t))
+    by_test true fits = sure_scratchpad (Some c) t (λ x e. subst (IsSubject t) (matched_is Matched c x e) sub) sub.sound fits
+    by_test false fits = sure_focusing c t sub.sound
+
 -- a command on a subject, where it is not refused
 pub sure_row : (homes : List (List ℕ × List ℕ)) (how : How) (command : Command) (c : ConId) (t : TreeValue) → IsSubject t c → row_refusal homes how command c t ≡ None → Sure t (row_tree homes how command c t)
 sure_row homes how (commands.Split arg) c t sub h = sure_split c _ t sub.sound h
 sure_row homes how (commands.SetLayout arg) c t sub h = sure_laid c _ t sub.sound
 sure_row homes how (commands.CycleLayout cycle) c t sub h = sure_laid c _ t sub.sound
-sure_row homes how commands.Focus c t sub h = sure_focusing c t sub.sound
+sure_row homes how commands.Focus c t sub h = sure_focus how c t sub h
 sure_row homes how (commands.FocusDir d) c t sub h = sure_focus_dir d c t sub.sound
 sure_row homes how commands.FocusParent c t sub h = sure_raised_some _ t sub.sound
 sure_row homes how commands.FocusChild c t sub h = sure_raised_some _ t sub.sound

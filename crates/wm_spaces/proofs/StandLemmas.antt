@@ -268,7 +268,7 @@ is_goal targets.NextOnOutput t s = stands_space (neighbour true false t) t s (ne
 is_goal targets.PrevOnOutput t s = stands_space (neighbour true true t) t s (neighbour_stands true true t s)
 is_goal targets.BackAndForth t s = before_goal t.previous t s
 is_goal (targets.Number n) t s = number_goal n (num n) t s
-is_goal (targets.Name n) t s = named_goal n t s
+is_goal (targets.Named n) t s = named_goal n t s
 is_goal targets.Current t s = stands_space (shown t) t s (shown_stands t s)
 
 -- the home of a name is one of the outputs

@@ -97,7 +97,7 @@ goal_of targets.NextOnOutput t = There (neighbour true false t)
 goal_of targets.PrevOnOutput t = There (neighbour true true t)
 goal_of targets.BackAndForth t = before t.previous t
 goal_of (targets.Number n) t = numbered n (num n) t
-goal_of (targets.Name n) t = goal_named n t
+goal_of (targets.Named n) t = goal_named n t
 goal_of targets.Current t = There (shown t)
 
 -- a workspace that is there is one

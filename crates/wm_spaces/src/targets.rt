@@ -167,7 +167,7 @@ fn goal_for(t: &Tree, target: &Target) -> Result<Goal, NoMemory>
         Target::PrevOnOutput => Ok(Goal::There(neighbour(t, true, true))),
         Target::BackAndForth => before(t),
         Target::Number(name) => numbered(t, name),
-        Target::Name(name) => goal_named(t, name),
+        Target::Named(name) => goal_named(t, name),
         Target::Current => Ok(Goal::There(t.shown())),
     }
 }

@@ -86,7 +86,7 @@ fn workspaces_are_shown(rt: HostRuntime) -> Result<(), Fail> {
     let mut tree = opened(alloc)?;
     let homes = [(text(alloc, "x")?, text(alloc, "B")?)];
     assert_eq!(rt;
-        show(&mut tree, &Target::Name(text(alloc, "x")?), &homes),
+        show(&mut tree, &Target::Named(text(alloc, "x")?), &homes),
         Ok(())
     );
     expect_shown(&rt, &tree, 3, 6, Some("1"));
@@ -140,7 +140,7 @@ fn containers_are_sent(rt: HostRuntime) -> Result<(), Fail> {
     assert_eq!(rt; tree.workspace_of(con), Some(ConId(5)));
     assert!(rt; is_subject(&tree, con));
     assert_eq!(rt;
-        send_to(&mut tree, con, &Target::Name(text(alloc, "y")?), &[]),
+        send_to(&mut tree, con, &Target::Named(text(alloc, "y")?), &[]),
         Ok(())
     );
     assert_eq!(rt; tree.workspace_of(con), Some(ConId(7)));

@@ -1,5 +1,5 @@
 -- Places in a forest, and what is put there.
-use Rattle.std.specs.Prelude.{◌≡◌, ◌≢◌, ℕ, Bool, true, false, codes, if◌then◌else◌, [], Option, None, Some, nat_le, nat_lt, ◌&&◌, not}
+use Rattle.std.specs.Prelude.{◌≡◌, ◌≢◌, ℕ, Bool, true, false, codes, if◌then◌else◌, [], List, Option, None, Some, nat_le, nat_lt, ◌&&◌, not}
 use Rattle.wm_base.specs.declared.errors.Limit.{Limit}
 use Rattle.wm_base.specs.declared.errors.Limit.TheVariants.{Containers, Children, Depth, Ids}
 use Rattle.wm_base.specs.declared.geometry.Rect.{Rect}
@@ -113,6 +113,10 @@ new_kind (new.Window props owner natural) = Window props owner natural
 new_kind (new.Placeholder props swallows) = Placeholder props swallows
 new_kind (new.Split layout) = Split layout (last_split_of layout SplitH)
 
+-- the format of a new container's title: the title as it is
+abbrev pub plain_title : List ℕ
+plain_title = codes "%title"
+
 -- a new container: a border, no marks, and nothing of what a state may have
 abbrev pub new_part : ConId → ℕ → Border → Option Rect → NewCon → Part
 new_part c share border rect newcomer = record {
@@ -120,7 +124,7 @@ new_part c share border rect newcomer = record {
   kind = Con (record {
     state = record { border = border; sticky = false; fullscreen = false; flagged = false; rect = rect };
     share = share;
-    title_format = codes "%title";
+    title_format = plain_title;
     kind = new_kind newcomer;
   });
   marks = [];

@@ -71,10 +71,35 @@ ids_from n (plan ∷ plans) = id n ∷ ids_from (n + 1) plans
 abbrev pub root_part : Part
 root_part = record { id = root; kind = Root (id 2); marks = [] }
 
+-- a tree with no node
+abbrev pub bare : ℕ → Border → ℕ → ℕ → TreeValue
+bare next border inner outer = record {
+  nodes = end;
+  recency = [];
+  urgent = [];
+  previous = None;
+  next_id = next;
+  border = border;
+  inner = inner;
+  outer = outer;
+}
+
+-- a tree with the nodes of another, and what that says of them
+abbrev pub filled : TreeValue → TreeValue → TreeValue
+filled from t = record t { nodes = from.nodes; recency = from.recency; urgent = from.urgent; previous = from.previous }
+
+-- the root over the outputs of these plans
+abbrev pub opening_nodes : ℕ → ℕ → List OutputPlan → Forest
+opening_nodes inner outer plans = con root_part (opening_outputs 1 (1 + length plans) inner outer plans) end end
+
+-- a tree with the nodes of its opening
+abbrev pub opened : List OutputPlan → TreeValue → TreeValue
+opened plans t = record t { nodes = opening_nodes t.inner t.outer plans; recency = ids_from (2 + length plans) plans }
+
 -- the opening tree of these outputs: root 1, then an id for each output, then one for each workspace
 abbrev pub opening : List OutputPlan → Border → ℕ → ℕ → TreeValue
 opening plans border inner outer = record {
-  nodes = con root_part (opening_outputs 1 (1 + length plans) inner outer plans) end end;
+  nodes = opening_nodes inner outer plans;
   recency = ids_from (2 + length plans) plans;
   urgent = [];
   previous = None;

@@ -2,7 +2,8 @@
 ghost use Rattle.std.specs.Prelude.{◌≡◌, ◌≢◌, ◌≤◌, false, true, Err, None, IfOk, IfErr, OnOk, OnErr, IfSome, MatchOption};
 ghost use Rattle.wm_tree.specs.Counts.{newcomer_share, row_length};
 ghost use Rattle.wm_tree.specs.Look.{first_part, has, only, same};
-ghost use Rattle.wm_tree.specs.Place.{IsPlace, named, passed_limit, put, room_at, room_by, room_under, row_room, share_at, siblings};
+ghost use Rattle.wm_tree.specs.Forest.{end, con};
+ghost use Rattle.wm_tree.specs.Place.{IsPlace, named, new_part, passed_limit, put, rect_at, room_at, room_by, room_under, row_room, share_at, siblings};
 ghost use Rattle.wm_tree.specs.Sound.{IsSound};
 ghost use Rattle.wm_tree.specs.Spot.{spot_in};
 ghost use Rattle.wm_tree.specs.TreeValue.{id};
@@ -44,15 +45,27 @@ impl Tree {
             IfSome (passed_limit at self.old.nodes self.old.next_id) (λ limit. result ≡ Err (Full limit)) }
         ensures cause { IfErr result (IsAttachCause self.old at) }
     {
-        let share = self.share_at(at)?;
-        self.recency.reserve(1)?;
         let id = ConId(self.next_id);
-        let part = new.part(self.alloc, id, share, self.border, at.rect())?;
-        let row = Row::of(self.alloc, part)?;
+        let row = self.newcomer(at, new)?;
+        self.recency.reserve(1)?;
         self.nodes.put(at, row);
         self.recency.push_reserved(id);
         self.next_id += 1;
         Ok(id)
+    }
+
+    /// A row of the newcomer alone, where its place is there and no limit is passed.
+    fn newcomer(&self, at: Place, new: NewCon) -> Result<Row, TreeRefusal>
+        ensures row { IfOk result (λ row.
+            row ≡ con (new_part (id self.now.next_id) (share_at at self.now.nodes) self.now.border (rect_at at) new) end end end) }
+        ensures ok { OnOk result ((has (named at) self.now.nodes ≡ true) × (passed_limit at self.now.nodes self.now.next_id ≡ None)) }
+        ensures ids { OnOk result (self.now.next_id ≤ 4000000000) }
+        ensures cause { IfErr result (IsAttachCause self.now at) }
+    {
+        let share = self.share_at(at)?;
+        let id = ConId(self.next_id);
+        let cell = new.cell(self.alloc, id, share, self.border, at.rect())?;
+        Ok(Row { first: Some(cell) })
     }
 
     /// The share of a newcomer at this place, where it is there and no limit is passed.

@@ -1,5 +1,7 @@
 //! Copies of the tree's nodes. A copied text shares its bytes.
 ghost use Rattle.std.specs.Prelude.{◌≡◌, ◌++◌, ◌∷◌, [], IfOk};
+ghost use Rattle.wm_tree.specs.Forest.{end, con};
+ghost use Rattle.wm_tree.specs.Row.{row_of};
 
 use crate::part::{ConKind, ConPart, NodeKind, OutputPart, Part, SpacePart, Swallow, SwallowKey};
 use crate::row::{Cell, Row};
@@ -9,14 +11,22 @@ use wm_base::{List, Props, Text};
 pub fn copy_props(props: &Props) -> Result<Props, AllocError>
     ensures { IfOk result (λ copy. copy ≡ props.now) }
 {
+    let (class, instance, role) = copy_three(&props.class, &props.instance, &props.role)?;
+    let (kind, machine, title) = copy_three(&props.kind, &props.machine, &props.title)?;
     Ok(Props {
-        class: props.class.clone()?,
-        instance: props.instance.clone()?,
-        role: props.role.clone()?,
-        kind: props.kind.clone()?,
-        machine: props.machine.clone()?,
-        title: props.title.clone()?,
+        class,
+        instance,
+        role,
+        kind,
+        machine,
+        title,
     })
+}
+
+fn copy_three(a: &Text, b: &Text, c: &Text) -> Result<(Text, Text, Text), AllocError>
+    ensures { IfOk result (λ copy. (copy.0 ≡ a.now) × (copy.1 ≡ b.now) × (copy.2 ≡ c.now)) }
+{
+    Ok((a.clone()?, b.clone()?, c.clone()?))
 }
 
 fn copy_texts(alloc: Global, texts: &[Text]) -> Result<List<Text>, AllocError>
@@ -119,11 +129,20 @@ impl Part {
     fn copy(&self, alloc: Global) -> Result<Part, AllocError>
         ensures { IfOk result (λ copy. copy ≡ self.now) }
     {
+        let marks = copy_texts(alloc, self.marks.items())?;
+        let kind = self.kind.copy(alloc)?;
         Ok(Part {
             id: self.id,
-            kind: self.kind.copy(alloc)?,
-            marks: copy_texts(alloc, self.marks.items())?,
+            kind,
+            marks,
         })
+    }
+
+    /// An equal node with nothing below it and none behind it.
+    fn copied(&self, alloc: Global) -> Result<Box<Cell>, AllocError>
+        ensures { IfOk result (λ cell. row_of cell.value ≡ con self.now end end end) }
+    {
+        Cell::of(alloc, self.copy(alloc)?)
     }
 }
 
@@ -132,17 +151,13 @@ impl Row {
     pub fn copy(&self, alloc: Global) -> Result<Row, AllocError>
         ensures { IfOk result (λ row. row ≡ self.now) }
     {
-        let cell = match &self.first {
-            None => return Ok(Row::new()),
-            Some(cell) => cell,
+        let Some(cell) = &self.first else {
+            return Ok(Row::new());
         };
-        let copy = Cell {
-            part: cell.part.copy(alloc)?,
-            kids: cell.kids.copy(alloc)?,
-            floats: cell.floats.copy(alloc)?,
-            rest: cell.rest.copy(alloc)?,
-        };
-        let copy = Box::new(alloc, copy)?;
+        let mut copy = cell.part.copied(alloc)?;
+        copy.set_kids(cell.kids.copy(alloc)?);
+        copy.set_floats(cell.floats.copy(alloc)?);
+        copy.set_rest(cell.rest.copy(alloc)?);
         Ok(Row { first: Some(copy) })
     }
 }

@@ -122,14 +122,7 @@ impl Tree {
         self.recency.reserve(1)?;
         let id = ConId(self.next_id);
         let new = NewCon::Split { layout };
-        let part = new.part(self.alloc, id, share, self.border, None)?;
-        let cell = Cell {
-            part,
-            kids: Row::new(),
-            floats: Row::new(),
-            rest: Row::new(),
-        };
-        let split = cell.boxed(self.alloc)?;
+        let split = new.cell(self.alloc, id, share, self.border, None)?;
         self.nodes.change(con, Wrap(split));
         self.recency.push_reserved(id);
         self.next_id += 1;

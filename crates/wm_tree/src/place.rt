@@ -1,8 +1,9 @@
 //! Places in the tree, what is put there, and why it is refused.
 ghost use Rattle.std.specs.Prelude.{◌≡◌, false, ◌≤◌, length, IfOk};
 ghost use Rattle.wm_tree.specs.Change.{first_by};
+ghost use Rattle.wm_tree.specs.Forest.{end, con};
 ghost use Rattle.wm_tree.specs.Row.{row_of};
-ghost use Rattle.wm_tree.specs.Place.{before_first, is_before, named, new_part, new_kind, put_word, rect_at, tiles};
+ghost use Rattle.wm_tree.specs.Place.{before_first, is_before, named, new_part, new_kind, plain_title, put_word, rect_at, tiles};
 
 use crate::edit::Edit;
 use crate::kind::last_split;
@@ -108,16 +109,18 @@ impl NewCon {
         }
     }
 
-    /// The container under this id, with this share, border and outer rectangle.
-    pub(crate) fn part(
+    /// The container under this id, with this share, border, outer rectangle and format of its title.
+    fn part(
         self,
         alloc: Global,
         id: ConId,
         share: u32,
         border: Border,
         rect: Option<Rect>,
-    ) -> Result<Part, NoMemory>
-        ensures { IfOk result (λ part. part ≡ new_part id share border rect self) }
+        title_format: Text,
+    ) -> Part
+        requires { title_format ≡ plain_title }
+        ensures { result ≡ new_part id share border rect self }
     {
         let con = ConPart {
             state: ConState {
@@ -128,14 +131,30 @@ impl NewCon {
                 rect,
             },
             share,
-            title_format: short_text(alloc, "%title")?,
+            title_format,
             kind: self.kind(),
         };
-        Ok(Part {
+        Part {
             id,
             kind: NodeKind::Con(con),
             marks: List::of(Vec::new(alloc)),
-        })
+        }
+    }
+
+    /// The container under this id, with this share, border and outer rectangle, with nothing below it.
+    pub(crate) fn cell(
+        self,
+        alloc: Global,
+        id: ConId,
+        share: u32,
+        border: Border,
+        rect: Option<Rect>,
+    ) -> Result<Box<Cell>, NoMemory>
+        ensures { IfOk result (λ cell. row_of cell.value ≡ con (new_part id share border rect self) end end end) }
+    {
+        let title_format = short_text(alloc, "%title")?;
+        let part = self.part(alloc, id, share, border, rect, title_format);
+        Ok(Cell::of(alloc, part)?)
     }
 }
 

@@ -47,11 +47,38 @@ impl Model for Row {
 }
 
 impl Cell {
-    /// The cell on the heap.
-    pub fn boxed(self, alloc: Global) -> Result<Box<Cell>, AllocError>
-        ensures { IfOk result (λ cell. cell.value ≡ self) }
+    /// A node with nothing below it and none behind it, on the heap.
+    pub fn of(alloc: Global, part: Part) -> Result<Box<Cell>, AllocError>
+        ensures { IfOk result (λ cell. row_of cell.value ≡ con part end end end) }
     {
-        Ok(Box::new(alloc, self)?)
+        let cell = Cell {
+            part,
+            kids: Row::new(),
+            floats: Row::new(),
+            rest: Row::new(),
+        };
+        Ok(Box::new(alloc, cell)?)
+    }
+
+    /// Gives the node these children in place of those that it has.
+    pub fn set_kids(&mut self, kids: Row)
+        ensures { self.new ≡ record self.old { kids = kids } }
+    {
+        self.kids = kids;
+    }
+
+    /// Gives the node these floating windows in place of those that it has.
+    pub fn set_floats(&mut self, floats: Row)
+        ensures { self.new ≡ record self.old { floats = floats } }
+    {
+        self.floats = floats;
+    }
+
+    /// Puts this row behind the node in place of the one that is there.
+    pub fn set_rest(&mut self, rest: Row)
+        ensures { self.new ≡ record self.old { rest = rest } }
+    {
+        self.rest = rest;
     }
 
     /// Whether the node is this one, or is below it at any depth.
@@ -73,13 +100,7 @@ impl Row {
     pub fn of(alloc: Global, part: Part) -> Result<Row, AllocError>
         ensures { IfOk result (λ row. row ≡ con part end end end) }
     {
-        let cell = Cell {
-            part,
-            kids: Row::new(),
-            floats: Row::new(),
-            rest: Row::new(),
-        };
-        let cell = Box::new(alloc, cell)?;
+        let cell = Cell::of(alloc, part)?;
         Ok(Row { first: Some(cell) })
     }
 

@@ -1,8 +1,9 @@
 //! The opening tree of a plan's outputs.
-ghost use Rattle.std.specs.Prelude.{◌≡◌, ◌≤◌, ◌<◌, ◌+◌, ◌*◌, ◌∷◌, [], IfOk, length, vec_len};
+ghost use Rattle.std.specs.Prelude.{◌≡◌, ◌≤◌, ◌<◌, ◌+◌, ◌*◌, ◌∷◌, [], IfOk, OnOk, length, vec_len};
 ghost use Rattle.wm_tree.specs.Forest.{end, con};
 ghost use Rattle.wm_tree.specs.Sound.{FitPlans, IsSound};
-ghost use Rattle.wm_tree.specs.TreeValue.{digit, id, ids_from, opening, opening_outputs, output_part, space_part};
+ghost use Rattle.wm_tree.specs.Row.{row_of};
+ghost use Rattle.wm_tree.specs.TreeValue.{digit, id, ids_from, opened, opening, opening_nodes, opening_outputs, output_part, space_part};
 
 use crate::part::{NodeKind, OutputPart, Part, SpacePart};
 use crate::place::short_text;
@@ -27,27 +28,41 @@ impl Tree {
         ensures sound { 1 ≤ length outputs.now → FitPlans outputs.now → IfOk result (λ tree. IsSound tree) }
     {
         let count = outputs.len() as u32;
-        let root = Part {
-            id: ROOT,
-            kind: NodeKind::Root { current: ConId(2) },
-            marks: List::of(Vec::new(alloc)),
-        };
-        let kids = opening_outputs(alloc, 1, 1 + count, inner, outer, outputs)?;
-        let recency = ids_from(alloc, 2 + count, outputs)?;
-        let nodes = row_over(alloc, root, kids)?;
-        Ok(Tree {
-            alloc,
-            nodes,
-            recency,
-            urgent: Vec::new(alloc),
-            previous: None,
-            next_id: 2 + 2 * count,
-            border,
-            inner,
-            outer,
-            spare: Box::new(alloc, Cell::hole(alloc))?,
-        })
+        let mut tree = Tree::bare(alloc, 2 + 2 * count, border, inner, outer)?;
+        tree.open(outputs)?;
+        Ok(tree)
     }
+
+    /// Gives this tree the outputs of these plans.
+    fn open(&mut self, outputs: &[OutputPlan]) -> Result<(), NoMemory>
+        requires { length outputs.now ≤ 8 }
+        ensures { OnOk result (self.new ≡ opened outputs.now self.old) }
+    {
+        let count = outputs.len() as u32;
+        self.recency = ids_from(self.alloc, 2 + count, outputs)?;
+        self.nodes = opening_nodes(self.alloc, self.inner, self.outer, outputs)?;
+        Ok(())
+    }
+}
+
+/// The root over the outputs of these plans.
+fn opening_nodes(
+    alloc: Global,
+    inner: u32,
+    outer: u32,
+    plans: &[OutputPlan],
+) -> Result<Row, NoMemory>
+    requires { length plans.now ≤ 8 }
+    ensures { IfOk result (λ row. row ≡ opening_nodes inner outer plans.now) }
+{
+    let count = plans.len() as u32;
+    let kids = opening_outputs(alloc, 1, 1 + count, inner, outer, plans)?;
+    let root = Part {
+        id: ROOT,
+        kind: NodeKind::Root { current: ConId(2) },
+        marks: List::of(Vec::new(alloc)),
+    };
+    Ok(row_over(alloc, root, kids)?)
 }
 
 /// A row of one node over these children.
@@ -81,17 +96,38 @@ fn opening_outputs(
     let [plan, rest @ ..] = plans else {
         return Ok(Row::new());
     };
-    let behind = opening_outputs(alloc, k + 1, last, inner, outer, rest)?;
     let shown = ConId(last + k);
-    let space = space_part(alloc, shown, k, inner, outer)?;
-    let cell = Cell {
-        part: output_part(alloc, ConId(k + 1), plan, shown)?,
-        kids: Row::of(alloc, space)?,
-        floats: Row::new(),
-        rest: behind,
-    };
-    let cell = Box::new(alloc, cell)?;
+    let output = output_part(alloc, ConId(k + 1), plan, shown)?;
+    let mut cell = opening_output(alloc, output, shown, k, inner, outer)?;
+    cell.rest = opening_outputs(alloc, k + 1, last, inner, outer, rest)?;
     Ok(Row { first: Some(cell) })
+}
+
+/// An output with one empty workspace, which is named by the number k.
+fn opening_output(
+    alloc: Global,
+    output: Part,
+    shown: ConId,
+    k: u32,
+    inner: u32,
+    outer: u32,
+) -> Result<Box<Cell>, NoMemory>
+    requires few { k ≤ 8 }
+    requires some { 1 ≤ k }
+    ensures { IfOk result (λ cell. row_of cell.value ≡ con output (con (space_part shown (digit k) inner outer) end end end) end end) }
+{
+    let mut cell = Cell::of(alloc, output)?;
+    cell.kids = opening_space(alloc, shown, k, inner, outer)?;
+    Ok(cell)
+}
+
+/// A row of one empty workspace named by the number k.
+fn opening_space(alloc: Global, id: ConId, k: u32, inner: u32, outer: u32) -> Result<Row, NoMemory>
+    requires few { k ≤ 8 }
+    requires some { 1 ≤ k }
+    ensures { IfOk result (λ row. row ≡ con (space_part id (digit k) inner outer) end end end) }
+{
+    Ok(Row::of(alloc, space_part(alloc, id, k, inner, outer)?)?)
 }
 
 /// An output of this plan.

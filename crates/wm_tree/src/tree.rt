@@ -1,12 +1,12 @@
 //! The tree: its nodes, the order of recency, the urgent windows, the next id, and what new nodes get.
-ghost use Rattle.std.specs.Prelude.{◌≡◌, ◌≤◌, ◌<◌, ◌+◌, ◌*◌, ◌∷◌, [], IfOk, IfSome, MatchOption, OnSome, true, length, slice_get};
+ghost use Rattle.std.specs.Prelude.{◌≡◌, ◌≤◌, ◌<◌, ◌+◌, ◌*◌, ◌∷◌, [], IfOk, IfSome, MatchOption, OnOk, OnSome, true, length, slice_get};
 ghost use Rattle.std.specs.Option.{option_copied};
 ghost use Rattle.wm_tree.specs.Forest.{Forest, end, con};
 ghost use Rattle.wm_tree.specs.Holding.{is_held};
 ghost use Rattle.wm_tree.specs.Look.{node_in, con_kind, first_floats, first_kids, first_marks, has, kind_of, nth_id, only, output_kind, space_kind};
 ghost use Rattle.wm_tree.specs.Row.{alone, row_of};
 ghost use Rattle.wm_tree.specs.Sound.{IsSound};
-ghost use Rattle.wm_tree.specs.TreeValue.{current, current_of, current_in, floating_row, focused, focused_child, focused_in, floats_by, leaf, parent, shown, shown_space, spot, tiled_by, tiled_kids, workspace_of};
+ghost use Rattle.wm_tree.specs.TreeValue.{bare, filled, current, current_of, current_in, floating_row, focused, focused_child, focused_in, floats_by, leaf, parent, shown, shown_space, spot, tiled_by, tiled_kids, workspace_of};
 
 use crate::cursor::Cursor;
 use crate::part::{ConPart, NodeKind, OutputPart, SpacePart};
@@ -62,21 +62,47 @@ impl Tree {
     pub fn copy(&self) -> Result<Tree, NoMemory>
         ensures { IfOk result (λ tree. tree ≡ self.now) }
     {
-        let previous = match &self.previous {
+        let (alloc, next_id) = (self.alloc, self.next_id);
+        let mut copy = Tree::bare(alloc, next_id, self.border, self.inner, self.outer)?;
+        copy.copy_from(self)?;
+        Ok(copy)
+    }
+
+    /// Gives this tree the nodes of another, and what is said of them.
+    fn copy_from(&mut self, from: &Tree) -> Result<(), NoMemory>
+        ensures { OnOk result (self.new ≡ filled from.now self.old) }
+    {
+        self.previous = match &from.previous {
             None => None,
             Some(name) => Some(name.clone()?),
         };
+        self.recency = Vec::from_slice(self.alloc, &from.recency)?;
+        self.urgent = Vec::from_slice(self.alloc, &from.urgent)?;
+        self.nodes = from.nodes.copy(self.alloc)?;
+        Ok(())
+    }
+
+    /// A tree with no node yet.
+    pub(crate) fn bare(
+        alloc: Global,
+        next_id: u32,
+        border: Border,
+        inner: u32,
+        outer: u32,
+    ) -> Result<Tree, NoMemory>
+        ensures { IfOk result (λ tree. tree ≡ bare next_id border inner outer) }
+    {
         Ok(Tree {
-            alloc: self.alloc,
-            nodes: self.nodes.copy(self.alloc)?,
-            recency: Vec::from_slice(self.alloc, &self.recency)?,
-            urgent: Vec::from_slice(self.alloc, &self.urgent)?,
-            previous,
-            next_id: self.next_id,
-            border: self.border,
-            inner: self.inner,
-            outer: self.outer,
-            spare: Box::new(self.alloc, Cell::hole(self.alloc))?,
+            alloc,
+            nodes: Row::new(),
+            recency: Vec::new(alloc),
+            urgent: Vec::new(alloc),
+            previous: None,
+            next_id,
+            border,
+            inner,
+            outer,
+            spare: Box::new(alloc, Cell::hole(alloc))?,
         })
     }
 

@@ -7,8 +7,8 @@ use Rattle.wm_tree.proofs.tree.Tree.attach.Goals as goal
 
 pub returns-clause-sound : goal.returns-clause-sound
 returns-clause-sound c =
-    λ ok s. as_is (attached c.args.at c.args.new c.args.self.now) _ (first_of (search rules, grind (arith, common_steps))) (sound-attached c.args.at c.args.new c.args.self.now c.in_ok-share.ensures.ok.0 ok c.in_ok-share.ensures.ok.1 s)
+    λ ok s. as_is (attached c.args.at c.args.new c.args.self.now) _ (first_of (search rules, grind (arith, common_steps))) (sound-attached c.args.at c.args.new c.args.self.now c.in_ok-row.ensures.ok.0 ok c.in_ok-row.ensures.ok.1 s)
 
 pub returns-clause-one_new : goal.returns-clause-one_new
 returns-clause-one_new c =
-    λ v h other. one_new_by c.args.at c.args.new c.args.self.now _ v (first_of (search rules, grind (arith, common_steps))) c.in_ok-share.ensures.ok.0 h other
+    λ v h other. one_new_by c.args.at c.args.new c.args.self.now _ v (first_of (search rules, grind (arith, common_steps))) c.in_ok-row.ensures.ok.0 h other
