@@ -15,10 +15,6 @@ mod parts;
 mod placing;
 mod rows;
 mod scene;
-#[cfg(test)]
-mod tests;
-#[cfg(test)]
-mod tests_places;
 mod texts;
 mod titles;
 
