@@ -7,8 +7,6 @@ mod held;
 mod laws;
 mod readings;
 mod sweeping;
-#[cfg(test)]
-mod tests;
 mod txn;
 mod windows;
 
