@@ -5,9 +5,9 @@
 # usage: bench/clients.sh [PROGRAM]
 set -eu
 . "$(dirname "$0")/program.sh"
-desk=$here/crates/deskbench/out/deskbench
+desk=$here/crates/bench_calls/out/bench_calls
 if [ ! -x "$desk" ]; then
-    (cd "$here/crates/deskbench" && rt run -- 20 give >/dev/null)
+    (cd "$here/crates/bench_calls" && rt run -- desk 20 give >/dev/null)
 fi
 
 python3 - "$program" "$folder" "$here/bench" "$desk" <<'PROGRAM'
@@ -21,7 +21,7 @@ from measure import measured
 
 def answered(windows, call):
     """The least processor time of an answer in nanoseconds, of five runs."""
-    words = [desk, str(windows), call]
+    words = [desk, "desk", str(windows), call]
     return min(float(subprocess.run(words, capture_output=True, check=True).stdout) for _ in range(5))
 
 

@@ -4,9 +4,9 @@
 # usage: bench/tree.sh
 set -eu
 here=$(cd "$(dirname "$0")/.." && pwd)
-program=$here/crates/treebench/out/treebench
+program=$here/crates/bench_calls/out/bench_calls
 if [ ! -x "$program" ]; then
-    (cd "$here/crates/treebench" && rt run -- 400 raise >/dev/null)
+    (cd "$here/crates/bench_calls" && rt run -- tree 400 raise >/dev/null)
 fi
 python3 - "$program" <<'PROGRAM'
 import resource, subprocess, sys
@@ -21,6 +21,6 @@ def seconds(words):
 
 
 for call in ["look", "raise", "move"]:
-    small, large = seconds(["400", call]), seconds(["4000", call])
+    small, large = seconds(["tree", "400", call]), seconds(["tree", "4000", call])
     print("%s: %.1f and %.1f microseconds a call, %.1f times as long" % (call, small * 10, large * 10, large / small))
 PROGRAM

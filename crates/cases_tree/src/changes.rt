@@ -81,6 +81,7 @@ fn add_output(desk: &mut Desk, words: &mut Words<'_>, out: &mut String) -> Resul
 }
 
 fn add_workspace(desk: &mut Desk, words: &mut Words<'_>, out: &mut String) -> Result<(), Fault>
+    requires { Holds desk.old }
     ensures { Holds desk.new }
 {
     let output = words.con()?;
@@ -92,6 +93,7 @@ fn add_workspace(desk: &mut Desk, words: &mut Words<'_>, out: &mut String) -> Re
 
 /// `move 6 last 4`: moves a container to a place.
 pub fn move_con(desk: &mut Desk, words: &mut Words<'_>, out: &mut String) -> Result<(), Fault>
+    requires { Holds desk.old }
     ensures { Holds desk.new }
 {
     let con = words.con()?;
@@ -126,6 +128,7 @@ pub fn wrap(desk: &mut Desk, words: &mut Words<'_>, out: &mut String) -> Result<
 
 /// `exchange 6 8`: two containers change places.
 pub fn exchange(desk: &mut Desk, words: &mut Words<'_>, out: &mut String) -> Result<(), Fault>
+    requires { Holds desk.old }
     ensures { Holds desk.new }
 {
     let (con, other) = (words.con()?, words.con()?);
@@ -136,6 +139,7 @@ pub fn exchange(desk: &mut Desk, words: &mut Words<'_>, out: &mut String) -> Res
 
 /// `move-workspace 5 2`: a workspace goes to an output.
 pub fn move_space(desk: &mut Desk, words: &mut Words<'_>, out: &mut String) -> Result<(), Fault>
+    requires { Holds desk.old }
     ensures { Holds desk.new }
 {
     let (space, output) = (words.con()?, words.con()?);
@@ -146,6 +150,7 @@ pub fn move_space(desk: &mut Desk, words: &mut Words<'_>, out: &mut String) -> R
 
 /// `remove-output 2`: an output goes.
 pub fn remove_output(desk: &mut Desk, words: &mut Words<'_>, out: &mut String) -> Result<(), Fault>
+    requires { Holds desk.old }
     ensures { Holds desk.new }
 {
     let output = words.con()?;

@@ -30,6 +30,7 @@ fn add_mark(desk: &mut Desk, con: ConId, name: &Text) -> Result<(), TreeRefusal>
 
 /// `marks 6 32`: gives a container so many marks, `6 0`, `6 1` and so on, and says the last answer.
 pub fn marks(desk: &mut Desk, words: &mut Words<'_>, out: &mut String) -> Result<(), Fault>
+    requires { Holds desk.old }
     ensures { Holds desk.new }
 {
     let con = words.con()?;
@@ -60,6 +61,7 @@ fn numbered(alloc: Global, con: ConId, number: u32) -> Result<Text, Fault> {
 
 /// `workspaces 2 254`: adds so many workspaces to an output, `2 0`, `2 1` and so on, and says the last answer.
 pub fn workspaces(desk: &mut Desk, words: &mut Words<'_>, out: &mut String) -> Result<(), Fault>
+    requires { Holds desk.old }
     ensures { Holds desk.new }
 {
     let output = words.con()?;

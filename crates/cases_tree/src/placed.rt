@@ -17,25 +17,27 @@ pub fn place(desk: &mut Desk, words: &Words<'_>, out: &mut String) -> Result<(),
     requires { Holds desk.old }
     ensures { Holds desk.new }
 {
-    if !desk.sound {
-        return Ok(writeln!(out, "{UNKNOWN}")?);
+    if desk.sound {
+        let arrangement = arrange(words.alloc, &desk.tree)?;
+        push_parts(out, &arrangement)?;
+        desk.held = Some(arrangement);
+        Ok(())
+    } else {
+        Ok(writeln!(out, "{UNKNOWN}")?)
     }
-    let arrangement = arrange(words.alloc, &desk.tree)?;
-    push_parts(out, &arrangement)?;
-    desk.held = Some(arrangement);
-    Ok(())
 }
 
 /// Says whether the arrangement of the tree is the one that was kept.
 pub fn compare(desk: &Desk, words: &Words<'_>, out: &mut String) -> Result<(), Fault>
     requires { Holds desk.now }
 {
-    if !desk.sound {
-        return Ok(writeln!(out, "{UNKNOWN}")?);
+    if desk.sound {
+        let arrangement = arrange(words.alloc, &desk.tree)?;
+        let same = is_held(desk, &arrangement);
+        Ok(writeln!(out, "same {same}")?)
+    } else {
+        Ok(writeln!(out, "{UNKNOWN}")?)
     }
-    let arrangement = arrange(words.alloc, &desk.tree)?;
-    let same = is_held(desk, &arrangement);
-    Ok(writeln!(out, "same {same}")?)
 }
 
 fn is_held(desk: &Desk, arrangement: &Arrangement) -> bool {

@@ -41,6 +41,7 @@ fn set_share(desk: &mut Desk, words: &mut Words<'_>) -> Result<(), Fault>
 }
 
 fn set_current(desk: &mut Desk, words: &mut Words<'_>) -> Result<(), Fault>
+    requires { Holds desk.old }
     ensures { Holds desk.new }
 {
     let output = words.con()?;
@@ -50,6 +51,7 @@ fn set_current(desk: &mut Desk, words: &mut Words<'_>) -> Result<(), Fault>
 }
 
 fn set_shown(desk: &mut Desk, words: &mut Words<'_>) -> Result<(), Fault>
+    requires { Holds desk.old }
     ensures { Holds desk.new }
 {
     let space = words.con()?;

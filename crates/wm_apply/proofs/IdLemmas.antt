@@ -24,12 +24,12 @@ use Rattle.wm_grammar.specs.declared.arguments.OnOff.{OnOff}
 use Rattle.wm_grammar.specs.declared.batch.Group.{Group}
 use Rattle.wm_grammar.specs.declared.command.Command.{Command}
 use Rattle.wm_grammar.specs.declared.command.Command.TheVariants as commands
-use Rattle.wm_showing.proofs.RiseLemmas.{ids_focusing, ids_same as as_same, output_same, over_same}
-use Rattle.wm_showing.specs.Showing.{focusing, output_focused}
-use Rattle.wm_showing.specs.Subject.{is_hidden}
+use Rattle.wm_shared.proofs.RiseLemmas.{ids_focusing, ids_same as as_same, output_same, over_same}
+use Rattle.wm_shared.specs.Showing.{focusing, output_focused}
+use Rattle.wm_shared.specs.Subject.{is_hidden}
 use Rattle.wm_apply.specs.FloatRows.{floating_tree, is_on}
 use Rattle.wm_apply.specs.OutputRows.{output_some, to_named_tree, to_output_tree}
-use Rattle.wm_showing.specs.Showing.{shown_on}
+use Rattle.wm_shared.specs.Showing.{shown_on}
 use Rattle.wm_sizes.proofs.RiseLemmas.{ids_bordered, ids_cycled, ids_formatted, ids_gapped, ids_resize_set, ids_resized}
 use Rattle.wm_spaces.proofs.RiseLemmas.{ids_goal_sent, ids_output_focused, ids_renamed, ids_sent_some, ids_shown, ids_space_goes}
 use Rattle.wm_spaces.specs.Outs.{output_at}

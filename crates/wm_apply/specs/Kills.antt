@@ -6,8 +6,8 @@ use Rattle.wm_base.specs.declared.errors.Refusal.{Refusal}
 use Rattle.wm_base.specs.declared.ids.ConId.{ConId}
 use Rattle.wm_grammar.specs.declared.command.Command.{Command}
 use Rattle.wm_grammar.specs.declared.command.Command.TheVariants as commands
-use Rattle.wm_showing.specs.Refusing.{error_if}
-use Rattle.wm_showing.specs.Subject.{is_container, is_space}
+use Rattle.wm_shared.specs.Refusing.{error_if}
+use Rattle.wm_shared.specs.Subject.{is_container, is_space}
 use Rattle.wm_tree.specs.declared.part.ConKind.{ConKind}
 use Rattle.wm_tree.specs.declared.part.ConKind.TheVariants.{Split, Window, Placeholder}
 use Rattle.wm_tree.specs.declared.part.NodeKind.{NodeKind}

@@ -5,9 +5,9 @@ use Rattle.wm_base.specs.declared.errors.Refusal.{Refusal}
 use Rattle.wm_base.specs.declared.errors.Refusal.TheVariants.{NoTarget}
 use Rattle.wm_base.specs.declared.ids.ConId.{ConId}
 use Rattle.wm_grammar.specs.declared.arguments.OutArg.{OutArg}
-use Rattle.wm_showing.specs.Refusing.{error_if}
-use Rattle.wm_showing.specs.Showing.{output_focused}
-use Rattle.wm_showing.specs.Subject.{is_hidden, is_space}
+use Rattle.wm_shared.specs.Refusing.{error_if}
+use Rattle.wm_shared.specs.Showing.{output_focused}
+use Rattle.wm_shared.specs.Subject.{is_hidden, is_space}
 use Rattle.wm_spaces.specs.Moving.{move_workspace_refusal, move_workspace_tree}
 use Rattle.wm_spaces.specs.Outs.{output_at}
 use Rattle.wm_spaces.specs.Sending.{send_to_output_refusal, send_to_output_tree}

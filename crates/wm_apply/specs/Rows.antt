@@ -28,8 +28,8 @@ use Rattle.wm_spaces.specs.Sending.{send_to_refusal, send_to_tree}
 use Rattle.wm_spaces.specs.Renaming.{rename_refusal, rename_tree}
 use Rattle.wm_spaces.specs.Shows.{show_refusal, show_tree}
 use Rattle.wm_tree.specs.TreeValue.{TreeValue}
-use Rattle.wm_showing.specs.Showing.{focusing}
-use Rattle.wm_showing.specs.Subject.{is_hidden}
+use Rattle.wm_shared.specs.Showing.{focusing}
+use Rattle.wm_shared.specs.Subject.{is_hidden}
 use Rattle.wm_apply.specs.declared.rows.How.{How}
 use Rattle.wm_apply.specs.declared.rows.How.TheVariants.{Matched, Handed, Focused}
 

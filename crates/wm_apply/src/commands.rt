@@ -12,7 +12,7 @@ use crate::targets::Targets;
 use std::alloc::{AllocError, Global};
 use wm_base::{ConId, ErrorText, NoMemory, Text};
 use wm_grammar::Command;
-use wm_showing::is_subject;
+use wm_shared::is_subject;
 use wm_tree::Tree;
 
 /// Whether the command is built.

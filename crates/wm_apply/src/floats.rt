@@ -2,7 +2,7 @@
 ghost use Rattle.std.specs.Prelude.{◌≡◌, None, Some, OnOk, OnErr, IfErr};
 ghost use Rattle.wm_apply.specs.FloatRows.{floating_refusal, floating_tree, focus_of_kind_refusal, focus_of_kind_tree, fullscreen_set, is_full_state, is_on, is_sticky_state, sticky_tree, wants_floating};
 ghost use Rattle.wm_floats.specs.Windows.{state_of, window_refusal};
-ghost use Rattle.wm_showing.specs.Subject.{IsSubject};
+ghost use Rattle.wm_shared.specs.Subject.{IsSubject};
 ghost use Rattle.wm_tree.specs.Sound.{IsSound};
 
 use wm_base::{ConId, Refusal};

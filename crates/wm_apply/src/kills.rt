@@ -1,12 +1,12 @@
 //! The windows that a command asks to close.
 ghost use Rattle.std.specs.Prelude.{◌≡◌, ◌++◌, None, OnOk, OnErr, IfErr};
 ghost use Rattle.wm_apply.specs.Kills.{asked_each, asked_of, first_windows, is_kill, is_window_con, is_window_node, kill_refusal, node_window, row_at, windows_in};
-ghost use Rattle.wm_showing.specs.Refusing.{IsCause};
+ghost use Rattle.wm_shared.specs.Refusing.{IsCause};
 
 use std::alloc::AllocError;
 use wm_base::{ConId, ErrorText, Refusal};
 use wm_grammar::Command;
-use wm_showing::is_space;
+use wm_shared::is_space;
 use wm_tree::{ConKind, Cursor, NodeKind, Part, Tree};
 
 /// Whether the command asks windows to close.

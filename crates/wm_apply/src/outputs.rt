@@ -1,14 +1,14 @@
 //! Commands on one subject that name an output.
 ghost use Rattle.std.specs.Prelude.{◌≡◌, None, OnOk, OnErr, IfErr};
 ghost use Rattle.wm_apply.specs.OutputRows.{focus_output_refusal, focus_output_tree, move_space_refusal, move_space_tree, move_to_output_refusal, move_to_output_tree};
-ghost use Rattle.wm_showing.specs.Refusing.{IsCause};
-ghost use Rattle.wm_showing.specs.Subject.{IsSubject};
+ghost use Rattle.wm_shared.specs.Refusing.{IsCause};
+ghost use Rattle.wm_shared.specs.Subject.{IsSubject};
 ghost use Rattle.wm_tree.specs.Sound.{IsSound};
 
 use std::alloc::Global;
 use wm_base::{ConId, ErrorText, Refusal};
 use wm_grammar::OutArg;
-use wm_showing::{is_hidden, is_space};
+use wm_shared::{is_hidden, is_space};
 use wm_spaces::{focus_output, move_workspace, output_at, send_to_output};
 use wm_tree::Tree;
 

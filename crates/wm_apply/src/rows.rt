@@ -1,8 +1,8 @@
 //! One command on one subject, or on the tree as a whole: a case for each command that is built.
 ghost use Rattle.std.specs.Prelude.{◌≡◌, None, OnOk, OnErr, IfErr};
 ghost use Rattle.wm_apply.specs.Rows.{come_refusal, focus_refusal, focus_tree, row_refusal, row_tree, matched_subject, whole_refusal, whole_tree};
-ghost use Rattle.wm_showing.specs.Refusing.{IsCause};
-ghost use Rattle.wm_showing.specs.Subject.{IsSubject};
+ghost use Rattle.wm_shared.specs.Refusing.{IsCause};
+ghost use Rattle.wm_shared.specs.Subject.{IsSubject};
 ghost use Rattle.wm_tree.specs.Sound.{IsSound};
 
 use crate::floats::{focus_of_kind, set_floating, set_fullscreen, set_sticky};
@@ -16,7 +16,7 @@ use wm_focus::{
     split, swap, unmark,
 };
 use wm_grammar::Command;
-use wm_showing::is_hidden;
+use wm_shared::is_hidden;
 use wm_sizes::{cycle_border, resize, resize_set, set_border, set_gaps, title_format};
 use wm_spaces::{rename, send_to, show};
 use wm_tree::Tree;
@@ -129,7 +129,7 @@ fn come(t: &mut Tree, con: ConId) -> Result<(), Refusal>
     if is_hidden(t, con) {
         return show_scratchpad(t, Some(con));
     }
-    match wm_showing::focus(t, con) {
+    match wm_shared::focus(t, con) {
         Ok(()) => Ok(()),
         Err(NoMemory) => Err(Refusal::NoMemory),
     }

@@ -2,7 +2,7 @@
 ghost use Rattle.wm_base.specs.declared.errors.Refusal.TheVariants as refusals;
 ghost use Rattle.std.specs.Prelude.{◌≡◌, ◌≢◌, ◌∷◌, [], true, IfOk, OnOk};
 ghost use Rattle.wm_apply.specs.Subjects.{each_error, each_tree, error_of, full_text, one_error, one_tree, or_error, reply_of};
-ghost use Rattle.wm_showing.specs.Subject.{IsSubject};
+ghost use Rattle.wm_shared.specs.Subject.{IsSubject};
 ghost use Rattle.wm_tree.specs.Sound.{IsSound};
 
 use crate::applied::CommandReply;
@@ -10,7 +10,7 @@ use crate::rows::{How, run_row};
 use std::alloc::Global;
 use wm_base::{ConId, ErrorText, Limit, NoMemory, Refusal, Text};
 use wm_grammar::Command;
-use wm_showing::is_subject;
+use wm_shared::is_subject;
 use wm_tree::Tree;
 
 /// The text of a limit that a command would pass.

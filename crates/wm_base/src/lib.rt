@@ -7,8 +7,6 @@ mod ids;
 mod list;
 mod plan;
 mod properties;
-#[cfg(test)]
-mod tests;
 mod text;
 
 pub use errors::{ErrorText, Limit, NoMemory, Refusal};

@@ -4,7 +4,6 @@ pub mod ContentLemmas
 pub mod EntryLemmas
 pub mod FollowLemmas
 pub mod GoneLemmas
-pub mod LastingLemmas
 pub mod LawLemmas
 pub mod LookLemmas
 pub mod OpenLemmas

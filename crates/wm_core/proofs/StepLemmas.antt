@@ -4,7 +4,7 @@ use Rattle.wm_base.specs.declared.errors.Limit.{Limit}
 use Rattle.wm_base.specs.declared.errors.Refusal.{Refusal}
 use Rattle.wm_base.specs.declared.errors.Refusal.TheVariants.{Full, NameTaken}
 use Rattle.wm_base.specs.declared.plan.OutputPlan.{OutputPlan}
-use Rattle.wm_showing.specs.Refusing.{full_error}
+use Rattle.wm_shared.specs.Refusing.{full_error}
 use Rattle.wm_spaces.specs.Coming.{output_added_refusal, output_removed_refusal}
 use Rattle.wm_spaces.specs.Names.{output_named}
 use Rattle.wm_tree.specs.Outputs.{passed_by_output}

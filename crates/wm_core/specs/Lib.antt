@@ -4,7 +4,6 @@ pub mod DeskValue
 pub mod Entries
 pub mod Frame
 pub mod History
-pub mod LastingLaws
 pub mod Laws
 pub mod Look
 pub mod Outputs

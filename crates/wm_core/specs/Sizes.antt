@@ -1,15 +1,10 @@
 -- What a caller owes of a step.
-use Rattle.std.specs.Prelude.{◌≡◌, ◌≤◌, IsTrue, None}
-use Rattle.wm_base.specs.declared.geometry.Size.{Size}
+use Rattle.std.specs.Prelude.{◌≡◌, IsTrue, None}
 use Rattle.wm_criteria.specs.Prepared.{is_built}
 use Rattle.wm_layouts.specs.Plan.{IsFitEdges}
+use Rattle.wm_layouts.specs.Sizes.{IsFitSize}
 use Rattle.wm_core.specs.declared.step.Step.{Step}
 use Rattle.wm_core.specs.declared.step.Step.TheVariants.{Run, Map, Close, Retitle, Urgent, Gone, OutputAdd, OutputRemove, Reserve, Client}
-
--- a buffer's sides are at most 16,384
-pub record IsFitSize (s : Size) : Type 0 where
-  pub width : s.w ≤ 16384
-  pub height : s.h ≤ 16384
 
 -- a text's patterns are built, and reserved edges are within their limits; the rectangle of an output may be any. Keys and
 -- ticks are not taken yet

@@ -1,5 +1,4 @@
-//! Laws of the frames of a desk, and of the trees that histories leave.
-ghost use Rattle.wm_core.specs.LastingLaws.{HistoriesAreInOrder, HistoriesStayInOrder};
+//! Laws of the frames of a desk.
 ghost use Rattle.wm_core.specs.Laws.{EndsTwiceAtMost, FramesGoOn, OpenAreWindows, SecondAwaitsNobody, ShowsWhatWasAsked};
 
 /// With one more step neither the number of the frame falls, nor how many steps its arrangement stands for.
@@ -31,15 +30,4 @@ pub fn the_second_awaits_nobody()
 #[tactic(auto, using(crate::proofs::LawLemmas::open_are_windows))]
 pub fn open_windows_are_those_of_the_tree()
     ensures { OpenAreWindows }
-{}
-
-/// A tree that is in order stays so through each history.
-pub fn histories_stay_in_order()
-    ensures { HistoriesStayInOrder }
-{}
-
-/// From a sound plan every history leaves a tree that is in order: sound, with only flagged windows in the scratchpad, each
-/// with an outer rectangle, and at most one fullscreen container in each workspace.
-pub fn histories_are_in_order()
-    ensures { HistoriesAreInOrder }
 {}

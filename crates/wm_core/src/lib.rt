@@ -22,8 +22,6 @@ mod screen;
 mod stands;
 mod state;
 mod step;
-#[cfg(test)]
-mod tests;
 mod windows;
 
 pub use asked::Asked;
@@ -31,8 +29,8 @@ pub use client::ClientStep;
 pub use desk::Desk;
 pub use door::Door;
 pub use laws::{
-    a_window_shows_what_was_asked, at_most_two_end, frames_go_on, histories_are_in_order,
-    histories_stay_in_order, open_windows_are_those_of_the_tree, the_second_awaits_nobody,
+    a_window_shows_what_was_asked, at_most_two_end, frames_go_on,
+    open_windows_are_those_of_the_tree, the_second_awaits_nobody,
 };
 pub use look::{Query, View};
 pub use refusals::{ActRefusal, Exhausted};

@@ -15,10 +15,6 @@ mod prepared;
 mod preparing;
 mod property;
 mod regex_build;
-#[cfg(test)]
-mod tests;
-#[cfg(test)]
-mod tests_matching;
 mod verdict;
 
 pub use build::{Build, BuildFault};

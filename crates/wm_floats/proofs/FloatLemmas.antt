@@ -10,16 +10,14 @@ use Rattle.wm_floats.specs.Floating.{IsGoal}
 use Rattle.wm_floats.specs.Kinds.{is_flagged_state, is_of, is_of_space}
 use Rattle.wm_floats.specs.Scratchpad.{coming_place, first_hidden, middle_on}
 use Rattle.wm_floats.specs.Windows.{natural_in, natural_of, state_of, window_refusal}
-use Rattle.wm_showing.proofs.ShowLemmas.{space_is}
-use Rattle.wm_showing.proofs.SpaceLemmas.{not_within}
-use Rattle.wm_showing.specs.Refusing.{error_if, full_error, refusal_by}
-use Rattle.wm_showing.specs.Subject.{IsSubject, is_hidden, is_space, is_subject_kind}
-use Rattle.wm_spaces.proofs.SendLemmas.{con_there}
-use Rattle.wm_grammar.specs.declared.arguments.Target.TheVariants as targets
-use Rattle.wm_spaces.proofs.StandLemmas.{goal_by}
-use Rattle.wm_spaces.specs.declared.targets.Goal.TheVariants.{There}
-use Rattle.wm_spaces.specs.Sending.{rect_of}
-use Rattle.wm_spaces.proofs.SpaceOfLemmas.{IsLow, LowKind, below_space}
+use Rattle.wm_shared.proofs.ShowLemmas.{space_is}
+use Rattle.wm_shared.proofs.SpaceLemmas.{not_within}
+use Rattle.wm_shared.specs.Refusing.{error_if, full_error, refusal_by}
+use Rattle.wm_shared.specs.Subject.{IsSubject, is_hidden, is_space, is_subject_kind}
+use Rattle.wm_shared.proofs.KidLemmas.{con_there}
+use Rattle.wm_shared.proofs.StandingLemmas.{shown_stands, stands_space}
+use Rattle.wm_shared.specs.Rects.{rect_of}
+use Rattle.wm_shared.proofs.SpaceOfLemmas.{IsLow, LowKind, below_space}
 use Rattle.wm_tree.proofs.AlongLemmas.{space_there}
 use Rattle.wm_tree.proofs.AttachLemmas.{has_row}
 use Rattle.wm_tree.proofs.OnceLemmas.{only_floats}
@@ -198,7 +196,7 @@ hidden_is c t sub hid = by (kind_of space_kind c t.nodes) (kind_of con_kind c t.
 -- ---- where one of the scratchpad comes
 
 shown_is : (t : TreeValue) → IsSound t → is_space t (shown t) ≡ true
-shown_is t s = goal_by targets.Current t (There (shown t)) refl s
+shown_is t s = stands_space (shown t) t s (shown_stands t s)
 
 pub coming_goal : (c : ConId) (p : Place) (t : TreeValue) → p ≡ coming_place c t → IsSound t → kind_of con_kind c t.nodes ≢ None → IsGoal c p t
 coming_goal c p t e s ok = rw e (float_goal c (shown t) (middle_on (kind_of output_kind (current t) t.nodes) (rect_of c t)) t s ok (shown_is t s))

@@ -4,9 +4,9 @@ use Rattle.wm_base.specs.declared.ids.ConId.{ConId}
 use Rattle.wm_floats.proofs.FloatLemmas.{window_con}
 use Rattle.wm_floats.specs.Floating.{IsGoal, tiling_place}
 use Rattle.wm_floats.specs.Windows.{natural_of}
-use Rattle.wm_showing.proofs.ShowLemmas.{workspace_is, space_is}
-use Rattle.wm_showing.proofs.SpaceLemmas.{IsSpaceIn, not_within}
-use Rattle.wm_spaces.proofs.SendLemmas.{con_there}
+use Rattle.wm_shared.proofs.ShowLemmas.{workspace_is, space_is}
+use Rattle.wm_shared.proofs.SpaceLemmas.{IsSpaceIn, not_within}
+use Rattle.wm_shared.proofs.KidLemmas.{con_there}
 use Rattle.wm_tree.proofs.AlongLemmas.{space_there}
 use Rattle.wm_tree.proofs.CountLemmas.{counted}
 use Rattle.wm_tree.proofs.ForestLemmas.{only_absent}

@@ -7,8 +7,8 @@ use Rattle.wm_base.specs.declared.ids.ConId.{ConId}
 use Rattle.wm_floats.specs.Floating.{IsGoal, earlier, earlier_in, floating_by, floating_rect, new_rect, rect_or, tiling_place}
 use Rattle.wm_floats.specs.Kinds.{is_flagged_state}
 use Rattle.wm_floats.specs.Windows.{flag_set, natural_by, restated, state_of}
-use Rattle.wm_spaces.specs.Sending.{output_part_of}
-use Rattle.wm_spaces.proofs.SendLemmas.{con_there}
+use Rattle.wm_shared.specs.Rects.{output_part_of}
+use Rattle.wm_shared.proofs.KidLemmas.{con_there}
 use Rattle.wm_tree.proofs.CountLemmas.{count-without, counted, found_counted}
 use Rattle.wm_tree.proofs.ForestLemmas.{only_absent}
 use Rattle.wm_tree.proofs.LookLemmas.{none_of_four, seen-without}

@@ -5,7 +5,7 @@ use Rattle.wm_base.specs.declared.errors.Refusal.{Refusal}
 use Rattle.wm_base.specs.declared.geometry.Rect.{Rect}
 use Rattle.wm_base.specs.declared.ids.ConId.{ConId}
 use Rattle.wm_floats.specs.Placing.{move_by_refusal, place_at_refusal}
-use Rattle.wm_spaces.specs.Sending.{rect_of}
+use Rattle.wm_shared.specs.Rects.{rect_of}
 use Rattle.wm_tree.specs.TreeValue.{TreeValue}
 
 pub shift_cause : {A : Type 0} (c : ConId) (r : Rect) (x y dx dy : ℤ) (t : TreeValue) (o : Result A Refusal) → r ≡ rect_of c t → x ≡ r.x +ℤ dx → y ≡ r.y +ℤ dy

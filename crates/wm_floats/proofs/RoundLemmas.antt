@@ -3,9 +3,9 @@ use Rattle.std.proofs.Common.{◌≡◌, ◌∙◌, Option, None, Some, ap, sym}
 use Rattle.wm_base.specs.declared.geometry.Dir.{Dir}
 use Rattle.wm_base.specs.declared.ids.ConId.{ConId}
 use Rattle.wm_floats.specs.Rounds.{key_round, keys_round}
-use Rattle.wm_showing.proofs.KeyLemmas.{least_with, lesser_assoc}
-use Rattle.wm_showing.specs.declared.keys.Key.{Key}
-use Rattle.wm_showing.specs.Keys.{least, lesser}
+use Rattle.wm_shared.proofs.KeyLemmas.{least_with, lesser_assoc}
+use Rattle.wm_shared.specs.declared.keys.Key.{Key}
+use Rattle.wm_shared.specs.Keys.{least, lesser}
 use Rattle.wm_tree.specs.declared.part.Part.{Part}
 use Rattle.wm_tree.specs.Forest.{Forest, end, con}
 use Rattle.wm_tree.specs.Look.{first_part, rest_of}

@@ -8,8 +8,8 @@ use Rattle.wm_base.specs.declared.ids.ConId.{ConId}
 use Rattle.wm_base.specs.declared.plan.Border.{Border}
 use Rattle.wm_floats.specs.Places.{held_middle, outer_size}
 use Rattle.wm_floats.specs.Windows.{flag_set, natural_by, window_refusal}
-use Rattle.wm_showing.specs.Refusing.{full_error}
-use Rattle.wm_spaces.specs.Sending.{output_part_of}
+use Rattle.wm_shared.specs.Refusing.{full_error}
+use Rattle.wm_shared.specs.Rects.{output_part_of}
 use Rattle.wm_tree.specs.declared.part.ConPart.{ConPart}
 use Rattle.wm_tree.specs.declared.part.OutputPart.{OutputPart}
 use Rattle.wm_tree.specs.declared.place.Place.{Place}

@@ -5,7 +5,7 @@ use Rattle.wm_base.specs.declared.geometry.Rect.{Rect}
 use Rattle.wm_base.specs.declared.geometry.Size.{Size}
 use Rattle.wm_base.specs.declared.plan.Border.{Border}
 use Rattle.wm_base.specs.declared.plan.Border.TheVariants.{Normal, Pixel, Bare}
-use Rattle.wm_spaces.specs.Sending.{held}
+use Rattle.wm_shared.specs.Rects.{held}
 
 -- a number that a place may have
 abbrev pub is_in_range : ℤ → Bool

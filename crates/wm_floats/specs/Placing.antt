@@ -6,9 +6,9 @@ use Rattle.wm_base.specs.declared.geometry.Rect.{Rect}
 use Rattle.wm_base.specs.declared.ids.ConId.{ConId}
 use Rattle.wm_floats.specs.Places.{is_in_range, middle_of}
 use Rattle.wm_floats.specs.Windows.{rect_set}
-use Rattle.wm_showing.specs.Refusing.{error_if}
-use Rattle.wm_showing.specs.Subject.{is_hidden, is_space}
-use Rattle.wm_spaces.specs.Sending.{output_part_of, rect_of}
+use Rattle.wm_shared.specs.Refusing.{error_if}
+use Rattle.wm_shared.specs.Subject.{is_hidden, is_space}
+use Rattle.wm_shared.specs.Rects.{output_part_of, rect_of}
 use Rattle.wm_tree.specs.declared.part.OutputPart.{OutputPart}
 use Rattle.wm_tree.specs.TreeValue.{TreeValue, is_tiled_con}
 

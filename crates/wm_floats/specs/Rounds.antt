@@ -8,12 +8,12 @@ use Rattle.wm_base.specs.declared.geometry.Dir.TheVariants.{Left, Right, Up, Dow
 use Rattle.wm_base.specs.declared.geometry.Rect.{Rect}
 use Rattle.wm_base.specs.declared.ids.ConId.{ConId}
 use Rattle.wm_floats.specs.Placing.{place_at_refusal, place_at_tree}
-use Rattle.wm_showing.specs.declared.keys.Key.{Key}
-use Rattle.wm_showing.specs.Keys.{least, with_key}
-use Rattle.wm_showing.specs.Refusing.{error_if}
-use Rattle.wm_showing.specs.Showing.{focusing}
-use Rattle.wm_showing.specs.Subject.{is_hidden}
-use Rattle.wm_spaces.specs.Sending.{rect_of}
+use Rattle.wm_shared.specs.declared.keys.Key.{Key}
+use Rattle.wm_shared.specs.Keys.{least, with_key}
+use Rattle.wm_shared.specs.Refusing.{error_if}
+use Rattle.wm_shared.specs.Showing.{focusing}
+use Rattle.wm_shared.specs.Subject.{is_hidden}
+use Rattle.wm_shared.specs.Rects.{rect_of}
 use Rattle.wm_tree.specs.Forest.{Forest, end, con}
 use Rattle.wm_tree.specs.Look.{same}
 use Rattle.wm_tree.specs.TreeValue.{TreeValue, workspace_of}

@@ -11,9 +11,9 @@ use Rattle.wm_floats.specs.Floating.{floating_rect}
 use Rattle.wm_floats.specs.Kinds.{is_of_space, latest}
 use Rattle.wm_floats.specs.Places.{held_middle}
 use Rattle.wm_floats.specs.Windows.{flag_set, window_refusal}
-use Rattle.wm_showing.specs.Refusing.{full_error}
-use Rattle.wm_showing.specs.Subject.{is_hidden}
-use Rattle.wm_spaces.specs.Sending.{rect_of}
+use Rattle.wm_shared.specs.Refusing.{full_error}
+use Rattle.wm_shared.specs.Subject.{is_hidden}
+use Rattle.wm_shared.specs.Rects.{rect_of}
 use Rattle.wm_tree.specs.declared.part.OutputPart.{OutputPart}
 use Rattle.wm_tree.specs.declared.place.Place.{Place}
 use Rattle.wm_tree.specs.declared.place.Place.TheVariants.{Float, Scratchpad}

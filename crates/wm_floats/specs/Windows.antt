@@ -6,8 +6,8 @@ use Rattle.wm_base.specs.declared.errors.Refusal.{Refusal}
 use Rattle.wm_base.specs.declared.geometry.Rect.{Rect}
 use Rattle.wm_base.specs.declared.geometry.Size.{Size}
 use Rattle.wm_base.specs.declared.ids.ConId.{ConId}
-use Rattle.wm_showing.specs.Refusing.{error_if}
-use Rattle.wm_showing.specs.Subject.{is_hidden, is_space}
+use Rattle.wm_shared.specs.Refusing.{error_if}
+use Rattle.wm_shared.specs.Subject.{is_hidden, is_space}
 use Rattle.wm_tree.specs.declared.kind.KindEdit.TheVariants as edits
 use Rattle.wm_tree.specs.declared.part.ConKind.{ConKind}
 use Rattle.wm_tree.specs.declared.part.ConKind.TheVariants.{Split, Window, Placeholder}

@@ -2,8 +2,8 @@
 ghost use Rattle.std.specs.Prelude.{◌≡◌, ◌≢◌, None, Some, true, false, OnOk, OnErr, IfErr};
 ghost use Rattle.std.specs.Option.{option_copied};
 ghost use Rattle.wm_floats.specs.Floating.{IsGoal, earlier, float_refusal, float_tree, floated, floated_refusal, floating_by, floating_rect, new_rect, sink_refusal, sink_tree, sunk, sunk_refusal, tiling_place};
-ghost use Rattle.wm_showing.specs.Refusing.{full_error};
-ghost use Rattle.wm_showing.specs.Subject.{IsSubject, is_space};
+ghost use Rattle.wm_shared.specs.Refusing.{full_error};
+ghost use Rattle.wm_shared.specs.Subject.{IsSubject, is_space};
 ghost use Rattle.wm_floats.specs.Windows.{natural_of};
 ghost use Rattle.wm_tree.specs.Move.{moved, passed_by_move};
 ghost use Rattle.wm_tree.specs.Look.{con_kind, kind_of};
@@ -11,9 +11,9 @@ ghost use Rattle.wm_tree.specs.Sound.{IsSound};
 ghost use Rattle.wm_tree.specs.TreeValue.{is_tiled_con, workspace_of};
 
 use crate::places::{NOWHERE, held_middle, outer_size};
-use crate::windows::{natural_by, output_part_of, set_flag, window_refusal};
+use crate::windows::{natural_by, set_flag, window_refusal};
 use wm_base::{Border, ConId, Rect, Refusal, Size};
-use wm_showing::refused;
+use wm_shared::{output_part_of, refused};
 use wm_tree::{ConPart, OutputPart, Place, Tree};
 
 /// Puts the container at the place.

@@ -2,7 +2,7 @@
 ghost use Rattle.std.specs.Prelude.{◌≡◌, None, Some, true, OnOk, OnErr, IfErr};
 ghost use Rattle.wm_floats.specs.Fullscreen.{fills_alone, full_in, fullscreen_tree, is_full, other_full, others_unfull};
 ghost use Rattle.wm_floats.specs.Windows.{window_refusal};
-ghost use Rattle.wm_showing.specs.Subject.{IsSubject};
+ghost use Rattle.wm_shared.specs.Subject.{IsSubject};
 ghost use Rattle.std.specs.Option.{option_or};
 ghost use Rattle.wm_tree.specs.Look.{first_floats, first_kids};
 ghost use Rattle.wm_tree.specs.Sound.{IsSound};

@@ -4,12 +4,12 @@ ghost use Rattle.wm_floats.specs.Kinds.{first_of, focus_kind_refusal, focus_kind
 ghost use Rattle.wm_floats.specs.declared.kinds.Kind.TheVariants as kinds;
 ghost use Rattle.wm_floats.specs.Windows.{state_of};
 ghost use Rattle.wm_tree.specs.TreeValue.{workspace_of};
-ghost use Rattle.wm_showing.specs.Subject.{IsSubject};
+ghost use Rattle.wm_shared.specs.Subject.{IsSubject};
 ghost use Rattle.wm_tree.specs.Sound.{IsSound};
 
 use crate::windows::state_of;
 use wm_base::{ConId, ErrorText, Refusal};
-use wm_showing::is_hidden;
+use wm_shared::is_hidden;
 use wm_tree::Tree;
 
 /// Containers that are looked for: tiled ones, floating windows, or floating windows that are flagged for the

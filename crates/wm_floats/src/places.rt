@@ -1,9 +1,9 @@
 //! Places and sizes of windows in pixels, as plain numbers.
 ghost use Rattle.std.specs.Prelude.{◌≡◌, ◌<◌, min, ◌+◌};
 ghost use Rattle.wm_floats.specs.Places.{border_height, border_width, held_middle, is_in_range, middle_of, outer_size};
-ghost use Rattle.wm_spaces.specs.Sending.{held};
 
 use wm_base::{Border, Rect, Size};
+use wm_shared::held;
 
 /// The least and the greatest number of a place.
 const LEAST: i64 = -131_072;
@@ -26,19 +26,6 @@ pub(crate) fn is_in_range(n: i64) -> bool
     ensures { result ≡ is_in_range n }
 {
     LEAST <= n && n <= GREATEST
-}
-
-/// The nearest number that a place may have.
-fn held(n: i64) -> i32
-    ensures { result ≡ held n }
-{
-    if n < LEAST {
-        LEAST as i32
-    } else if n > GREATEST {
-        GREATEST as i32
-    } else {
-        n as i32
-    }
 }
 
 /// Where a span begins in the middle of another one: half of what is left is before it, rounded down.

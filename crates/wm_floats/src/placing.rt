@@ -2,13 +2,13 @@
 ghost use Rattle.std.specs.Prelude.{◌≡◌, ◌+ℤ◌, None, Some, OnOk, OnErr, IfErr};
 ghost use Rattle.wm_floats.specs.Placing.{centre_refusal, centre_tree, middle_x, middle_y, move_by_refusal, move_by_tree, place_at_refusal, place_at_tree};
 ghost use Rattle.std.specs.Option.{option_copied};
-ghost use Rattle.wm_showing.specs.Subject.{IsSubject};
+ghost use Rattle.wm_shared.specs.Subject.{IsSubject};
 ghost use Rattle.wm_tree.specs.Sound.{IsSound};
 
 use crate::places::{is_in_range, middle_of};
-use crate::windows::{output_part_of, rect_of, set_rect};
+use crate::windows::set_rect;
 use wm_base::{ConId, ErrorText, Rect, Refusal};
-use wm_showing::{is_hidden, is_space};
+use wm_shared::{is_hidden, is_space, output_part_of, rect_of};
 use wm_tree::{OutputPart, Tree};
 
 /// Why the floating window is not put at this place, in pixels.

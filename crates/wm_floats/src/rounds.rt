@@ -1,15 +1,14 @@
 //! Floating windows in a direction: the next one by id, round both ends, and a shift by so many pixels.
 ghost use Rattle.std.specs.Prelude.{◌≡◌, None, Some, OnOk, OnErr, IfErr};
 ghost use Rattle.wm_floats.specs.Rounds.{ahead, floats_at, focus_round_refusal, focus_round_tree, key_round, keys_round, off, round_to, shift_refusal, shift_tree, shifted_x, shifted_y};
-ghost use Rattle.wm_showing.specs.Keys.{least};
-ghost use Rattle.wm_showing.specs.Refusing.{IsCause};
-ghost use Rattle.wm_showing.specs.Subject.{IsSubject};
+ghost use Rattle.wm_shared.specs.Keys.{least};
+ghost use Rattle.wm_shared.specs.Refusing.{IsCause};
+ghost use Rattle.wm_shared.specs.Subject.{IsSubject};
 ghost use Rattle.wm_tree.specs.Sound.{IsSound};
 
 use crate::placing::place_at;
-use crate::windows::rect_of;
 use wm_base::{ConId, Dir, ErrorText, NoMemory, Rect, Refusal};
-use wm_showing::{Key, focus, is_hidden, lesser};
+use wm_shared::{Key, focus, is_hidden, lesser, rect_of};
 use wm_tree::{Cursor, Tree};
 
 /// How many ids there are.

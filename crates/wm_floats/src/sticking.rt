@@ -1,7 +1,7 @@
 //! Sticky windows, which stay in sight whatever workspace their output shows.
 ghost use Rattle.std.specs.Prelude.{◌≡◌, None, Some, OnOk, OnErr, IfErr};
 ghost use Rattle.wm_floats.specs.Windows.{sticky_set, window_refusal};
-ghost use Rattle.wm_showing.specs.Subject.{IsSubject};
+ghost use Rattle.wm_shared.specs.Subject.{IsSubject};
 ghost use Rattle.wm_tree.specs.Sound.{IsSound};
 
 use crate::windows::{set_sticky, window_refusal};

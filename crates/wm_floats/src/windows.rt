@@ -1,14 +1,11 @@
 //! Windows as subjects of commands: their state, their natural size, and who is none.
 ghost use Rattle.std.specs.Prelude.{◌≡◌};
 ghost use Rattle.wm_floats.specs.Windows.{flag_set, full_set, natural_by, natural_of, rect_set, state_of, sticky_set, window_refusal};
-ghost use Rattle.wm_spaces.specs.Sending.{output_part_of, rect_of};
 ghost use Rattle.wm_tree.specs.Sound.{IsSound};
-ghost use Rattle.std.specs.Option.{option_copied};
 
-use crate::places::NOWHERE;
 use wm_base::{ConId, ErrorText, Rect, Refusal, Size};
-use wm_showing::{is_hidden, is_space, output_of};
-use wm_tree::{ConKind, ConState, OutputPart, Tree};
+use wm_shared::{is_hidden, is_space};
+use wm_tree::{ConKind, ConState, Tree};
 
 /// The natural size of a window. `None` exactly where it is a split or a placeholder.
 pub(crate) fn natural_by(kind: &ConKind) -> Option<Size>
@@ -47,23 +44,6 @@ pub(crate) fn state_of(t: &Tree, con: ConId) -> Option<ConState>
     ensures { result ≡ state_of con t.now }
 {
     Some(t.container(con)?.state)
-}
-
-/// The outer rectangle of a floating window.
-pub(crate) fn rect_of(t: &Tree, con: ConId) -> Rect
-    ensures { result ≡ rect_of con t.now }
-{
-    match t.container(con) {
-        Some(part) => part.state.rect.unwrap_or(NOWHERE),
-        None => NOWHERE,
-    }
-}
-
-/// The output of a container or workspace, as it is.
-pub(crate) fn output_part_of(t: &Tree, con: ConId) -> Option<&OutputPart>
-    ensures { option_copied result ≡ output_part_of con t.now }
-{
-    t.output(output_of(t, con)?)
 }
 
 /// Makes the container sticky, or takes that from it.

@@ -11,9 +11,9 @@ use Rattle.wm_focus.proofs.MarkForests.{has_marks, has_off, kind_marks, kind_off
 use Rattle.wm_focus.proofs.MarkLists.{left_none, left_some, that_none}
 use Rattle.wm_focus.proofs.BearerLemmas.{other_most}
 use Rattle.wm_focus.specs.Marks.{bears, cleared, freed, full_of_marks, give_refusal, given_mark, is_marked, kept_marks, taken_off, that_mark, with_mark}
-use Rattle.wm_showing.specs.Refusing.{IsCause, refusal_by}
+use Rattle.wm_shared.specs.Refusing.{IsCause, refusal_by}
 use Rattle.wm_focus.specs.Stripped.{IsGiveCause, all_or_none, is_given, lacks, left, off, with_given}
-use Rattle.wm_showing.specs.Subject.{is_container}
+use Rattle.wm_shared.specs.Subject.{is_container}
 use Rattle.wm_tree.proofs.ChangeLemmas.{by_change}
 use Rattle.wm_tree.proofs.ForestLemmas.{only_absent}
 use Rattle.wm_tree.specs.declared.place.TreeRefusal.{TreeRefusal}

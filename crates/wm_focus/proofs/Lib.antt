@@ -1,8 +1,8 @@
+pub mod AboveLemmas
 pub mod AllLemmas
 pub mod BearerLemmas
 pub mod BesideLemmas
 pub mod GiveLemmas
-pub mod KidLemmas
 pub mod LawLemmas
 pub mod MarkForests
 pub mod MarkLists

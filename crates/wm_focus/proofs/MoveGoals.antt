@@ -3,17 +3,20 @@ use Rattle.std.proofs.Common.{◌≡◌, ◌≢◌, Bool, true, false, cond, ◌
 use Rattle.std.specs.Prelude.{option_and_then}
 use Rattle.wm_base.specs.declared.geometry.Dir.{Dir}
 use Rattle.wm_base.specs.declared.ids.ConId.{ConId}
-use Rattle.wm_focus.proofs.BesideLemmas.{apart_below, below_two, turned}
-use Rattle.wm_showing.proofs.DownLemmas.{below_both, held_below, not_above, once_only}
-use Rattle.wm_focus.proofs.KidLemmas.{IsAbove, IsKid, child_there, holder_in_row, kid_of, kid_there, kid_tiled, out_above}
+use Rattle.wm_focus.proofs.BesideLemmas.{apart_below, below_two}
+use Rattle.wm_shared.proofs.NeighbourLemmas.{turned}
+use Rattle.wm_shared.proofs.DownLemmas.{below_both, held_below, not_above, once_only}
+use Rattle.wm_shared.proofs.KidLemmas.{IsKid, child_there, holder_in_row, kid_of, kid_there, kid_tiled}
+use Rattle.wm_focus.proofs.AboveLemmas.{IsAbove, out_above}
 use Rattle.wm_focus.proofs.SubjectLemmas.{tiled_is}
 use Rattle.wm_focus.proofs.SwapLemmas.{tiled_there}
 use Rattle.wm_focus.specs.declared.rungs.Aim.TheVariants.{Out}
 use Rattle.wm_focus.specs.Moves.{IsGoal, IsTurn, after_child, beside, entry, held_out, is_split_con, is_split_part, near_end, neighbour_below, runs_split, side_of, space_over}
-use Rattle.wm_focus.specs.Rungs.{is_forward, nearest}
-use Rattle.wm_showing.proofs.SpaceLemmas.{not_within, shown_is_space}
-use Rattle.wm_showing.specs.Outputs.{output_from}
-use Rattle.wm_showing.specs.Showing.{shown_on}
+use Rattle.wm_focus.specs.Rungs.{nearest}
+use Rattle.wm_shared.specs.Neighbours.{is_forward}
+use Rattle.wm_shared.proofs.SpaceLemmas.{not_within, shown_is_space}
+use Rattle.wm_shared.specs.Outputs.{output_from}
+use Rattle.wm_shared.specs.Showing.{shown_on}
 use Rattle.wm_tree.proofs.AlongLemmas.{space_there}
 use Rattle.wm_tree.proofs.CountLemmas.{found_counted, there}
 use Rattle.wm_tree.proofs.RecencyLemmas.{same_is}

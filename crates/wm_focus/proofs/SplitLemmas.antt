@@ -1,7 +1,7 @@
 -- Why a split is refused.
 use Rattle.std.proofs.Common.{◌≡◌, true, false, None, refl}
 use Rattle.wm_base.specs.declared.ids.ConId.{ConId}
-use Rattle.wm_showing.specs.Refusing.{IsCause, refusal_by}
+use Rattle.wm_shared.specs.Refusing.{IsCause, refusal_by}
 use Rattle.wm_focus.specs.Splits.{gives_layout, layout_refusal, split_refusal}
 use Rattle.wm_grammar.specs.declared.arguments.SplitArg.{SplitArg}
 use Rattle.wm_tree.specs.declared.place.TreeRefusal.{TreeRefusal}

@@ -5,7 +5,7 @@ use Rattle.wm_tree.specs.declared.part.Part.{Part}
 use Rattle.wm_tree.specs.declared.part.NodeKind.{NodeKind}
 use Rattle.wm_tree.specs.declared.part.NodeKind.TheVariants.{Root, Output, Space, Con}
 use Rattle.wm_tree.specs.declared.spot.Spot.{Spot}
-use Rattle.wm_showing.specs.Subject.{IsSubject, is_subject_kind}
+use Rattle.wm_shared.specs.Subject.{IsSubject, is_subject_kind}
 use Rattle.wm_tree.proofs.ForestLemmas.{only_absent}
 use Rattle.wm_tree.specs.Forest.{Forest, end}
 use Rattle.wm_tree.specs.Look.{con_kind, first_part, has, kind_by, only, space_kind}

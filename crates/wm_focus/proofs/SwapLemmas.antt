@@ -4,7 +4,7 @@ use Rattle.wm_base.specs.declared.errors.ErrorText.{ErrorText}
 use Rattle.wm_base.specs.declared.errors.Refusal.TheVariants as refusals
 use Rattle.wm_base.specs.declared.ids.ConId.{ConId}
 use Rattle.wm_focus.proofs.SubjectLemmas.{tiled_is}
-use Rattle.wm_showing.specs.Refusing.{refusal_by}
+use Rattle.wm_shared.specs.Refusing.{refusal_by}
 use Rattle.wm_focus.specs.Swaps.{beside_refusal, exchange_refusal, is_part}
 use Rattle.wm_tree.proofs.ForestLemmas.{only_absent}
 use Rattle.wm_tree.specs.declared.place.Place.TheVariants.{After}

@@ -1,8 +1,8 @@
 -- Two containers that change places and take their shares along.
 use Rattle.std.proofs.Common.{◌≡◌, ℕ, ◌+◌, ◌≤◌, Bool, true, false, cond, ◌||◌, Option, None, Some, refl, ap, sym, ◌∙◌, subst, arith}
 use Rattle.wm_base.specs.declared.ids.ConId.{ConId}
-use Rattle.wm_showing.proofs.DownLemmas.{none}
-use Rattle.wm_focus.proofs.KidLemmas.{spot_tiled, tiled_in}
+use Rattle.wm_shared.proofs.DownLemmas.{none}
+use Rattle.wm_shared.proofs.KidLemmas.{spot_tiled, tiled_in}
 use Rattle.wm_focus.specs.Moves.{IsTurn, turned}
 use Rattle.wm_tree.proofs.ChangeLemmas.{by_change}
 use Rattle.wm_tree.proofs.CountLemmas.{count-without, counted, tally-absent}

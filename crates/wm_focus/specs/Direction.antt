@@ -11,10 +11,10 @@ use Rattle.wm_focus.specs.declared.direction.Goal.{Goal}
 use Rattle.wm_focus.specs.declared.direction.Goal.TheVariants as goals
 use Rattle.wm_focus.specs.declared.rungs.Aim.TheVariants.{Around, Beside}
 use Rattle.wm_focus.specs.Rungs.{nearest}
-use Rattle.wm_showing.specs.Outputs.{output_from}
-use Rattle.wm_showing.specs.Refusing.{error_if}
-use Rattle.wm_showing.specs.Showing.{focusing, output_focused}
-use Rattle.wm_showing.specs.Subject.{is_hidden}
+use Rattle.wm_shared.specs.Outputs.{output_from}
+use Rattle.wm_shared.specs.Refusing.{error_if}
+use Rattle.wm_shared.specs.Showing.{focusing, output_focused}
+use Rattle.wm_shared.specs.Subject.{is_hidden}
 use Rattle.wm_tree.specs.Look.{first_kids, in_row}
 use Rattle.wm_tree.specs.TreeValue.{TreeValue, leaf}
 

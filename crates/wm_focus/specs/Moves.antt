@@ -7,11 +7,12 @@ use Rattle.wm_base.specs.declared.geometry.Dir.{Dir}
 use Rattle.wm_base.specs.declared.ids.ConId.{ConId}
 use Rattle.wm_floats.specs.Rounds.{shift_refusal, shift_tree}
 use Rattle.wm_focus.specs.declared.rungs.Aim.TheVariants.{Beside, Out}
-use Rattle.wm_showing.specs.Outputs.{output_from}
-use Rattle.wm_showing.specs.Refusing.{error_if, full_error}
-use Rattle.wm_showing.specs.Showing.{entered, remembering, shown_on}
-use Rattle.wm_focus.specs.Rungs.{aimed, is_forward, nearest, rung, runs_con}
-use Rattle.wm_showing.specs.Subject.{is_hidden, is_space}
+use Rattle.wm_shared.specs.Outputs.{output_from}
+use Rattle.wm_shared.specs.Refusing.{error_if, full_error}
+use Rattle.wm_shared.specs.Showing.{entered, remembering, shown_on}
+use Rattle.wm_focus.specs.Rungs.{aimed, nearest, rung, runs_con}
+use Rattle.wm_shared.specs.Neighbours.{is_forward}
+use Rattle.wm_shared.specs.Subject.{is_hidden, is_space}
 use Rattle.wm_focus.specs.Swaps.{deep_error}
 use Rattle.wm_tree.specs.declared.kind.KindEdit.TheVariants as edits
 use Rattle.wm_tree.specs.declared.part.ConPart.{ConPart}

@@ -3,8 +3,8 @@ use Rattle.std.specs.Prelude.{Option, None, Some, is_none}
 use Rattle.wm_base.specs.declared.errors.ErrorText.TheVariants as texts
 use Rattle.wm_base.specs.declared.errors.Refusal.{Refusal}
 use Rattle.wm_base.specs.declared.ids.ConId.{ConId}
-use Rattle.wm_showing.specs.Refusing.{error_if}
-use Rattle.wm_showing.specs.Subject.{is_hidden, is_space}
+use Rattle.wm_shared.specs.Refusing.{error_if}
+use Rattle.wm_shared.specs.Subject.{is_hidden, is_space}
 use Rattle.wm_tree.specs.TreeValue.{TreeValue, focused_child, parent}
 use Rattle.wm_tree.specs.Words.{with_raised}
 

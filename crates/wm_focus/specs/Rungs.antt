@@ -1,51 +1,21 @@
 -- The nodes that hold a container, from the nearest upwards, and what is looked for at them in a direction.
 use Rattle.std.specs.Prelude.{Bool, true, false, if◌then◌else◌, List, [], ◌∷◌, ◌++◌, Option, None, Some}
 use Rattle.std.specs.Option.{option_or}
-use Rattle.wm_base.specs.declared.geometry.Axis.{Axis}
-use Rattle.wm_base.specs.declared.geometry.Axis.TheVariants as axes
 use Rattle.wm_base.specs.declared.geometry.Dir.{Dir}
-use Rattle.wm_base.specs.declared.geometry.Dir.TheVariants.{Left, Right, Up, Down}
 use Rattle.wm_base.specs.declared.ids.ConId.{ConId}
-use Rattle.wm_base.specs.declared.plan.Layout.{Layout}
-use Rattle.wm_base.specs.declared.plan.Layout.TheVariants.{SplitH, SplitV, Stacked, Tabbed}
 use Rattle.wm_focus.specs.declared.rungs.Aim.{Aim}
 use Rattle.wm_focus.specs.declared.rungs.Aim.TheVariants.{Around, Beside, Out}
 use Rattle.wm_tree.specs.declared.part.ConKind.{ConKind}
 use Rattle.wm_tree.specs.declared.part.ConKind.TheVariants.{Split, Window, Placeholder}
 use Rattle.wm_tree.specs.declared.part.NodeKind.{NodeKind}
 use Rattle.wm_tree.specs.declared.part.NodeKind.TheVariants.{Root, Output, Space, Con}
-use Rattle.wm_tree.specs.Change.{is_end, is_id}
+use Rattle.wm_shared.specs.Neighbours.{axis_of, dir_axis, first_id, is_forward, last_id, neighbour, same_axis}
+use Rattle.wm_tree.specs.Change.{is_end}
 use Rattle.wm_tree.specs.Forest.{Forest, end, con}
 use Rattle.wm_tree.specs.Look.{has, rest_of, same}
 use Rattle.wm_tree.specs.TreeValue.{or_id, row_holder}
 
 -- ---- axes
-
--- the axis along which a layout puts its children
-abbrev pub axis_of : Layout → Axis
-axis_of SplitH = axes.Across
-axis_of SplitV = axes.Down
-axis_of Tabbed = axes.Across
-axis_of Stacked = axes.Down
-
-abbrev pub dir_axis : Dir → Axis
-dir_axis Left = axes.Across
-dir_axis Right = axes.Across
-dir_axis Up = axes.Down
-dir_axis Down = axes.Down
-
-abbrev pub same_axis : Axis → Axis → Bool
-same_axis axes.Across axes.Across = true
-same_axis axes.Across axes.Down = false
-same_axis axes.Down axes.Across = false
-same_axis axes.Down axes.Down = true
-
--- the direction is towards the end of a row: right or down
-abbrev pub is_forward : Dir → Bool
-is_forward Left = false
-is_forward Right = true
-is_forward Up = false
-is_forward Down = true
 
 abbrev pub runs_con : Dir → ConKind → Bool
 runs_con d (Split layout last) = same_axis (axis_of layout) (dir_axis d)
@@ -58,30 +28,6 @@ runs d (Root c) = false
 runs d (Output o) = false
 runs d (Space s) = same_axis (axis_of s.layout) (dir_axis d)
 runs d (Con c) = runs_con d c.kind
-
--- ---- rows
-
-abbrev pub first_id : Forest → Option ConId
-first_id end = None
-first_id (con part kids floats rest) = Some part.id
-
-abbrev pub last_id : Forest → Option ConId
-last_id end = None
-last_id (con part kids floats rest) = option_or (last_id rest) (Some part.id)
-
--- the node after c in the row
-abbrev pub after : ConId → Forest → Option ConId
-after c end = None
-after c (con part kids floats rest) = if same part.id c then first_id rest else after c rest
-
--- the node before c in the row
-abbrev pub before : ConId → Forest → Option ConId
-before c end = None
-before c (con part kids floats rest) = if is_id c (first_id rest) then Some part.id else before c rest
-
--- the neighbour of c on that side
-abbrev pub neighbour : Dir → ConId → Forest → Option ConId
-neighbour d c row = if is_forward d then after c row else before c row
 
 -- the node at the other end than that of the direction, in a row of two or more
 abbrev pub far_end : Dir → Forest → Option ConId

@@ -7,8 +7,8 @@ use Rattle.wm_base.specs.declared.ids.ConId.{ConId}
 use Rattle.wm_base.specs.declared.plan.Layout.{Layout}
 use Rattle.wm_base.specs.declared.plan.Layout.TheVariants.{SplitH, SplitV, Stacked, Tabbed}
 use Rattle.wm_focus.specs.declared.splits.Layouts.{Layouts}
-use Rattle.wm_showing.specs.Refusing.{error_if, full_error}
-use Rattle.wm_showing.specs.Subject.{is_hidden, is_space}
+use Rattle.wm_shared.specs.Refusing.{error_if, full_error}
+use Rattle.wm_shared.specs.Subject.{is_hidden, is_space}
 use Rattle.wm_grammar.specs.declared.arguments.Cycle.{Cycle}
 use Rattle.wm_grammar.specs.declared.arguments.Cycle.TheVariants as cycles
 use Rattle.wm_grammar.specs.declared.arguments.LayoutArg.{LayoutArg}

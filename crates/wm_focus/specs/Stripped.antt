@@ -3,7 +3,7 @@ use Rattle.std.specs.Prelude.{◌≡◌, ℕ, Bool, true, false, not, if◌then�
 use Rattle.std.specs.Str.{bytes_eq}
 use Rattle.wm_base.specs.declared.ids.ConId.{ConId}
 use Rattle.wm_focus.specs.Marks.{bears, taken_off, with_mark}
-use Rattle.wm_showing.specs.Subject.{IsSubject, is_container}
+use Rattle.wm_shared.specs.Subject.{IsSubject, is_container}
 use Rattle.wm_tree.specs.declared.place.TreeRefusal.{TreeRefusal}
 use Rattle.wm_tree.specs.declared.place.TreeRefusal.TheVariants as tree
 use Rattle.wm_tree.specs.Forest.{Forest, end, con}

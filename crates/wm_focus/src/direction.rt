@@ -1,15 +1,15 @@
 //! Focusing in a direction.
 ghost use Rattle.std.specs.Prelude.{◌≡◌, true, None, Some, OnOk, OnErr, IfErr, IfOk};
 ghost use Rattle.wm_focus.specs.Direction.{IsListed, focus_dir_refusal, focus_dir_tree, focusing_some, goal_of, gone_to};
-ghost use Rattle.wm_showing.specs.Refusing.{IsCause};
-ghost use Rattle.wm_showing.specs.Subject.{IsSubject};
+ghost use Rattle.wm_shared.specs.Refusing.{IsCause};
+ghost use Rattle.wm_shared.specs.Subject.{IsSubject};
 ghost use Rattle.wm_tree.specs.Sound.{IsSound};
 ghost use Rattle.wm_tree.specs.TreeValue.{leaf};
 
 use crate::rungs::{Aim, nearest};
 use wm_base::{ConId, Dir, ErrorText, NoMemory, Refusal};
 use wm_floats::{focus_round, is_floating};
-use wm_showing::{enter_output, focus, is_hidden, output_from};
+use wm_shared::{enter_output, focus, is_hidden, output_from};
 use wm_tree::Tree;
 
 /// Where focus goes in a direction: to a node, or to another output.

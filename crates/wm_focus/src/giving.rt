@@ -3,15 +3,15 @@ ghost use Rattle.std.specs.Prelude.{◌≡◌, ◌≤◌, true, false, Some, Non
 ghost use Rattle.std.specs.Option.{option_copied};
 ghost use Rattle.std.proofs.Math.ListN.{drop};
 ghost use Rattle.wm_focus.specs.Marks.{cleared, give_refusal, given_mark, is_marked, kept_marks, taken_off, with_mark};
-ghost use Rattle.wm_showing.specs.Refusing.{IsCause};
+ghost use Rattle.wm_shared.specs.Refusing.{IsCause};
 ghost use Rattle.wm_focus.specs.Stripped.{IsGiveCause, MayGive, all_marks, all_off, all_or_none, is_given, lacks, left, with_given};
-ghost use Rattle.wm_showing.specs.Subject.{is_container};
+ghost use Rattle.wm_shared.specs.Subject.{is_container};
 ghost use Rattle.wm_tree.specs.Move.{is_full_of_marks, marks_in, unmarked, with_marks};
 ghost use Rattle.wm_tree.specs.Sound.{IsSound};
 
 use crate::bearers::{bearer, bears, marks_of};
 use wm_base::{ConId, NoMemory, Refusal, Text};
-use wm_showing::refused;
+use wm_shared::refused;
 use wm_tree::{Cursor, Tree, TreeRefusal};
 
 /// Takes the mark off all nodes but the one to be kept.

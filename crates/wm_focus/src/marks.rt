@@ -2,15 +2,15 @@
 ghost use Rattle.std.specs.Prelude.{◌≡◌, Some, None, OnOk, OnErr, IfErr};
 ghost use Rattle.std.specs.Option.{option_copied};
 ghost use Rattle.wm_focus.specs.Marks.{holder_of, is_mark, mark_refusal, mark_tree, unmark_refusal, unmark_tree};
-ghost use Rattle.wm_showing.specs.Refusing.{IsCause};
+ghost use Rattle.wm_shared.specs.Refusing.{IsCause};
 ghost use Rattle.wm_focus.specs.Stripped.{IsUnmarked};
-ghost use Rattle.wm_showing.specs.Subject.{IsSubject};
+ghost use Rattle.wm_shared.specs.Subject.{IsSubject};
 ghost use Rattle.wm_tree.specs.Sound.{IsSound};
 
 use crate::bearers::{bearer, bears, marks_of};
 use crate::giving::{give, replace_from, take_all_off, take_off};
 use wm_base::{ConId, ErrorText, NoMemory, Refusal, Text};
-use wm_showing::{is_space, refused};
+use wm_shared::{is_space, refused};
 use wm_tree::Tree;
 
 /// How many bytes a mark has at most.

@@ -1,8 +1,8 @@
 //! Moving a container in a direction.
 ghost use Rattle.std.specs.Prelude.{◌≡◌, Some, None, OnOk, OnErr, IfErr, false, true};
 ghost use Rattle.wm_focus.specs.Moves.{IsGoal, IsTurn, after_child, beside, entry, held_out, is_split_con, move_dir_refusal, move_dir_tree, near_end, out_refusal, out_tree, over_refusal, over_tree, runs_split, side_of, space_over, step_refusal, step_tree, turned};
-ghost use Rattle.wm_showing.specs.Refusing.{IsCause, full_error};
-ghost use Rattle.wm_showing.specs.Subject.{IsSubject};
+ghost use Rattle.wm_shared.specs.Refusing.{IsCause, full_error};
+ghost use Rattle.wm_shared.specs.Subject.{IsSubject};
 ghost use Rattle.wm_focus.specs.Swaps.{deep_error};
 ghost use Rattle.wm_focus.specs.Walks.{neighbour_at};
 ghost use Rattle.wm_tree.specs.Change.{is_split};
@@ -10,11 +10,11 @@ ghost use Rattle.wm_tree.specs.Move.{is_too_deep, moved, passed_by_move, share_i
 ghost use Rattle.wm_tree.specs.Sound.{IsSound};
 ghost use Rattle.wm_tree.specs.TreeValue.{is_tiled_con};
 
-use crate::rungs::{Aim, aimed, is_forward, nearest, runs_con};
+use crate::rungs::{Aim, aimed, nearest, runs_con};
 use wm_base::{ConId, Dir, ErrorText, Refusal};
 use wm_floats::shift;
-use wm_showing::{
-    enter, is_hidden, is_space, output_from, refused, remember, shown_on, space_name,
+use wm_shared::{
+    enter, is_forward, is_hidden, is_space, output_from, refused, remember, shown_on, space_name,
 };
 use wm_tree::{ConKind, Cursor, Place, Tree};
 

@@ -1,11 +1,11 @@
 //! Focusing the parent and the child of a container.
 ghost use Rattle.std.specs.Prelude.{◌≡◌, None, Some, OnOk, OnErr, IfErr};
 ghost use Rattle.wm_focus.specs.Parents.{focus_child_refusal, focus_child_tree, focus_parent_refusal, focus_parent_tree};
-ghost use Rattle.wm_showing.specs.Subject.{IsSubject};
+ghost use Rattle.wm_shared.specs.Subject.{IsSubject};
 ghost use Rattle.wm_tree.specs.Sound.{IsSound};
 
 use wm_base::{ConId, ErrorText, Refusal};
-use wm_showing::{is_hidden, is_space};
+use wm_shared::{is_hidden, is_space};
 use wm_tree::Tree;
 
 /// Raises the container's parent, which is a workspace for the containers at the top of it and for floating windows.

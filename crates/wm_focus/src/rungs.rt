@@ -1,9 +1,11 @@
 //! Climbing from a container along the nodes that hold it.
 ghost use Rattle.std.specs.Prelude.{◌≡◌};
-ghost use Rattle.wm_focus.specs.Rungs.{after, aimed, axis_of, before, dir_axis, far_end, first_id, is_forward, last_id, nearest, neighbour, rung, runs, runs_con};
+ghost use Rattle.wm_focus.specs.Rungs.{aimed, far_end, nearest, rung, runs, runs_con};
+ghost use Rattle.wm_shared.specs.Neighbours.{after, axis_of, before, dir_axis, first_id, is_forward, last_id, neighbour};
 ghost use Rattle.wm_focus.specs.Walks.{held};
 
-use wm_base::{Axis, ConId, Dir, Layout};
+use wm_base::{ConId, Dir};
+use wm_shared::{dir_axis, first_id, is_forward, last_id, layout_axis, neighbour};
 use wm_tree::{ConKind, Cursor, NodeKind};
 
 /// What is looked for at a node along the axis of a direction: the neighbour on that side of the child that holds a
@@ -72,7 +74,7 @@ pub(crate) fn aimed(
         return None;
     }
     match aim {
-        Aim::Beside => neighbour(d, child, row),
+        Aim::Beside => neighbour(d, child, &row),
         Aim::Around => far_end(d, row),
         Aim::Out => Some(child),
     }
@@ -84,7 +86,7 @@ pub(crate) fn runs(d: Dir, kind: &NodeKind) -> bool
 {
     match kind {
         NodeKind::Root { .. } | NodeKind::Output(_) => false,
-        NodeKind::Space(space) => axis(space.layout) == dir_axis(d),
+        NodeKind::Space(space) => layout_axis(space.layout) == dir_axis(d),
         NodeKind::Con(con) => runs_con(d, &con.kind),
     }
 }
@@ -94,48 +96,8 @@ pub(crate) fn runs_con(d: Dir, kind: &ConKind) -> bool
     ensures { result ≡ runs_con d kind.now }
 {
     match kind {
-        ConKind::Split { layout, .. } => axis(*layout) == dir_axis(d),
+        ConKind::Split { layout, .. } => layout_axis(*layout) == dir_axis(d),
         ConKind::Window { .. } | ConKind::Placeholder { .. } => false,
-    }
-}
-
-/// The axis along which a layout puts its children.
-fn axis(layout: Layout) -> Axis
-    ensures { result ≡ axis_of layout }
-{
-    match layout {
-        Layout::SplitH | Layout::Tabbed => Axis::Across,
-        Layout::SplitV | Layout::Stacked => Axis::Down,
-    }
-}
-
-fn dir_axis(d: Dir) -> Axis
-    ensures { result ≡ dir_axis d }
-{
-    match d {
-        Dir::Left | Dir::Right => Axis::Across,
-        Dir::Up | Dir::Down => Axis::Down,
-    }
-}
-
-/// Whether the direction is towards the end of a row.
-pub(crate) fn is_forward(d: Dir) -> bool
-    ensures { result ≡ is_forward d }
-{
-    match d {
-        Dir::Left | Dir::Up => false,
-        Dir::Right | Dir::Down => true,
-    }
-}
-
-/// The node's neighbour in the row on that side.
-fn neighbour(d: Dir, con: ConId, row: Cursor<'_>) -> Option<ConId>
-    ensures { result ≡ neighbour d con row.entry }
-{
-    if is_forward(d) {
-        after(row, con)
-    } else {
-        before(row, con)
     }
 }
 
@@ -148,44 +110,5 @@ fn far_end(d: Dir, row: Cursor<'_>) -> Option<ConId>
         first_id(&row)
     } else {
         last_id(row)
-    }
-}
-
-fn first_id(row: &Cursor<'_>) -> Option<ConId>
-    ensures { result ≡ first_id row.now }
-{
-    Some(row.part()?.id)
-}
-
-fn last_id(row: Cursor<'_>) -> Option<ConId>
-    ensures { result ≡ last_id row.entry }
-{
-    let part = row.part()?;
-    last_id(row.rest()).or(Some(part.id))
-}
-
-/// The node after this one in the row.
-fn after(row: Cursor<'_>, con: ConId) -> Option<ConId>
-    ensures { result ≡ after con row.entry }
-{
-    let part = row.part()?;
-    let rest = row.rest();
-    if part.id == con {
-        first_id(&rest)
-    } else {
-        after(rest, con)
-    }
-}
-
-/// The node before this one in the row.
-fn before(row: Cursor<'_>, con: ConId) -> Option<ConId>
-    ensures { result ≡ before con row.entry }
-{
-    let part = row.part()?;
-    let rest = row.rest();
-    if first_id(&rest) == Some(con) {
-        Some(part.id)
-    } else {
-        before(rest, con)
     }
 }

@@ -1,14 +1,14 @@
 //! Splitting containers, and the layouts of what holds them.
 ghost use Rattle.std.specs.Prelude.{◌≡◌, ◌≢◌, None, Some, OnOk, OnErr, IfErr};
-ghost use Rattle.wm_showing.specs.Refusing.{IsCause};
+ghost use Rattle.wm_shared.specs.Refusing.{IsCause};
 ghost use Rattle.wm_focus.specs.Splits.{asked_split, chosen, cycle_layout_refusal, cycle_layout_tree, gives_layout, has_no_second, is_plain_split, laid, layout_refusal, layouts_by, layouts_of, next_layout, other_split, set_layout_refusal, set_layout_tree, split_layouts, split_refusal, split_tree};
-ghost use Rattle.wm_showing.specs.Subject.{IsSubject};
+ghost use Rattle.wm_shared.specs.Subject.{IsSubject};
 ghost use Rattle.wm_tree.specs.Sound.{IsSound};
 ghost use Rattle.wm_tree.specs.declared.part.ConPart.{ConPart};
 
 use wm_base::{ConId, ErrorText, Layout, Refusal};
 use wm_grammar::{Cycle, LayoutArg, SplitArg};
-use wm_showing::{is_hidden, is_space, refused};
+use wm_shared::{is_hidden, is_space, refused};
 use wm_tree::{ConKind, Tree};
 
 /// A layout, and the last split layout.

@@ -1,7 +1,7 @@
 //! Exchanging the places of two containers, and moving one after another.
 ghost use Rattle.std.specs.Prelude.{◌≡◌, ◌≢◌, ◌&&◌, ◌||◌, Some, None, OnOk, OnErr, IfErr, false, true};
-ghost use Rattle.wm_showing.specs.Refusing.{IsCause};
-ghost use Rattle.wm_showing.specs.Subject.{IsSubject};
+ghost use Rattle.wm_shared.specs.Refusing.{IsCause};
+ghost use Rattle.wm_shared.specs.Subject.{IsSubject};
 ghost use Rattle.wm_focus.specs.Swaps.{beside_refusal, exchange_refusal, exchanged_with, is_part, is_window_kind, moved_after, move_to_mark_refusal, move_to_mark_tree, partner, partner_text, swap_refusal, swap_tree};
 ghost use Rattle.wm_spaces.specs.Sending.{sent_some, sent_some_refusal};
 ghost use Rattle.wm_tree.specs.Look.{con_kind, has, kind_of, only};
@@ -12,7 +12,7 @@ use crate::marks::marked;
 use crate::within::is_within;
 use wm_base::{ConId, ErrorText, Refusal, Text};
 use wm_grammar::SwapArg;
-use wm_showing::{is_hidden, is_space, refused};
+use wm_shared::{is_hidden, is_space, refused};
 use wm_spaces::send;
 use wm_tree::{ConKind, Place, Tree};
 

@@ -7,8 +7,6 @@ mod head;
 mod laws;
 mod message;
 mod partial;
-#[cfg(test)]
-mod tests;
 mod whole;
 
 pub use decoder::Decoder;

@@ -30,18 +30,3 @@ pub use batches::print;
 pub use command::Command;
 pub use refusal::ReadRefusal;
 pub use texts::{one_batch, one_reach, printed_again, read, readable};
-
-#[cfg(test)]
-mod corner_tests;
-#[cfg(test)]
-mod form_tests;
-#[cfg(test)]
-mod key_tests;
-#[cfg(test)]
-mod piece_tests;
-#[cfg(test)]
-mod size_tests;
-#[cfg(test)]
-mod target_form_tests;
-#[cfg(test)]
-mod told;

@@ -47,11 +47,6 @@ impl<V: Drop> IdMap<V> {
         }
     }
 
-    #[cfg(test)]
-    pub(crate) fn slots(&self) -> &Slab<(u32, V)> {
-        &self.slots
-    }
-
     /// The value of an id. `None` exactly where it has none.
     pub fn get(&self, id: u32) -> Option<&V>
         ensures { option_copied result ≡ lookup (is_at (nat_cmp id)) self.now }

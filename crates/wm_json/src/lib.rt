@@ -2,8 +2,6 @@
 #![tactic(auto)]
 
 mod replies;
-#[cfg(test)]
-mod tests;
 mod values;
 mod write;
 

@@ -36,8 +36,8 @@ use Rattle.wm_opens.proofs.SizeLemmas.{kept_border, kept_cycled, kept_gaps, kept
 use Rattle.wm_opens.proofs.SpaceLemmas.{kept_goal_sent, kept_goal_shown, kept_renamed, kept_sent_some, kept_space_goes}
 use Rattle.wm_opens.proofs.WordLemmas.{count-bare, count-taken_off}
 use Rattle.wm_floats.specs.Scratchpad.{show_scratchpad_tree}
-use Rattle.wm_showing.specs.Showing.{entered, focusing, shown_on}
-use Rattle.wm_showing.specs.Subject.{is_hidden, is_subject_kind}
+use Rattle.wm_shared.specs.Showing.{entered, focusing, shown_on}
+use Rattle.wm_shared.specs.Subject.{is_hidden, is_subject_kind}
 use Rattle.wm_spaces.specs.Outs.{output_at}
 use Rattle.wm_spaces.specs.Renaming.{renamed_space}
 use Rattle.wm_spaces.specs.Sending.{sent_some}

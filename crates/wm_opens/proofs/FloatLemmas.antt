@@ -10,8 +10,8 @@ use Rattle.wm_floats.specs.Placing.{place_at_tree}
 use Rattle.wm_floats.specs.Scratchpad.{brought, coming_place, first_brought, first_hidden, latest_or_first, put_away, show_next_tree, show_scratchpad_tree, to_scratchpad_tree}
 use Rattle.wm_floats.specs.Windows.{flag_set, full_set, restated, state_of, sticky_set}
 use Rattle.wm_opens.proofs.KeptLemmas.{Kept, kept_count, kept_edited, kept_moved, kept_raised, kept_refl, kept_trans}
-use Rattle.wm_showing.specs.Subject.{is_hidden}
-use Rattle.wm_spaces.specs.Sending.{rect_of}
+use Rattle.wm_shared.specs.Subject.{is_hidden}
+use Rattle.wm_shared.specs.Rects.{rect_of}
 use Rattle.wm_tree.proofs.CountLemmas.{count-same}
 use Rattle.wm_tree.proofs.RaiseLemmas.{count-unfull}
 use Rattle.wm_tree.specs.declared.kind.KindEdit.TheVariants as edits

@@ -15,7 +15,7 @@ use Rattle.wm_opens.proofs.TextLemmas.{holds_sure}
 use Rattle.wm_opens.proofs.TidyLemmas.{holds_free, tidy_append, tidy_edited, tidy_first_floats, tidy_first_kids, tidy_free, tidy_only, tidy_put, tidy_without}
 use Rattle.wm_opens.proofs.WordLemmas.{count-edited}
 use Rattle.wm_opens.specs.Opens.{Holds, IsGood, IsTidy}
-use Rattle.wm_showing.specs.Showing.{output_focused}
+use Rattle.wm_shared.specs.Showing.{output_focused}
 use Rattle.wm_spaces.proofs.ComingLemmas.{heir_output, named_output, still_output}
 use Rattle.wm_spaces.specs.Coming.{free_name, left_output, output_added_tree, output_gone, output_gone_some, output_removed_tree}
 use Rattle.wm_spaces.specs.Names.{output_named}

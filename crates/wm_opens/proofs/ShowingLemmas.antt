@@ -2,8 +2,8 @@
 use Rattle.std.proofs.Common.{ℕ, Bool, true, false, cond, List, Option, None, Some, refl}
 use Rattle.wm_base.specs.declared.ids.ConId.{ConId}
 use Rattle.wm_opens.proofs.KeptLemmas.{Kept, kept_along, kept_edited, kept_nodes, kept_raised, kept_refl, kept_trans}
-use Rattle.wm_showing.specs.Outputs.{output_of}
-use Rattle.wm_showing.specs.Showing.{current_some, entered, followed, focusing, output_focused, remembered, remembering, showing, showing_some, shown_on, shown_there, space_name, with_current}
+use Rattle.wm_shared.specs.Outputs.{output_of}
+use Rattle.wm_shared.specs.Showing.{current_some, entered, followed, focusing, output_focused, remembered, remembering, showing, showing_some, shown_on, shown_there, space_name, with_current}
 use Rattle.wm_tree.specs.Along.{gone_along}
 use Rattle.wm_tree.specs.declared.kind.KindEdit.TheVariants as edits
 use Rattle.wm_tree.specs.Look.{same}

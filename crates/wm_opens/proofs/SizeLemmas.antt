@@ -24,7 +24,7 @@ use Rattle.wm_sizes.specs.Gaps.{default_gapped, each_gapped, gapped, own_gapped,
 use Rattle.wm_sizes.specs.Resizing.{resize_tree}
 use Rattle.wm_sizes.specs.Tiled.{children_of, rung_deal, rung_tree, shares_set, tiled_tree}
 use Rattle.wm_sizes.specs.Windows.{border_set}
-use Rattle.wm_spaces.specs.Sending.{rect_of}
+use Rattle.wm_shared.specs.Rects.{rect_of}
 use Rattle.wm_tree.specs.declared.kind.KindEdit.TheVariants as edits
 use Rattle.wm_tree.specs.declared.part.ConState.{ConState}
 use Rattle.wm_tree.specs.declared.part.SpacePart.{SpacePart}

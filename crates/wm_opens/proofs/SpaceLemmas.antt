@@ -4,8 +4,8 @@ use Rattle.wm_base.specs.declared.ids.ConId.{ConId}
 use Rattle.wm_base.specs.declared.plan.OutputPlan.{OutputPlan}
 use Rattle.wm_opens.proofs.KeptLemmas.{Kept, kept_edited, kept_moved, kept_refl, kept_space_moved, kept_trans, kept_with_output, kept_with_space, kept_without_output}
 use Rattle.wm_opens.proofs.ShowingLemmas.{kept_output_focused, kept_remembering, kept_showing, kept_there, kept_with_shown}
-use Rattle.wm_showing.specs.declared.keys.Key.{Key}
-use Rattle.wm_showing.specs.Showing.{output_focused, shown_on, shown_there}
+use Rattle.wm_shared.specs.declared.keys.Key.{Key}
+use Rattle.wm_shared.specs.Showing.{output_focused, shown_on, shown_there}
 use Rattle.wm_spaces.specs.Coming.{free_name, left_output, output_added_tree, output_gone, output_gone_some, output_removed_tree}
 use Rattle.wm_spaces.specs.declared.targets.Goal.{Goal}
 use Rattle.wm_spaces.specs.declared.targets.Goal.TheVariants.{There, Absent, Refused}

@@ -36,11 +36,11 @@ use Rattle.wm_opens.proofs.SureFloats.{sure_float, sure_placed, sure_sink}
 use Rattle.wm_opens.proofs.SureLemmas.{Sure, may_move, not_full, sure_by, sure_edited, sure_exchanged, sure_moved, sure_raised, sure_refl, sure_trans, sure_wrapped}
 use Rattle.wm_opens.proofs.SureSpaces.{fits_all, none_of_two, sure_entered, sure_focusing, sure_output, sure_remembering, sure_sent_some, sure_space_goes}
 use Rattle.wm_opens.proofs.TidyLemmas.{tidy_edited}
-use Rattle.wm_showing.proofs.ShowLemmas.{workspace_is}
-use Rattle.wm_showing.specs.Outputs.{output_from}
-use Rattle.wm_showing.specs.Refusing.{error_if, full_error}
-use Rattle.wm_showing.specs.Showing.{entered, shown_on}
-use Rattle.wm_showing.specs.Subject.{IsSubject, is_hidden, is_space, is_subject_kind}
+use Rattle.wm_shared.proofs.ShowLemmas.{workspace_is}
+use Rattle.wm_shared.specs.Outputs.{output_from}
+use Rattle.wm_shared.specs.Refusing.{error_if, full_error}
+use Rattle.wm_shared.specs.Showing.{entered, shown_on}
+use Rattle.wm_shared.specs.Subject.{IsSubject, is_hidden, is_space, is_subject_kind}
 use Rattle.wm_spaces.proofs.OutLemmas.{at_by}
 use Rattle.wm_spaces.proofs.SendLemmas.{shown_space}
 use Rattle.wm_spaces.specs.Outs.{output_at}

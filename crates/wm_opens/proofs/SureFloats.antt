@@ -18,10 +18,10 @@ use Rattle.wm_opens.proofs.FloatLemmas.{kept_others}
 use Rattle.wm_opens.proofs.SureLemmas.{Sure, may_move, sure_by, sure_edited, sure_moved, sure_raised, sure_refl, sure_trans}
 use Rattle.wm_opens.proofs.SureSpaces.{fits_all, none_of_two}
 use Rattle.wm_opens.proofs.TidyLemmas.{tidy_unfull_but}
-use Rattle.wm_showing.proofs.ShowLemmas.{workspace_is}
-use Rattle.wm_showing.specs.Refusing.{full_error}
-use Rattle.wm_showing.specs.Subject.{IsSubject, is_hidden}
-use Rattle.wm_spaces.specs.Sending.{rect_of}
+use Rattle.wm_shared.proofs.ShowLemmas.{workspace_is}
+use Rattle.wm_shared.specs.Refusing.{full_error}
+use Rattle.wm_shared.specs.Subject.{IsSubject, is_hidden}
+use Rattle.wm_shared.specs.Rects.{rect_of}
 use Rattle.wm_tree.proofs.SoundLemmas.{sound-edited}
 use Rattle.wm_tree.specs.declared.kind.KindEdit.TheVariants as edits
 use Rattle.wm_tree.specs.declared.part.ConState.{ConState}

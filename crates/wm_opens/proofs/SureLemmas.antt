@@ -10,7 +10,7 @@ use Rattle.wm_opens.proofs.OpenLemmas.{IsAt, found_at, no_more, windows_tallied}
 use Rattle.wm_opens.proofs.TidyLemmas.{IsFreeAt, tidy_arriving, tidy_edited, tidy_exchanged, tidy_loosened, tidy_only, tidy_put, tidy_raised_in, tidy_sticky, tidy_unfull, tidy_without, tidy_wrapped, tidy_first_floats}
 use Rattle.wm_opens.proofs.WordLemmas.{count-loosened}
 use Rattle.wm_opens.specs.Opens.{IsTidy, is_fill, window_at, windows, windows_at}
-use Rattle.wm_showing.specs.Refusing.{full_error}
+use Rattle.wm_shared.specs.Refusing.{full_error}
 use Rattle.wm_focus.specs.Swaps.{is_window_kind}
 use Rattle.wm_tree.proofs.CountLemmas.{count-without, found_counted, tally-absent}
 use Rattle.wm_tree.proofs.ForestLemmas.{only_absent}

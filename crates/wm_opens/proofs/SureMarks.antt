@@ -14,7 +14,7 @@ use Rattle.wm_opens.proofs.KeptLemmas.{kept_count, kept_unmarked, kept_with_mark
 use Rattle.wm_opens.proofs.SureLemmas.{Sure, sure_by, sure_trans}
 use Rattle.wm_opens.proofs.TidyLemmas.{tidy_bare, tidy_taken_off, tidy_unmarked, tidy_with_marks}
 use Rattle.wm_opens.proofs.WordLemmas.{count-bare, count-taken_off}
-use Rattle.wm_showing.specs.Subject.{is_container}
+use Rattle.wm_shared.specs.Subject.{is_container}
 use Rattle.wm_tree.proofs.ChangeLemmas.{by_change}
 use Rattle.wm_tree.proofs.CountLemmas.{count-same}
 use Rattle.wm_tree.proofs.MarkLemmas.{sound-marked, sound-unmarked}

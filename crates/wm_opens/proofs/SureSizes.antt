@@ -18,7 +18,7 @@ use Rattle.wm_opens.proofs.SureLemmas.{Sure, sure_by, sure_edited, sure_refl, su
 use Rattle.wm_opens.proofs.SureSpaces.{fits_all, sure_focusing}
 use Rattle.wm_opens.proofs.TidyLemmas.{tidy_edited}
 use Rattle.wm_opens.specs.Opens.{IsTidy}
-use Rattle.wm_showing.specs.Refusing.{error_if}
+use Rattle.wm_shared.specs.Refusing.{error_if}
 use Rattle.wm_opens.proofs.SizeLemmas.{kept_default, kept_rung}
 use Rattle.wm_sizes.proofs.FamilyLemmas.{rung_family}
 use Rattle.wm_sizes.proofs.SetLemmas.{family_tiled, set_sound}
@@ -34,8 +34,8 @@ use Rattle.wm_sizes.specs.Gaps.{all_gapped, default_gapped, each_gapped, gapped,
 use Rattle.wm_sizes.specs.Resizing.{resize_refusal, resize_tree}
 use Rattle.wm_sizes.specs.Tiled.{cannot, children_of, lacks, length_of, rung_deal, rung_refusal, rung_tree, shares_set, tiled_refusal, tiled_tree}
 use Rattle.wm_sizes.specs.Windows.{border_set}
-use Rattle.wm_spaces.specs.Sending.{rect_of}
-use Rattle.wm_showing.specs.Subject.{is_hidden, is_space}
+use Rattle.wm_shared.specs.Rects.{rect_of}
+use Rattle.wm_shared.specs.Subject.{is_hidden, is_space}
 use Rattle.wm_tree.proofs.SoundLemmas.{sound-edited}
 use Rattle.wm_tree.specs.declared.kind.KindEdit.{KindEdit}
 use Rattle.wm_tree.specs.declared.kind.KindEdit.TheVariants as edits

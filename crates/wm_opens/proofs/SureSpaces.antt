@@ -9,16 +9,17 @@ use Rattle.wm_opens.proofs.SureLemmas.{IsNoCon, Sure, not_full, space_no_con, su
 use Rattle.wm_opens.proofs.TidyLemmas.{tidy_edited}
 use Rattle.wm_opens.proofs.WordLemmas.{count-edited}
 use Rattle.wm_opens.specs.Opens.{IsTidy}
-use Rattle.wm_showing.proofs.RiseLemmas.{remembered_same, there_same}
-use Rattle.wm_showing.proofs.ShowLemmas.{entered_listed, sound_current, sound_remembering, sound_there, space_is, workspace_is}
-use Rattle.wm_showing.specs.declared.keys.Key.{Key}
-use Rattle.wm_showing.specs.Outputs.{output_of}
-use Rattle.wm_showing.specs.Refusing.{full_error}
-use Rattle.wm_showing.specs.Showing.{current_some, entered, focusing, followed, output_focused, remembering, showing, showing_some, shown_on, shown_there, space_name, with_current}
-use Rattle.wm_showing.specs.Subject.{is_space}
+use Rattle.wm_shared.proofs.RiseLemmas.{remembered_same, there_same}
+use Rattle.wm_shared.proofs.ShowLemmas.{entered_listed, sound_current, sound_remembering, sound_there, space_is, workspace_is}
+use Rattle.wm_shared.specs.declared.keys.Key.{Key}
+use Rattle.wm_shared.specs.Outputs.{output_of}
+use Rattle.wm_shared.specs.Refusing.{full_error}
+use Rattle.wm_shared.specs.Showing.{current_some, entered, focusing, followed, output_focused, remembering, showing, showing_some, shown_on, shown_there, space_name, with_current}
+use Rattle.wm_shared.specs.Subject.{is_space}
 use Rattle.wm_spaces.proofs.KeptLemmas.{con_kept}
 use Rattle.wm_spaces.proofs.MoveLemmas.{free_here, freed_by, freed_new_by, held_on, moved_is}
-use Rattle.wm_spaces.proofs.SendLemmas.{con_there, ready}
+use Rattle.wm_spaces.proofs.SendLemmas.{ready}
+use Rattle.wm_shared.proofs.KidLemmas.{con_there}
 use Rattle.wm_spaces.proofs.ShowLemmas.{new_is}
 use Rattle.wm_spaces.proofs.StandLemmas.{home_output}
 use Rattle.wm_spaces.specs.Coming.{free_name}

@@ -31,8 +31,8 @@ use Rattle.wm_opens.proofs.SureSizes.{sure_border, sure_cycled, sure_format, sur
 use Rattle.wm_opens.proofs.SureSpaces.{sure_focusing, sure_goal_sent, sure_goal_shown, sure_renamed}
 use Rattle.wm_opens.proofs.TidyLemmas.{tidy_settled}
 use Rattle.wm_opens.specs.Opens.{Holds, IsGood, is_owned_of, is_window_of}
-use Rattle.wm_showing.specs.Showing.{focusing}
-use Rattle.wm_showing.specs.Subject.{IsSubject, is_container, is_hidden, is_space}
+use Rattle.wm_shared.specs.Showing.{focusing}
+use Rattle.wm_shared.specs.Subject.{IsSubject, is_container, is_hidden, is_space}
 use Rattle.wm_spaces.proofs.StandLemmas.{goal_by}
 use Rattle.wm_spaces.specs.Outs.{output_at}
 use Rattle.wm_spaces.specs.Renaming.{renamed_space}

@@ -7,8 +7,6 @@ mod frame;
 mod laws;
 mod paint;
 mod pixels;
-#[cfg(test)]
-mod tests;
 mod text;
 
 pub use canvas::Canvas;

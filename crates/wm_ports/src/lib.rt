@@ -10,6 +10,3 @@ pub use memory::{MemSink, MemSource};
 pub use port::{Failed, Sink, Source};
 pub use stream::{StdSink, StdSource};
 pub use whole::{ReadFault, read_to_limit, write_all};
-
-#[cfg(test)]
-mod tests;

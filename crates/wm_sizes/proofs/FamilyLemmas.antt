@@ -4,7 +4,7 @@ use Rattle.std.specs.Option.{option_or}
 use Rattle.std.specs.Prelude.{option_and_then}
 use Rattle.wm_base.specs.declared.geometry.Axis.{Axis}
 use Rattle.wm_base.specs.declared.ids.ConId.{ConId}
-use Rattle.wm_showing.proofs.DownLemmas.{Once, down_floats, down_kids, down_rest, once_floats, once_kids, once_rest}
+use Rattle.wm_shared.proofs.DownLemmas.{Once, down_floats, down_kids, down_rest, once_floats, once_kids, once_rest}
 use Rattle.wm_sizes.specs.Climbing.{climb, has_two, rung_at, rung_of, runs, up_floats, up_kids}
 use Rattle.wm_sizes.specs.declared.climbing.Climbed.{Climbed}
 use Rattle.wm_sizes.specs.declared.climbing.Rung.{Rung}

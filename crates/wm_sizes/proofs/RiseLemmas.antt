@@ -7,7 +7,7 @@ use Rattle.wm_base.specs.declared.plan.Border.{Border}
 use Rattle.wm_floats.specs.Windows.{rect_set, restated, state_of}
 use Rattle.wm_grammar.specs.declared.arguments.GapOp.{GapOp}
 use Rattle.wm_grammar.specs.declared.arguments.Side.{Side}
-use Rattle.wm_showing.proofs.RiseLemmas.{SameIds, ids_same}
+use Rattle.wm_shared.proofs.RiseLemmas.{SameIds, ids_same}
 use Rattle.wm_sizes.specs.Borders.{cycle_border_tree, next_border, set_border_tree, turned}
 use Rattle.wm_sizes.specs.Climbing.{rung_of, side_axis}
 use Rattle.wm_sizes.specs.Deals.{dealt, siblings}
@@ -21,7 +21,7 @@ use Rattle.wm_sizes.specs.Resizing.{resize_tree}
 use Rattle.wm_sizes.specs.Tiled.{children_of, rung_deal, rung_tree, shares_set, tiled_tree}
 use Rattle.wm_sizes.specs.Titles.{title_format_tree}
 use Rattle.wm_sizes.specs.Windows.{border_set}
-use Rattle.wm_spaces.specs.Sending.{rect_of}
+use Rattle.wm_shared.specs.Rects.{rect_of}
 use Rattle.wm_tree.specs.declared.part.ConState.{ConState}
 use Rattle.wm_tree.specs.declared.part.SpacePart.{SpacePart}
 use Rattle.wm_tree.specs.Ids.{IdsRise}

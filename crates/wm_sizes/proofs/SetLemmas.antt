@@ -2,7 +2,7 @@
 use Rattle.std.proofs.Common.{◌≡◌, ℕ, ◌+◌, ◌≤◌, Bool, true, false, cond, ◌||◌, List, [], ◌∷◌, refl, ap, sym, ◌∙◌, subst}
 use Rattle.std.specs.Prelude.{drop}
 use Rattle.wm_base.specs.declared.ids.ConId.{ConId}
-use Rattle.wm_focus.proofs.KidLemmas.{kid_of, spot_tiled, tiled_in}
+use Rattle.wm_shared.proofs.KidLemmas.{kid_of, spot_tiled, tiled_in}
 use Rattle.wm_sizes.proofs.BoolLemmas.{both}
 use Rattle.wm_sizes.proofs.HandLemmas.{fitting}
 use Rattle.wm_sizes.specs.declared.climbing.Rung.{Rung}

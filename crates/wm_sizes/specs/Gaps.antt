@@ -6,8 +6,8 @@ use Rattle.wm_base.specs.declared.errors.Refusal.{Refusal}
 use Rattle.wm_base.specs.declared.ids.ConId.{ConId}
 use Rattle.wm_grammar.specs.declared.arguments.GapOp.{GapOp}
 use Rattle.wm_grammar.specs.declared.arguments.GapOp.TheVariants.{Set, Plus, Minus}
-use Rattle.wm_showing.specs.Refusing.{error_if}
-use Rattle.wm_showing.specs.Subject.{is_hidden}
+use Rattle.wm_shared.specs.Refusing.{error_if}
+use Rattle.wm_shared.specs.Subject.{is_hidden}
 use Rattle.wm_sizes.specs.declared.gaps.Change.{Change}
 use Rattle.wm_tree.specs.declared.kind.KindEdit.TheVariants as edits
 use Rattle.wm_tree.specs.declared.part.SpacePart.{SpacePart}

@@ -1,7 +1,7 @@
 //! Borders of windows.
 ghost use Rattle.std.specs.Prelude.{◌≡◌, None, Some, OnOk, OnErr, IfErr};
 ghost use Rattle.wm_sizes.specs.Borders.{cycle_border_refusal, cycle_border_tree, is_wide, next_border, set_border_refusal, set_border_tree};
-ghost use Rattle.wm_showing.specs.Subject.{IsSubject};
+ghost use Rattle.wm_shared.specs.Subject.{IsSubject};
 ghost use Rattle.wm_tree.specs.Sound.{IsSound};
 
 use crate::windows::{look_refusal, put_border, state_of};

@@ -1,11 +1,11 @@
 //! Climbing from a container to the nearest node above it whose children stand along an axis.
 ghost use Rattle.std.specs.Prelude.{◌≡◌, true, false, MatchOption};
 ghost use Rattle.wm_tree.specs.Look.{first_kids, has, only};
-ghost use Rattle.wm_focus.specs.Rungs.{after, axis_of, before, first_id, is_forward, neighbour};
 ghost use Rattle.wm_sizes.specs.Climbing.{climb, has_two, rung_at, rung_of, runs, runs_con, side_axis};
 
-use wm_base::{Axis, ConId, Dir, Layout};
+use wm_base::{Axis, ConId, Dir};
 use wm_grammar::Side;
+use wm_shared::layout_axis;
 use wm_tree::{ConKind, Cursor, NodeKind, Part, Tree};
 
 /// A node with two or more children along an axis, and which of them is a container or holds it.
@@ -32,23 +32,13 @@ pub(crate) fn side_axis(side: Side) -> Axis
     }
 }
 
-/// The axis along which a layout puts its children.
-fn axis_of(layout: Layout) -> Axis
-    ensures { result ≡ axis_of layout }
-{
-    match layout {
-        Layout::SplitH | Layout::Tabbed => Axis::Across,
-        Layout::SplitV | Layout::Stacked => Axis::Down,
-    }
-}
-
 /// Whether a workspace or split puts its children along the axis.
 fn runs(axis: Axis, kind: &NodeKind) -> bool
     ensures { result ≡ runs axis kind.now }
 {
     match kind {
         NodeKind::Root { .. } | NodeKind::Output(_) => false,
-        NodeKind::Space(space) => axis_of(space.layout) == axis,
+        NodeKind::Space(space) => layout_axis(space.layout) == axis,
         NodeKind::Con(con) => runs_con(axis, &con.kind),
     }
 }
@@ -57,7 +47,7 @@ fn runs_con(axis: Axis, kind: &ConKind) -> bool
     ensures { result ≡ runs_con axis kind.now }
 {
     match kind {
-        ConKind::Split { layout, .. } => axis_of(*layout) == axis,
+        ConKind::Split { layout, .. } => layout_axis(*layout) == axis,
         ConKind::Window { .. } | ConKind::Placeholder { .. } => false,
     }
 }
@@ -133,57 +123,4 @@ pub(crate) fn kids_in<'a>(row: Cursor<'a>, id: ConId) -> Option<Cursor<'a>>
         return Some(kids);
     }
     kids_in(row.rest(), id)
-}
-
-/// Whether the direction is towards the end of a row.
-fn is_forward(d: Dir) -> bool
-    ensures { result ≡ is_forward d }
-{
-    match d {
-        Dir::Left | Dir::Up => false,
-        Dir::Right | Dir::Down => true,
-    }
-}
-
-/// The node's neighbour in the row on that side.
-pub(crate) fn neighbour(d: Dir, con: ConId, row: &Cursor<'_>) -> Option<ConId>
-    ensures { result ≡ neighbour d con row.now }
-{
-    if is_forward(d) {
-        after(row, con)
-    } else {
-        before(row, con)
-    }
-}
-
-fn first_id(row: &Cursor<'_>) -> Option<ConId>
-    ensures { result ≡ first_id row.now }
-{
-    Some(row.part()?.id)
-}
-
-/// The node after this one in the row.
-fn after(row: &Cursor<'_>, con: ConId) -> Option<ConId>
-    ensures { result ≡ after con row.now }
-{
-    let part = row.part()?;
-    let rest = row.rest();
-    if part.id == con {
-        first_id(&rest)
-    } else {
-        after(&rest, con)
-    }
-}
-
-/// The node before this one in the row.
-fn before(row: &Cursor<'_>, con: ConId) -> Option<ConId>
-    ensures { result ≡ before con row.now }
-{
-    let part = row.part()?;
-    let rest = row.rest();
-    if first_id(&rest) == Some(con) {
-        Some(part.id)
-    } else {
-        before(&rest, con)
-    }
 }

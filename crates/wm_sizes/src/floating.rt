@@ -2,13 +2,13 @@
 ghost use Rattle.std.specs.Prelude.{◌≡◌, ◌+ℤ◌, ◌-ℤ◌, pos, nat_abs, true, None, Some, OnOk, OnErr, IfErr};
 ghost use Rattle.wm_floats.specs.Places.{is_in_range};
 ghost use Rattle.wm_sizes.specs.Floating.{IsStep, as_rect, fits, grow_refusal, grow_tree, grown, has_place, has_sides, is_side, is_size, resize_set_refusal, resize_set_tree, step};
-ghost use Rattle.wm_showing.specs.Subject.{IsSubject};
+ghost use Rattle.wm_shared.specs.Subject.{IsSubject};
 ghost use Rattle.wm_tree.specs.Sound.{IsSound};
 
-use crate::windows::{put_rect, rect_of};
+use crate::windows::put_rect;
 use wm_base::{ConId, Dir, ErrorText, Rect, Refusal};
 use wm_grammar::Side;
-use wm_showing::{is_hidden, is_space};
+use wm_shared::{is_hidden, is_space, rect_of};
 use wm_tree::Tree;
 
 /// How long a side of a window is at most, in pixels.

@@ -3,7 +3,7 @@ ghost use Rattle.std.specs.Prelude.{◌≡◌, true, None, Some, OnOk, OnErr, If
 ghost use Rattle.wm_sizes.specs.Climbing.{rung_of, side_axis};
 ghost use Rattle.wm_sizes.specs.Laws.{IsSharedAnew};
 ghost use Rattle.wm_sizes.specs.Resizing.{resize_refusal, resize_tree};
-ghost use Rattle.wm_showing.specs.Subject.{IsSubject};
+ghost use Rattle.wm_shared.specs.Subject.{IsSubject};
 ghost use Rattle.wm_tree.specs.Sound.{IsSound};
 ghost use Rattle.wm_tree.specs.TreeValue.{is_tiled_con};
 
@@ -11,7 +11,7 @@ use crate::floating::grow_floating;
 use crate::tiled::{Growth, grow_tiled};
 use wm_base::{ConId, ErrorText, Refusal};
 use wm_grammar::Side;
-use wm_showing::{is_hidden, is_space};
+use wm_shared::{is_hidden, is_space};
 use wm_tree::Tree;
 
 /// Lets a container grow or shrink at a side. A floating window does so by `px` pixels. A tiled one, or the nearest node

@@ -1,6 +1,6 @@
 //! Commands on borders, gaps, titles and floating sizes, compared with tables written by hand.
 ghost use Rattle.std.specs.Prelude.{◌≡◌, IfOk};
-ghost use Rattle.wm_showing.specs.Subject.{IsSubject};
+ghost use Rattle.wm_shared.specs.Subject.{IsSubject};
 ghost use Rattle.wm_tree.specs.Place.{IsPlace};
 ghost use Rattle.wm_tree.specs.Sound.{IsOutputRect, IsSound};
 

@@ -9,11 +9,12 @@ ghost use Rattle.wm_tree.specs.Counts.{row_length};
 ghost use Rattle.wm_tree.specs.Look.{has, first_kids, only};
 ghost use Rattle.wm_tree.specs.Sound.{IsSound};
 
-use crate::climbing::{Rung, kids_in, neighbour, rung_of, side_axis};
+use crate::climbing::{Rung, kids_in, rung_of, side_axis};
 use crate::deals::{Deal, Sibling, amount};
 use wm_arrange::area_of;
 use wm_base::{Axis, ConId, ErrorText, Rect, Refusal};
 use wm_grammar::Side;
+use wm_shared::neighbour;
 use wm_tree::{Cursor, Tree};
 
 /// By how much a container grows or shrinks at a side: by hundredths of its parent where `ppt` is above 0, else by

@@ -1,7 +1,7 @@
 //! Title formats of windows.
 ghost use Rattle.std.specs.Prelude.{◌≡◌, None, OnOk, OnErr, IfErr};
-ghost use Rattle.wm_showing.specs.Refusing.{IsCause};
-ghost use Rattle.wm_showing.specs.Subject.{IsSubject};
+ghost use Rattle.wm_shared.specs.Refusing.{IsCause};
+ghost use Rattle.wm_shared.specs.Subject.{IsSubject};
 ghost use Rattle.wm_sizes.specs.Titles.{title_format_refusal, title_format_tree};
 ghost use Rattle.wm_tree.specs.Sound.{IsSound};
 

@@ -2,20 +2,11 @@
 ghost use Rattle.std.specs.Prelude.{◌≡◌};
 ghost use Rattle.wm_floats.specs.Windows.{natural_by, natural_of, rect_set, state_of};
 ghost use Rattle.wm_sizes.specs.Windows.{border_set, look_refusal};
-ghost use Rattle.wm_spaces.specs.Sending.{rect_of};
 ghost use Rattle.wm_tree.specs.Sound.{IsSound};
 
 use wm_base::{Border, ConId, ErrorText, Rect, Refusal, Size};
-use wm_showing::is_space;
+use wm_shared::is_space;
 use wm_tree::{ConKind, ConState, Tree};
-
-/// Where no window is.
-const NOWHERE: Rect = Rect {
-    x: 0,
-    y: 0,
-    w: 0,
-    h: 0,
-};
 
 /// The natural size of a window. `None` exactly where it is a split or a placeholder.
 fn natural_by(kind: &ConKind) -> Option<Size>
@@ -51,16 +42,6 @@ pub(crate) fn state_of(t: &Tree, con: ConId) -> Option<ConState>
     ensures { result ≡ state_of con t.now }
 {
     Some(t.container(con)?.state)
-}
-
-/// The outer rectangle of a floating window.
-pub(crate) fn rect_of(t: &Tree, con: ConId) -> Rect
-    ensures { result ≡ rect_of con t.now }
-{
-    match t.container(con) {
-        Some(part) => part.state.rect.unwrap_or(NOWHERE),
-        None => NOWHERE,
-    }
 }
 
 /// Gives the container this border.

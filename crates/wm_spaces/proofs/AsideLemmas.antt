@@ -1,7 +1,7 @@
 -- Outputs show workspaces of their own, so one that its output does not show is not shown.
 use Rattle.std.proofs.Common.{◌≡◌, ℕ, ◌+◌, ◌≤◌, Bool, true, false, cond, ◌||◌, List, refl, ap, sym, ◌∙◌, subst, arith}
 use Rattle.wm_base.specs.declared.ids.ConId.{ConId}
-use Rattle.wm_spaces.proofs.StandLemmas.{stands_has, stands_on, of_output}
+use Rattle.wm_shared.proofs.StandingLemmas.{stands_has, stands_on, of_output}
 use Rattle.wm_tree.proofs.AttachLemmas.{has_row}
 use Rattle.wm_tree.proofs.CountLemmas.{counted}
 use Rattle.wm_tree.proofs.FocusLemmas.{outputs_of}

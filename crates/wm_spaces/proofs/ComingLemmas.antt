@@ -3,7 +3,7 @@ use Rattle.std.proofs.Common.{◌≡◌, ℕ, zero, suc, ◌+◌, ◌-◌, ◌<�
 use Rattle.std.specs.Prelude.{is_some}
 use Rattle.std.specs.Fmt.{decimal}
 use Rattle.wm_base.specs.declared.ids.ConId.{ConId}
-use Rattle.wm_showing.specs.Showing.{output_focused, space_name, with_current}
+use Rattle.wm_shared.specs.Showing.{output_focused, space_name, with_current}
 use Rattle.wm_spaces.specs.Coming.{free_from, left_output}
 use Rattle.wm_spaces.specs.Names.{output_called, output_in_row, output_named, space_named}
 use Rattle.wm_tree.proofs.OutputLemmas.{yields}

@@ -7,5 +7,4 @@ pub mod OutLemmas
 pub mod RiseLemmas
 pub mod SendLemmas
 pub mod ShowLemmas
-pub mod SpaceOfLemmas
 pub mod StandLemmas

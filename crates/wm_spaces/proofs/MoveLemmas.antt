@@ -1,13 +1,14 @@
 -- Moving a workspace to another output keeps what holds of every tree.
 use Rattle.std.proofs.Common.{◌≡◌, ℕ, ◌≤◌, Bool, true, false, cond, ◌||◌, List, Option, None, Some, refl, ap, sym, ◌∙◌, subst, arith}
 use Rattle.wm_base.specs.declared.ids.ConId.{ConId}
-use Rattle.wm_showing.proofs.ShowLemmas.{space_is}
-use Rattle.wm_showing.proofs.SpaceLemmas.{placed}
-use Rattle.wm_showing.specs.declared.keys.Key.{Key}
-use Rattle.wm_showing.specs.Showing.{shown_on}
-use Rattle.wm_showing.specs.Subject.{is_space}
+use Rattle.wm_shared.proofs.ShowLemmas.{space_is}
+use Rattle.wm_shared.proofs.SpaceLemmas.{placed}
+use Rattle.wm_shared.specs.declared.keys.Key.{Key}
+use Rattle.wm_shared.specs.Showing.{shown_on}
+use Rattle.wm_shared.specs.Subject.{is_space}
 use Rattle.wm_spaces.proofs.AsideLemmas.{aside, found_only, not_shown, one_output}
-use Rattle.wm_spaces.proofs.StandLemmas.{but_picked, of_output, row_holds, stands_has, stands_space}
+use Rattle.wm_spaces.proofs.StandLemmas.{but_picked, row_holds}
+use Rattle.wm_shared.proofs.StandingLemmas.{of_output, stands_has, stands_space}
 use Rattle.wm_spaces.specs.Moving.{IsFree, aside_refusal, other_refusal, other_space, set_aside, showing_other}
 use Rattle.wm_spaces.specs.Targets.{spaces_of}
 use Rattle.wm_tree.proofs.AttachLemmas.{has_row}

@@ -1,8 +1,8 @@
 -- The numbers of names, and the first or last of workspaces.
 use Rattle.std.proofs.Common.{◌≡◌, ℕ, ◌+◌, ◌-◌, ◌*◌, ◌<◌, ◌≤◌, Bool, true, false, cond, leb, List, [], ◌∷◌, Option, None, Some, refl, arith}
 use Rattle.std.proofs.lemmas.Bool.Decides.{nat_tests}
-use Rattle.wm_showing.specs.declared.keys.Key.{Key}
-use Rattle.wm_showing.specs.Keys.{with_key}
+use Rattle.wm_shared.specs.declared.keys.Key.{Key}
+use Rattle.wm_shared.specs.Keys.{with_key}
 use Rattle.wm_spaces.specs.Order.{best_with, better, is_digit, number_on, small}
 
 -- more digits make no smaller number

@@ -6,11 +6,11 @@ use Rattle.wm_base.specs.declared.geometry.Dir.{Dir}
 use Rattle.wm_base.specs.declared.ids.ConId.{ConId}
 use Rattle.wm_grammar.specs.declared.arguments.OutArg.{OutArg}
 use Rattle.wm_grammar.specs.declared.arguments.OutArg.TheVariants as outs
-use Rattle.wm_showing.proofs.KeyLemmas.{listed_by}
-use Rattle.wm_showing.proofs.SpaceLemmas.{placed, space_of_node}
-use Rattle.wm_showing.specs.declared.keys.Key.{Key}
-use Rattle.wm_showing.specs.Keys.{least}
-use Rattle.wm_showing.specs.Outputs.{keys_beyond, nearest_to, output_from, output_in, output_of}
+use Rattle.wm_shared.proofs.KeyLemmas.{listed_by}
+use Rattle.wm_shared.proofs.SpaceLemmas.{placed, space_of_node}
+use Rattle.wm_shared.specs.declared.keys.Key.{Key}
+use Rattle.wm_shared.specs.Keys.{least}
+use Rattle.wm_shared.specs.Outputs.{keys_beyond, nearest_to, output_from, output_in, output_of}
 use Rattle.wm_spaces.proofs.ComingLemmas.{named_output}
 use Rattle.wm_spaces.specs.Outs.{next_in, output_at}
 use Rattle.wm_tree.proofs.OutputRows.{first_there}

@@ -1,10 +1,10 @@
 -- The commands on workspaces and outputs let ids rise.
 use Rattle.std.proofs.Common.{ℕ, Bool, true, false, cond, List, Option, None, Some}
 use Rattle.wm_base.specs.declared.ids.ConId.{ConId}
-use Rattle.wm_showing.proofs.RiseLemmas.{ids_same, remembered_same, showing_same, there_same}
+use Rattle.wm_shared.proofs.RiseLemmas.{ids_same, remembered_same, showing_same, there_same}
 use Rattle.wm_base.specs.declared.plan.OutputPlan.{OutputPlan}
-use Rattle.wm_showing.specs.declared.keys.Key.{Key}
-use Rattle.wm_showing.specs.Showing.{output_focused, remembering, showing, shown_on, shown_there, space_name, with_current}
+use Rattle.wm_shared.specs.declared.keys.Key.{Key}
+use Rattle.wm_shared.specs.Showing.{output_focused, remembering, showing, shown_on, shown_there, space_name, with_current}
 use Rattle.wm_spaces.specs.Coming.{left_output, output_added_tree, output_gone, output_gone_some, free_name}
 use Rattle.wm_spaces.specs.declared.targets.Goal.{Goal}
 use Rattle.wm_spaces.specs.declared.targets.Goal.TheVariants.{There, Absent, Refused}

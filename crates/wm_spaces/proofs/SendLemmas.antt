@@ -1,14 +1,17 @@
 -- The place to which a container is sent is one where it may go.
 use Rattle.std.proofs.Common.{◌≡◌, ◌≢◌, Bool, true, false, cond, ◌||◌, not, inl, inr, List, Option, None, Some, refl, ap, sym, ◌∙◌, subst}
 use Rattle.wm_base.specs.declared.ids.ConId.{ConId}
-use Rattle.wm_showing.proofs.ShowLemmas.{space_is}
-use Rattle.wm_showing.proofs.SpaceLemmas.{IsSpaceIn, not_within}
-use Rattle.wm_showing.specs.Refusing.{full_error, refusal_by}
-use Rattle.wm_showing.specs.Showing.{shown_on}
-use Rattle.wm_showing.specs.Subject.{is_space}
-use Rattle.wm_spaces.proofs.SpaceOfLemmas.{IsLow, LowKind, below_space}
-use Rattle.wm_spaces.proofs.StandLemmas.{shown_stands_on, stands_space}
-use Rattle.wm_spaces.specs.Sending.{output_part_of, rect_of, sent_place, sent_refusal, shifted}
+use Rattle.wm_shared.proofs.KidLemmas.{con_there}
+use Rattle.wm_shared.proofs.ShowLemmas.{space_is}
+use Rattle.wm_shared.proofs.SpaceLemmas.{IsSpaceIn, not_within}
+use Rattle.wm_shared.specs.Refusing.{full_error, refusal_by}
+use Rattle.wm_shared.specs.Showing.{shown_on}
+use Rattle.wm_shared.specs.Subject.{is_space}
+use Rattle.wm_shared.proofs.SpaceOfLemmas.{IsLow, LowKind, below_space}
+use Rattle.wm_spaces.proofs.StandLemmas.{shown_stands_on}
+use Rattle.wm_shared.proofs.StandingLemmas.{stands_space}
+use Rattle.wm_spaces.specs.Sending.{sent_place, sent_refusal, shifted}
+use Rattle.wm_shared.specs.Rects.{output_part_of, rect_of}
 use Rattle.wm_tree.proofs.AlongLemmas.{space_there}
 use Rattle.wm_tree.proofs.ForestLemmas.{first_held_end, only_absent}
 use Rattle.wm_tree.proofs.LeafLaws.{first_there}
@@ -104,13 +107,6 @@ con_low (Some part) ok = by_kind part.kind ok
     by_kind (Output o) ok = absurd (ok refl)
     by_kind (Space w) ok = absurd (ok refl)
     by_kind (Con c) ok = tt
-
-pub con_there : (c : ConId) (f : Forest) → kind_by con_kind (first_part (only c f)) ≢ None → has c f ≡ true
-con_there c f ok = by_test (has c f) refl
-  where
-    by_test : (b : Bool) → has c f ≡ b → has c f ≡ true
-    by_test true e = e
-    by_test false e = absurd (ok (ap (λ g. kind_by con_kind (first_part g)) (only_absent c f e)))
 
 same_one : (o : Option ConId) → same_space o o ≡ true
 same_one None = refl

@@ -3,9 +3,10 @@ use Rattle.std.proofs.Common.{◌≡◌, true, false, List, ℕ, Option, ap, sub
 use Rattle.std.specs.Option.{option_or}
 use Rattle.wm_base.specs.declared.errors.Refusal.{Refusal}
 use Rattle.wm_base.specs.declared.ids.ConId.{ConId}
-use Rattle.wm_showing.specs.Refusing.{IsCause, full_error, refusal_by}
-use Rattle.wm_showing.specs.Subject.{is_space}
-use Rattle.wm_spaces.proofs.StandLemmas.{new_stands, stands_space}
+use Rattle.wm_shared.specs.Refusing.{IsCause, full_error, refusal_by}
+use Rattle.wm_shared.specs.Subject.{is_space}
+use Rattle.wm_spaces.proofs.StandLemmas.{new_stands}
+use Rattle.wm_shared.proofs.StandingLemmas.{stands_space}
 use Rattle.wm_tree.specs.declared.place.TreeRefusal.{TreeRefusal}
 use Rattle.wm_tree.specs.declared.place.TreeRefusal.TheVariants as refusals
 use Rattle.wm_tree.specs.Look.{has}

@@ -6,8 +6,8 @@ use Rattle.wm_base.specs.declared.errors.Refusal.{Refusal}
 use Rattle.wm_base.specs.declared.errors.Refusal.TheVariants.{NameTaken, NoTarget}
 use Rattle.wm_base.specs.declared.ids.ConId.{ConId}
 use Rattle.wm_base.specs.declared.plan.OutputPlan.{OutputPlan}
-use Rattle.wm_showing.specs.Refusing.{full_error}
-use Rattle.wm_showing.specs.Showing.{output_focused}
+use Rattle.wm_shared.specs.Refusing.{full_error}
+use Rattle.wm_shared.specs.Showing.{output_focused}
 use Rattle.wm_spaces.specs.Names.{output_named, space_named}
 use Rattle.wm_tree.specs.Look.{same}
 use Rattle.wm_tree.specs.Outputs.{heir, passed_by_output, with_output, without_output}

@@ -2,10 +2,10 @@
 use Rattle.std.specs.Prelude.{◌≡◌, false, true, if◌then◌else◌, Option, None, Some}
 use Rattle.wm_base.specs.declared.errors.Refusal.{Refusal}
 use Rattle.wm_base.specs.declared.ids.ConId.{ConId}
-use Rattle.wm_showing.specs.declared.keys.Key.{Key}
-use Rattle.wm_showing.specs.Refusing.{full_error}
-use Rattle.wm_showing.specs.Showing.{shown_on}
-use Rattle.wm_showing.specs.Subject.{is_space}
+use Rattle.wm_shared.specs.declared.keys.Key.{Key}
+use Rattle.wm_shared.specs.Refusing.{full_error}
+use Rattle.wm_shared.specs.Showing.{shown_on}
+use Rattle.wm_shared.specs.Subject.{is_space}
 use Rattle.wm_spaces.specs.declared.order.Pick.TheVariants as picking
 use Rattle.wm_spaces.specs.Coming.{free_name}
 use Rattle.wm_spaces.specs.Order.{best_with, keys_in}

@@ -1,8 +1,8 @@
 -- The order of workspaces: by the number with which the name begins, those without one last, and then by id.
 use Rattle.std.specs.Prelude.{ℕ, ◌+◌, ◌-◌, ◌*◌, Bool, true, false, ◌&&◌, ◌==◌, nat_le, not, if◌then◌else◌, List, [], ◌∷◌, Option, None, Some}
 use Rattle.wm_base.specs.declared.ids.ConId.{ConId}
-use Rattle.wm_showing.specs.declared.keys.Key.{Key}
-use Rattle.wm_showing.specs.Keys.{comes_before, lesser, with_key}
+use Rattle.wm_shared.specs.declared.keys.Key.{Key}
+use Rattle.wm_shared.specs.Keys.{comes_before, lesser, with_key}
 use Rattle.wm_spaces.specs.declared.order.Pick.{Pick}
 use Rattle.wm_spaces.specs.declared.order.Pick.TheVariants as picking
 use Rattle.wm_tree.specs.declared.part.SpacePart.{SpacePart}

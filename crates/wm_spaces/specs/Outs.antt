@@ -4,7 +4,7 @@ use Rattle.std.specs.Option.{option_or}
 use Rattle.wm_base.specs.declared.ids.ConId.{ConId}
 use Rattle.wm_grammar.specs.declared.arguments.OutArg.{OutArg}
 use Rattle.wm_grammar.specs.declared.arguments.OutArg.TheVariants as outs
-use Rattle.wm_showing.specs.Outputs.{output_from, output_of}
+use Rattle.wm_shared.specs.Outputs.{output_from, output_of}
 use Rattle.wm_spaces.specs.Names.{output_named}
 use Rattle.wm_tree.specs.Forest.{Forest}
 use Rattle.wm_tree.specs.Look.{first_kids, node_in, nth_id, rest_of}

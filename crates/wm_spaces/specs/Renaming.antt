@@ -4,7 +4,7 @@ use Rattle.wm_base.specs.declared.errors.ErrorText.TheVariants as texts
 use Rattle.wm_base.specs.declared.errors.Refusal.{Refusal}
 use Rattle.wm_base.specs.declared.errors.Refusal.TheVariants.{NameTaken, NoTarget}
 use Rattle.wm_base.specs.declared.ids.ConId.{ConId}
-use Rattle.wm_showing.specs.Refusing.{error_if}
+use Rattle.wm_shared.specs.Refusing.{error_if}
 use Rattle.wm_spaces.specs.Names.{is_reserved, other_has, space_named}
 use Rattle.wm_tree.specs.declared.kind.KindEdit.TheVariants as edits
 use Rattle.wm_tree.specs.TreeValue.{TreeValue, shown}

@@ -1,5 +1,5 @@
 -- Sending containers to other workspaces.
-use Rattle.std.specs.Prelude.{ℕ, ℤ, pos, negsuc, ◌+ℤ◌, ◌-ℤ◌, int_lt, not, if◌then◌else◌, List, Option, None, Some, option_and_then}
+use Rattle.std.specs.Prelude.{ℕ, ◌+ℤ◌, ◌-ℤ◌, not, if◌then◌else◌, List, Option, None, Some}
 use Rattle.std.specs.Option.{option_or}
 use Rattle.wm_base.specs.declared.errors.ErrorText.TheVariants as texts
 use Rattle.wm_base.specs.declared.errors.Refusal.{Refusal}
@@ -7,50 +7,27 @@ use Rattle.wm_base.specs.declared.errors.Refusal.TheVariants.{NoTarget}
 use Rattle.wm_base.specs.declared.geometry.Rect.{Rect}
 use Rattle.wm_base.specs.declared.ids.ConId.{ConId}
 use Rattle.wm_grammar.specs.declared.arguments.Target.{Target}
-use Rattle.wm_showing.specs.Outputs.{output_of}
-use Rattle.wm_showing.specs.Refusing.{error_if, full_error}
-use Rattle.wm_showing.specs.Showing.{shown_on}
-use Rattle.wm_showing.specs.Subject.{is_hidden, is_space}
+use Rattle.wm_shared.specs.Rects.{held, output_part_of, rect_of}
+use Rattle.wm_shared.specs.Refusing.{error_if, full_error}
+use Rattle.wm_shared.specs.Showing.{shown_on}
+use Rattle.wm_shared.specs.Subject.{is_hidden, is_space}
 use Rattle.wm_spaces.specs.declared.targets.Goal.{Goal}
 use Rattle.wm_spaces.specs.declared.targets.Goal.TheVariants.{There, Absent, Refused}
 use Rattle.wm_spaces.specs.Targets.{goal_of, home}
-use Rattle.wm_tree.specs.declared.part.ConPart.{ConPart}
 use Rattle.wm_tree.specs.declared.part.OutputPart.{OutputPart}
 use Rattle.wm_tree.specs.declared.place.Place.{Place}
 use Rattle.wm_tree.specs.declared.place.Place.TheVariants.{After, Last, Float}
-use Rattle.wm_tree.specs.Along.{nowhere}
-use Rattle.wm_tree.specs.Look.{con_kind, kind_of, output_kind}
 use Rattle.wm_tree.specs.Move.{apart, moved, passed_by_move}
 use Rattle.wm_tree.specs.Outputs.{passed_by_space, with_space}
 use Rattle.wm_tree.specs.TreeValue.{TreeValue, id, is_tiled_con, leaf, or_id}
 
 -- ---- rectangles
 
--- the nearest number that a place may have
-abbrev pub held : ℤ → ℤ
-held z = if int_lt z (negsuc 131071) then negsuc 131071 else if int_lt (pos 131071) z then pos 131071 else z
-
 -- the rectangle on another output: shifted by the difference of their places
 abbrev pub shifted : Option OutputPart → Option OutputPart → Rect → Rect
 shifted None to r = r
 shifted (Some a) None r = r
 shifted (Some a) (Some b) r = record { x = held (r.x +ℤ (b.rect.x -ℤ a.rect.x)); y = held (r.y +ℤ (b.rect.y -ℤ a.rect.y)); w = r.w; h = r.h }
-
--- the output of a container or workspace, as it is
-abbrev pub output_part_of : ConId → TreeValue → Option OutputPart
-output_part_of c t = option_and_then (λ (o : ConId). kind_of output_kind o t.nodes) (output_of c t)
-
-abbrev pub or_nowhere : Option Rect → Rect
-or_nowhere None = nowhere
-or_nowhere (Some r) = r
-
-abbrev pub state_rect : Option ConPart → Rect
-state_rect None = nowhere
-state_rect (Some part) = or_nowhere part.state.rect
-
--- the outer rectangle of a floating window
-abbrev pub rect_of : ConId → TreeValue → Rect
-rect_of c t = state_rect (kind_of con_kind c t.nodes)
 
 -- ---- sending
 

@@ -2,8 +2,8 @@
 ghost use Rattle.std.specs.Prelude.{◌≡◌, ◌≤◌, ◌+◌, None, Some, true, IfOk, OnOk, OnErr, IfErr, length, is_some};
 ghost use Rattle.std.specs.Fmt.{decimal};
 ghost use Rattle.wm_base.specs.declared.errors.Refusal.TheVariants as refusals;
-ghost use Rattle.wm_showing.specs.Refusing.{IsCause};
-ghost use Rattle.wm_showing.specs.Showing.{output_focused};
+ghost use Rattle.wm_shared.specs.Refusing.{IsCause};
+ghost use Rattle.wm_shared.specs.Showing.{output_focused};
 ghost use Rattle.wm_spaces.specs.Coming.{free_from, free_name, left_output, output_added_refusal, output_added_tree, output_gone, output_removed_refusal, output_removed_tree};
 ghost use Rattle.wm_tree.specs.Counts.{but};
 ghost use Rattle.wm_tree.specs.Look.{nth_id};
@@ -13,7 +13,7 @@ ghost use Rattle.wm_tree.specs.Sound.{IsOutputRect, IsSound};
 use crate::names::{output_named, space_named};
 use std::alloc::Global;
 use wm_base::{ConId, ErrorText, NoMemory, OutputPlan, Refusal, Text, TextRefusal};
-use wm_showing::{enter_output, refused};
+use wm_shared::{enter_output, refused};
 use wm_tree::{Cursor, Tree};
 
 /// How many workspaces a tree has at most.

@@ -1,8 +1,8 @@
 //! Moving workspaces to other outputs.
 ghost use Rattle.std.specs.Prelude.{◌≡◌, Some, None, true, OnOk, OnErr, IfErr};
-ghost use Rattle.wm_showing.specs.Refusing.{IsCause};
-ghost use Rattle.wm_showing.specs.Showing.{shown_there};
-ghost use Rattle.wm_showing.specs.Subject.{is_space};
+ghost use Rattle.wm_shared.specs.Refusing.{IsCause};
+ghost use Rattle.wm_shared.specs.Showing.{shown_there};
+ghost use Rattle.wm_shared.specs.Subject.{is_space};
 ghost use Rattle.wm_spaces.specs.Moving.{IsFree, aside_refusal, move_workspace_refusal, move_workspace_tree, other_refusal, other_space, set_aside, showing_other};
 ghost use Rattle.wm_tree.specs.Outputs.{IsNotShown, IsOutput, space_moved};
 ghost use Rattle.wm_tree.specs.Sound.{IsSound};
@@ -13,7 +13,7 @@ use crate::order::{Pick, best_in};
 use crate::targets::node_at;
 use std::alloc::Global;
 use wm_base::{ConId, Refusal};
-use wm_showing::{Key, refused, remember, show_there, shown_on, space_name};
+use wm_shared::{Key, refused, remember, show_there, shown_on, space_name};
 use wm_tree::Tree;
 
 /// Puts the workspace last on the output and shows it there. The output that showed it shows the first of its other

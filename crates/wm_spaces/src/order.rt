@@ -1,11 +1,11 @@
 //! The order of workspaces: by the number with which the name begins, those without one last, and then by id.
 ghost use Rattle.std.specs.Prelude.{◌≡◌};
-ghost use Rattle.wm_showing.specs.Keys.{comes_before};
+ghost use Rattle.wm_shared.specs.Keys.{comes_before};
 ghost use Rattle.wm_spaces.specs.Order.{best_on, best_with, better, greater, is_digit, key_if, keys_in, num, number_on, picks, place_of, small, space_key};
 ghost use Rattle.wm_tree.specs.Look.{space_kind};
 
 use wm_base::ConId;
-use wm_showing::{Key, lesser};
+use wm_shared::{Key, lesser};
 use wm_tree::{Cursor, NodeKind, Part};
 
 /// The greatest number with which a workspace's name begins.

@@ -1,7 +1,7 @@
 //! Renaming workspaces.
 ghost use Rattle.std.specs.Prelude.{◌≡◌, None, Some, OnOk, OnErr, IfErr};
 ghost use Rattle.std.specs.Option.{option_copied};
-ghost use Rattle.wm_showing.specs.Refusing.{IsCause};
+ghost use Rattle.wm_shared.specs.Refusing.{IsCause};
 ghost use Rattle.wm_spaces.specs.Renaming.{rename_refusal, rename_tree, renamed_space, renaming_refusal};
 ghost use Rattle.wm_tree.specs.Sound.{IsSound};
 

@@ -1,10 +1,11 @@
 //! Sending containers to other workspaces.
 ghost use Rattle.std.specs.Prelude.{◌≡◌, ◌≢◌, ◌+ℤ◌, ◌-ℤ◌, None, Some, true, OnOk, OnErr, IfErr};
 ghost use Rattle.std.specs.Option.{option_copied};
-ghost use Rattle.wm_showing.specs.Refusing.{IsCause};
-ghost use Rattle.wm_showing.specs.Showing.{shown_on};
-ghost use Rattle.wm_showing.specs.Subject.{IsSubject, is_space};
-ghost use Rattle.wm_spaces.specs.Sending.{held, output_part_of, rect_of, send_to_output_refusal, send_to_output_tree, send_to_refusal, send_to_tree, sent, sent_new, sent_new_refusal, sent_place, sent_refusal, shifted};
+ghost use Rattle.wm_shared.specs.Refusing.{IsCause};
+ghost use Rattle.wm_shared.specs.Showing.{shown_on};
+ghost use Rattle.wm_shared.specs.Subject.{IsSubject, is_space};
+ghost use Rattle.wm_spaces.specs.Sending.{send_to_output_refusal, send_to_output_tree, send_to_refusal, send_to_tree, sent, sent_new, sent_new_refusal, sent_place, sent_refusal, shifted};
+ghost use Rattle.wm_shared.specs.Rects.{held, output_part_of, rect_of};
 ghost use Rattle.wm_tree.specs.Look.{con_kind, kind_of};
 ghost use Rattle.wm_tree.specs.Move.{apart};
 ghost use Rattle.wm_tree.specs.Outputs.{IsOutput};
@@ -13,34 +14,8 @@ ghost use Rattle.wm_tree.specs.Sound.{IsSound};
 use crate::targets::{Goal, find_goal, home};
 use wm_base::{ConId, ErrorText, Rect, Refusal, Text};
 use wm_grammar::Target;
-use wm_showing::{is_hidden, is_space, output_of, refused, shown_on};
+use wm_shared::{held, is_hidden, is_space, output_part_of, rect_of, refused, shown_on};
 use wm_tree::{OutputPart, Place, Tree};
-
-/// The least and the greatest number of a place.
-const LEAST: i64 = -131_072;
-
-const GREATEST: i64 = 131_071;
-
-/// Where no window is.
-const NOWHERE: Rect = Rect {
-    x: 0,
-    y: 0,
-    w: 0,
-    h: 0,
-};
-
-/// The nearest number that a place may have.
-fn held(n: i64) -> i32
-    ensures { result ≡ held n }
-{
-    if n < LEAST {
-        LEAST as i32
-    } else if n > GREATEST {
-        GREATEST as i32
-    } else {
-        n as i32
-    }
-}
 
 /// How far it is from one number to another.
 fn difference(from: i32, to: i32) -> i64
@@ -68,23 +43,6 @@ fn shifted(from: Option<&OutputPart>, to: Option<&OutputPart>, r: Rect) -> Rect
             h: r.h,
         },
         _ => r,
-    }
-}
-
-/// The output of a container or workspace, as it is.
-fn output_part_of(t: &Tree, con: ConId) -> Option<&OutputPart>
-    ensures { option_copied result ≡ output_part_of con t.now }
-{
-    t.output(output_of(t, con)?)
-}
-
-/// The outer rectangle of a floating window.
-fn rect_of(t: &Tree, con: ConId) -> Rect
-    ensures { result ≡ rect_of con t.now }
-{
-    match t.container(con) {
-        Some(part) => part.state.rect.unwrap_or(NOWHERE),
-        None => NOWHERE,
     }
 }
 

@@ -1,8 +1,8 @@
 //! Showing the workspace that a command names.
 ghost use Rattle.std.specs.Prelude.{◌≡◌, None, true, OnOk, OnErr, IfErr};
-ghost use Rattle.wm_showing.specs.Refusing.{IsCause, full_error};
-ghost use Rattle.wm_showing.specs.Showing.{followed, shown_there};
-ghost use Rattle.wm_showing.specs.Subject.{is_space};
+ghost use Rattle.wm_shared.specs.Refusing.{IsCause, full_error};
+ghost use Rattle.wm_shared.specs.Showing.{followed, shown_there};
+ghost use Rattle.wm_shared.specs.Subject.{is_space};
 ghost use Rattle.wm_spaces.specs.Shows.{show_refusal, show_tree, showing_new};
 ghost use Rattle.wm_tree.specs.Outputs.{IsOutput, passed_by_space};
 ghost use Rattle.wm_tree.specs.Sound.{IsSound};
@@ -11,7 +11,7 @@ ghost use Rattle.wm_tree.specs.TreeValue.{parent};
 use crate::targets::{Goal, find_goal, home};
 use wm_base::{ConId, NoMemory, Refusal, Text};
 use wm_grammar::Target;
-use wm_showing::{refused, remember, show_space, show_there, space_name};
+use wm_shared::{refused, remember, show_space, show_there, space_name};
 use wm_tree::Tree;
 
 /// Shows the workspace that the command names, and makes it where it is not there: last on the output that the homes

@@ -11,7 +11,7 @@ use crate::names::{is_reserved, output_named, space_named};
 use crate::order::{Pick, best_in, best_on, num, space_key};
 use wm_base::{ConId, ErrorText, NoMemory, Text};
 use wm_grammar::Target;
-use wm_showing::Key;
+use wm_shared::Key;
 use wm_tree::{Cursor, Tree};
 
 /// A workspace that is there, the name of one that is not, or why there is none.

@@ -8,7 +8,7 @@ use std::process::Abort;
 use std::test::Fail;
 use wm_base::{Border, ConId, Dir, Edges, ErrorText, Layout, OutputPlan, Rect, Refusal, Text};
 use wm_grammar::{OutArg, Target};
-use wm_showing::{is_space, is_subject};
+use wm_shared::{is_space, is_subject};
 use wm_tree::{NewCon, Tree};
 
 fn text(alloc: Global, s: &str) -> Result<Text, Fail> {

@@ -2,19 +2,19 @@
 use Rattle.std.proofs.Common.{◌≡◌, ◌∙◌, refl, ap, subst, sym, ℕ, List, [], Option, Result, Ok, Err}
 use Rattle.std.specs.Prelude.{IsErrAnd}
 use Rattle.wm_ports.specs.Told.{TakesAll, TakesPart}
-use Rattle.wm_tool.specs.declared.line.Line.{Line}
+use Rattle.wm_script.specs.declared.line.Line.{Line}
 use Rattle.wm_tool.specs.declared.replay.Stop.{Stop}
 use Rattle.wm_tool.specs.declared.replay.Stop.TheVariants as stops
 use Rattle.wm_tool.specs.declared.run.Command.TheVariants as commands
-use Rattle.wm_tool.specs.declared.script.ScriptRefusal.{ScriptRefusal}
-use Rattle.wm_tool.specs.declared.script.ScriptRefusal.TheVariants as refusals
+use Rattle.wm_script.specs.declared.script.ScriptRefusal.{ScriptRefusal}
+use Rattle.wm_script.specs.declared.script.ScriptRefusal.TheVariants as refusals
 use Rattle.wm_tool.specs.declared.status.Refused.{Refused}
 use Rattle.wm_tool.specs.declared.status.Status.{Status}
 use Rattle.wm_tool.specs.Drawing.{drawn_from, out_draw}
 use Rattle.wm_tool.specs.Ending.{WritesOn, ending_of, texts_in}
 use Rattle.wm_tool.specs.Output.{line_texts, lines_in, start_of}
 use Rattle.wm_tool.specs.Refusals.{IsBacked}
-use Rattle.wm_tool.specs.Script.{script}
+use Rattle.wm_script.specs.Script.{script}
 use Rattle.wm_tool.specs.Status.{of_script, of_stop}
 use Rattle.wm_tool.proofs.EndLemmas.{nothing_taken}
 use Rattle.wm_tool.proofs.RunLemmas.{nothing_backed}

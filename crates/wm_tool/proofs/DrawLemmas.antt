@@ -2,7 +2,7 @@
 use Rattle.std.proofs.Common.{◌≡◌, ◌∙◌, refl, ap, sym, subst, ℕ, ◌+◌, ◌-◌, get_or, ◌≤◌, List, [], ◌∷◌, ◌++◌, Option, None, Some, length, take, drop}
 use Rattle.wm_core.specs.DeskValue.{DeskValue, Stands}
 use Rattle.wm_core.specs.History.{History, Start, opening_of}
-use Rattle.wm_tool.specs.declared.line.Line.{Line}
+use Rattle.wm_script.specs.declared.line.Line.{Line}
 use Rattle.wm_tool.specs.declared.status.Refused.{Refused}
 use Rattle.wm_tool.specs.Drawing.{drawn_from, picture}
 use Rattle.wm_tool.specs.Output.{after, after_effect, line_step, line_texts, told}

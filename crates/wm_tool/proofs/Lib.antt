@@ -1,15 +1,10 @@
+pub mod AskLemmas
 pub mod DrawEnds
 pub mod DrawLemmas
 pub mod EndLemmas
-pub mod FieldLemmas
 pub mod FramesLemmas
-pub mod LawLemmas
 pub mod LineLemmas
 pub mod MessageLemmas
-pub mod OrderLemmas
 pub mod PlanLemmas
-pub mod PropertyLemmas
 pub mod RefusalLemmas
 pub mod RunLemmas
-pub mod ScriptLemmas
-pub mod TextLemmas

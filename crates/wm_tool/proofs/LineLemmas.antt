@@ -4,9 +4,9 @@ use Rattle.std.proofs.lemmas.List.{take_all}
 use Rattle.wm_tree.specs.TreeValue.{opening}
 use Rattle.wm_core.specs.DeskValue.{DeskValue, Stands}
 use Rattle.wm_core.specs.History.{History, Start, answer, opening_of}
-use Rattle.wm_tool.specs.declared.line.Deed.{Deed}
-use Rattle.wm_tool.specs.declared.line.Deed.TheVariants as deed
-use Rattle.wm_tool.specs.declared.line.Line.{Line}
+use Rattle.wm_script.specs.declared.line.Deed.{Deed}
+use Rattle.wm_script.specs.declared.line.Deed.TheVariants as deed
+use Rattle.wm_script.specs.declared.line.Line.{Line}
 use Rattle.wm_tool.specs.declared.status.Refused.{Refused}
 use Rattle.wm_tool.specs.Output.{act_in, after, after_effect, answer_text, deed_step, effect_of, effect_text, line_step, one_if_some, takes, Takes, entry_of, line_texts, out_from, start, told}
 use Rattle.wm_tool.specs.Refusals.{IsRising, refusal_at}

@@ -4,10 +4,10 @@ use Rattle.std.specs.Prelude.{All}
 use Rattle.std.proofs.lemmas.List.Elements.{All-head, All-tail}
 use Rattle.wm_base.specs.declared.plan.OutputPlan.{OutputPlan}
 use Rattle.wm_layouts.specs.Plan.{FitOutputs}
-use Rattle.wm_tool.specs.declared.line.Deed.{Deed}
-use Rattle.wm_tool.specs.declared.line.Deed.TheVariants.{Output}
-use Rattle.wm_tool.specs.declared.line.Line.{Line}
-use Rattle.wm_tool.specs.Script.{IsFitDeed, IsFitLine, onto_outputs, outputs_in}
+use Rattle.wm_script.specs.declared.line.Deed.{Deed}
+use Rattle.wm_script.specs.declared.line.Deed.TheVariants.{Output}
+use Rattle.wm_script.specs.declared.line.Line.{Line}
+use Rattle.wm_script.specs.Script.{IsFitDeed, IsFitLine, onto_outputs, outputs_in}
 
 fit_onto : (line : Deed) (outputs : List OutputPlan) → IsFitDeed line → FitOutputs outputs → FitOutputs (onto_outputs line outputs)
 fit_onto (Output o) outputs fit others = (fit, others)

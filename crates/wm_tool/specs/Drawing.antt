@@ -4,10 +4,10 @@ use Rattle.wm_core.specs.Frame.{frame}
 use Rattle.wm_core.specs.History.{History, Start}
 use Rattle.wm_core.specs.Screen.{screen}
 use Rattle.wm_paint.specs.CanvasValue.{drawn, ppm}
-use Rattle.wm_tool.specs.declared.line.Line.{Line}
+use Rattle.wm_script.specs.declared.line.Line.{Line}
 use Rattle.wm_tool.specs.declared.status.Refused.{Refused}
 use Rattle.wm_tool.specs.Output.{after, lines_in, start_of}
-use Rattle.wm_tool.specs.Script.{script}
+use Rattle.wm_script.specs.Script.{script}
 
 -- the history that lines leave after one, given which patterns were refused
 abbrev pub history_from : List Line → List Refused → History → History

@@ -10,7 +10,7 @@ use Rattle.wm_tool.specs.declared.run.Command.{Command}
 use Rattle.wm_tool.specs.declared.run.Command.TheVariants.{Replay, Ipc, Draw}
 use Rattle.wm_tool.specs.declared.run.FramesEnd.{FramesEnd}
 use Rattle.wm_tool.specs.declared.run.FramesEnd.TheVariants as end
-use Rattle.wm_tool.specs.declared.line.Line.{Line}
+use Rattle.wm_script.specs.declared.line.Line.{Line}
 use Rattle.wm_tool.specs.declared.status.Status.{Status}
 use Rattle.wm_tool.specs.declared.status.Status.TheVariants.{Done, BadWords, BadScript, BadFrames, Truncated, TooLarge, ReadFault, WriteFault, NoMemory}
 use Rattle.wm_tool.specs.declared.status.Refused.{Refused}
@@ -18,7 +18,7 @@ use Rattle.wm_tool.specs.Drawing.{out_draw}
 use Rattle.wm_tool.specs.Ipc.{message_texts, out_ipc}
 use Rattle.wm_tool.specs.Output.{line_texts, lines_in, out}
 use Rattle.wm_tool.specs.Refusals.{IsBacked}
-use Rattle.wm_tool.specs.Script.{script}
+use Rattle.wm_script.specs.Script.{script}
 
 abbrev pub command_named : List ℕ → Option Command
 command_named word =

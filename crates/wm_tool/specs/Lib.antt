@@ -1,13 +1,8 @@
 pub mod Drawing
 pub mod Ending
-pub mod Fields
 pub mod Ipc
-pub mod Lines
 pub mod Output
 pub mod Planning
-pub mod Properties
-pub mod Quoted
 pub mod Refusals
 pub mod Running
-pub mod Script
 pub mod Status

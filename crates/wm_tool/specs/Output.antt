@@ -25,12 +25,12 @@ use Rattle.wm_core.specs.Act as acts
 use Rattle.wm_core.specs.History.{Entry, History, Start, answer}
 use Rattle.wm_layouts.specs.Plan.{default_outputs}
 use Rattle.wm_paint.specs.FrameText.{frame_text, new_line}
-use Rattle.wm_tool.specs.declared.line.Deed.{Deed}
-use Rattle.wm_tool.specs.declared.line.Deed.TheVariants as deed
-use Rattle.wm_tool.specs.declared.line.Line.{Line}
+use Rattle.wm_script.specs.declared.line.Deed.{Deed}
+use Rattle.wm_script.specs.declared.line.Deed.TheVariants as deed
+use Rattle.wm_script.specs.declared.line.Line.{Line}
 use Rattle.wm_tool.specs.declared.status.Refused.{Refused}
 use Rattle.wm_tool.specs.Refusals.{verdict_of}
-use Rattle.wm_tool.specs.Script.{outputs_in, script}
+use Rattle.wm_script.specs.Script.{outputs_in, script}
 
 -- the line that tells an answer
 abbrev pub answer_text : Answer → List ℕ

@@ -5,8 +5,8 @@ use Rattle.wm_ports.specs.declared.whole.ReadFault.{ReadFault}
 use Rattle.wm_ports.specs.declared.whole.ReadFault.TheVariants as faults
 use Rattle.wm_tool.specs.declared.replay.Stop.{Stop}
 use Rattle.wm_tool.specs.declared.replay.Stop.TheVariants as stops
-use Rattle.wm_tool.specs.declared.script.ScriptRefusal.{ScriptRefusal}
-use Rattle.wm_tool.specs.declared.script.ScriptRefusal.TheVariants as refusals
+use Rattle.wm_script.specs.declared.script.ScriptRefusal.{ScriptRefusal}
+use Rattle.wm_script.specs.declared.script.ScriptRefusal.TheVariants as refusals
 use Rattle.wm_tool.specs.declared.status.Status.{Status}
 use Rattle.wm_tool.specs.declared.status.Status.TheVariants as status
 

@@ -8,10 +8,9 @@ ghost use Rattle.wm_tool.specs.Ending.{HasStopped};
 ghost use Rattle.wm_tool.specs.Output.{line_texts, start_of};
 ghost use Rattle.wm_tool.specs.Refusals.{IsBacked};
 ghost use Rattle.wm_tool.specs.Running.{Draws};
-ghost use Rattle.wm_tool.specs.Script.{IsFitLine, IsSoundScript};
+ghost use Rattle.wm_script.specs.Script.{IsFitLine, IsSoundScript};
 ghost use Rattle.wm_tool.specs.declared.status.Refused.{Refused};
 
-use crate::line::Line;
 use crate::planning::plan_of;
 use crate::replay::{Stop, run_line};
 use std::alloc::Global;
@@ -20,6 +19,7 @@ use wm_core::Desk;
 use wm_criteria::Build;
 use wm_paint::Canvas;
 use wm_ports::{Sink, write_all};
+use wm_script::Line;
 
 /// Runs the lines on the desk of their plan, and writes the picture of the frame that they leave. Patterns that are
 /// refused are listed.

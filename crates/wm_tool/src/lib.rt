@@ -2,43 +2,13 @@
 #![tactic(auto)]
 
 mod answers;
-mod client_lines;
 mod drawing;
-mod fields;
 mod ipc;
 mod judging;
-mod laws;
-mod line;
-mod output_lines;
-mod plan_lines;
 mod planning;
-mod properties;
-mod quoted;
 mod replay;
 mod run;
-mod script;
 mod status;
-mod window_lines;
 
-pub use laws::{bad_line_is_first, script_is_its_lines};
 pub use run::tool;
 pub use status::{Refused, Status};
-
-#[cfg(test)]
-mod client_tests;
-#[cfg(test)]
-mod command_tests;
-#[cfg(test)]
-mod float_tests;
-#[cfg(test)]
-mod ipc_tests;
-#[cfg(test)]
-mod line_tests;
-#[cfg(test)]
-mod output_tests;
-#[cfg(test)]
-mod size_tests;
-#[cfg(test)]
-mod space_tests;
-#[cfg(test)]
-mod tests;

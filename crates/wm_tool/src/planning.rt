@@ -4,12 +4,12 @@ ghost use Rattle.wm_core.specs.History.{opening_of};
 ghost use Rattle.wm_layouts.specs.Plan.{IsSound};
 ghost use Rattle.wm_tool.specs.Output.{outputs_or_default, plain, set_by, start_of};
 ghost use Rattle.wm_tool.specs.Planning.{setting_of};
-ghost use Rattle.wm_tool.specs.Script.{IsFitLine, IsSoundScript, outputs_in};
+ghost use Rattle.wm_script.specs.Script.{IsFitLine, IsSoundScript, outputs_in};
 
-use crate::line::{Deed, Line};
 use std::alloc::{AllocError, Global};
 use wm_base::{List, NoMemory, OutputPlan};
 use wm_layouts::Plan;
+use wm_script::{Deed, Line};
 
 /// The plan that the lines make of the standard one.
 pub fn plan_of(alloc: Global, lines: &[Line]) -> Result<Plan, NoMemory>

@@ -13,13 +13,12 @@ ghost use Rattle.wm_tool.specs.Ending.{HasStopped};
 ghost use Rattle.wm_tool.specs.Output.{act_in, after, answer_text, entry_of, line_step, line_texts, out_from, start_of, told, view_text};
 ghost use Rattle.wm_tool.specs.Refusals.{refusal_at, IsBacked};
 ghost use Rattle.wm_tool.specs.Running.{Backs, Grows, Leads, Plays, Stops, Writes};
-ghost use Rattle.wm_tool.specs.Script.{IsFitDeed, IsFitLine, IsSoundScript};
+ghost use Rattle.wm_script.specs.Script.{IsFitDeed, IsFitLine, IsSoundScript};
 ghost use Rattle.wm_tool.specs.declared.status.Refused.{Refused};
 ghost use Rattle.wm_tool.specs.declared.replay.Stop.TheVariants as stops;
 
 use crate::answers::{push_answer, push_view};
 use crate::judging::run_text;
-use crate::line::{Deed, Line};
 use crate::planning::{copy_output, plan_of};
 use std::alloc::{AllocError, Global};
 use wm_base::NoMemory;
@@ -27,6 +26,7 @@ use wm_core::{ClientStep, Desk, Query, Step};
 use wm_criteria::Build;
 use wm_paint::frame_text;
 use wm_ports::{Failed, Sink, write_all};
+use wm_script::{Deed, Line};
 use wm_tree::copy_props;
 
 /// How long a piece of the output is at least before it is written, in bytes.

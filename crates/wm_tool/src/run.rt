@@ -10,13 +10,13 @@ ghost use Rattle.wm_tool.specs.declared.status.Status.TheVariants as status;
 use crate::drawing::draw;
 use crate::ipc::answer_all;
 use crate::replay::replay;
-use crate::script::read_script;
 use crate::status::{Refused, Status};
 use std::alloc::Global;
 use wm_base::{List, NoMemory};
 use wm_criteria::Build;
 use wm_frames::{Decoder, FrameFault};
 use wm_ports::{Sink, Source, read_to_limit};
+use wm_script::read_script;
 
 /// How long an input is at most, in bytes.
 const MOST: usize = 16_777_216;

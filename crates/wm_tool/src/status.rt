@@ -4,10 +4,10 @@ ghost use Rattle.wm_tool.specs.Status.{of_read, of_script, of_stop, status_numbe
 ghost use Rattle.wm_tool.specs.declared.status.Status.TheVariants as status;
 
 use crate::replay::Stop;
-use crate::script::ScriptRefusal;
 use std::fmt;
 use wm_base::{List, NoMemory};
 use wm_ports::ReadFault;
+use wm_script::ScriptRefusal;
 
 /// A step whose text has a pattern that was refused: its place in the history, counted from 0, and the pattern's
 /// number in the text, counted from 0.

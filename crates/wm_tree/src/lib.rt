@@ -24,12 +24,6 @@ mod sets;
 mod spaces;
 mod spot;
 mod start;
-#[cfg(test)]
-mod tests;
-#[cfg(test)]
-mod tests_outputs;
-#[cfg(test)]
-mod tests_parts;
 mod tree;
 mod words;
 

@@ -1,6 +1,6 @@
 use Rattle.std.proofs.Common.{arith, rules}
 use Rattle.std.proofs.lemmas.Grind.{common_steps}
-use Rattle.wm_showing.proofs.ShowLemmas.{workspace_is}
+use Rattle.wm_shared.proofs.ShowLemmas.{workspace_is}
 use Rattle.wm_apply.proofs.outputs.move_space_to_named.Goals as goal
 
 pub move_workspace-requires-clause-space : goal.move_workspace-requires-clause-space

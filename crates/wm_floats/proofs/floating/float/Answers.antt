@@ -1,5 +1,5 @@
 use Rattle.std.proofs.Common.{◌∙◌, sym}
-use Rattle.wm_showing.proofs.ShowLemmas.{workspace_is}
+use Rattle.wm_shared.proofs.ShowLemmas.{workspace_is}
 use Rattle.wm_floats.proofs.floating.float.Goals as goal
 
 pub float_on-requires-clause-space : goal.float_on-requires-clause-space

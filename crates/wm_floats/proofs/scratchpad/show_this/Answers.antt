@@ -1,7 +1,7 @@
 use Rattle.std.proofs.Common.{◌≡◌, true, arith, rules}
 use Rattle.std.proofs.lemmas.Grind.{common_steps}
 use Rattle.wm_floats.proofs.FloatLemmas.{hidden_is}
-use Rattle.wm_showing.specs.Subject.{is_hidden}
+use Rattle.wm_shared.specs.Subject.{is_hidden}
 use Rattle.wm_floats.proofs.scratchpad.show_this.Goals as goal
 
 pub bring-requires-clause-con : goal.bring-requires-clause-con

@@ -3,7 +3,7 @@ use Rattle.std.proofs.lemmas.Grind.{common_steps}
 use Rattle.std.specs.Option.{option_copied}
 use Rattle.wm_focus.proofs.GiveLemmas.{container_there, give_cause, given_kept}
 use Rattle.wm_focus.specs.Stripped.{lacks}
-use Rattle.wm_showing.specs.Subject.{is_container}
+use Rattle.wm_shared.specs.Subject.{is_container}
 use Rattle.wm_tree.specs.Move.{marks_in}
 use Rattle.wm_focus.proofs.giving.add_given.Goals as goal
 

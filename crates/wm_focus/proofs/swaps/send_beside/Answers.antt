@@ -1,5 +1,5 @@
 use Rattle.std.proofs.Common.{sym, ◌∙◌}
-use Rattle.wm_showing.proofs.ShowLemmas.{workspace_is}
+use Rattle.wm_shared.proofs.ShowLemmas.{workspace_is}
 use Rattle.wm_focus.proofs.swaps.send_beside.Goals as goal
 
 pub send-requires-clause-space : goal.send-requires-clause-space

@@ -1,7 +1,7 @@
 use Rattle.std.proofs.Common.{arith, rules}
 use Rattle.std.proofs.lemmas.Grind.{common_steps}
 use Rattle.wm_spaces.proofs.KeptLemmas.{con_kept}
-use Rattle.wm_spaces.proofs.SendLemmas.{con_there}
+use Rattle.wm_shared.proofs.KidLemmas.{con_there}
 use Rattle.wm_spaces.proofs.ShowLemmas.{new_is, space_cause_or}
 use Rattle.wm_tree.proofs.SpaceLemmas.{has_output}
 use Rattle.wm_spaces.proofs.sending.send_new.Goals as goal

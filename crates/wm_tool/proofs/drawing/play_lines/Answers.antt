@@ -4,7 +4,7 @@ use Rattle.wm_core.specs.History.{opening_of}
 use Rattle.wm_tool.specs.Drawing.{drawn_from}
 use Rattle.wm_tool.specs.Output.{line_texts}
 use Rattle.wm_tool.specs.Running.{Draws}
-use Rattle.wm_tool.specs.Script.{IsFitLine}
+use Rattle.wm_script.specs.Script.{IsFitLine}
 use Rattle.wm_tool.proofs.DrawLemmas.{draws_line, stops_line}
 use Rattle.wm_tool.proofs.LineLemmas.{none_left, one_step}
 use Rattle.wm_tool.proofs.RunLemmas.{on_err}

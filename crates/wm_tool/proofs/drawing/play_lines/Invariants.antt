@@ -4,7 +4,7 @@ use Rattle.wm_tool.specs.declared.status.Refused.{Refused}
 use Rattle.wm_tool.specs.Drawing.{drawn_from}
 use Rattle.wm_tool.specs.Output.{line_texts}
 use Rattle.wm_tool.specs.Running.{Draws}
-use Rattle.wm_tool.specs.Script.{IsFitLine}
+use Rattle.wm_script.specs.Script.{IsFitLine}
 use Rattle.wm_tool.proofs.drawing.play_lines.Given as goal
 
 -- the desk stands for the lines so far, and their refusals are backed

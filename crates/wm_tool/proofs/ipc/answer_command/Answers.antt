@@ -9,7 +9,7 @@ use Rattle.wm_tool.specs.Ipc.{Request, ask, entry_by, framed, no_text, payload, 
 use Rattle.wm_tool.specs.Output.{after_entry}
 use Rattle.wm_tool.specs.Running.{Backs, Grows, Leads}
 use Rattle.wm_tool.proofs.RunLemmas.{ok_weaker, on_ok, unchanged}
-use Rattle.wm_tool.proofs.TextLemmas.{asks, asks_no_text}
+use Rattle.wm_tool.proofs.AskLemmas.{asks, asks_no_text}
 use Rattle.wm_tool.proofs.ipc.answer_command.Goals as goal
 
 pub returns-in-Ok-clause-ok : goal.returns-in-Ok-clause-ok

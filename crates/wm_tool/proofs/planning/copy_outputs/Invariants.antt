@@ -1,5 +1,5 @@
 use Rattle.std.proofs.Common.{◌≡◌, ◌++◌, length}
-use Rattle.wm_tool.specs.Script.{outputs_in}
+use Rattle.wm_script.specs.Script.{outputs_in}
 use Rattle.wm_tool.proofs.planning.copy_outputs.Given as goal
 
 -- the outputs so far, and those of the rest, are those of all lines

@@ -2,7 +2,7 @@ use Rattle.std.proofs.Common.{◌-◌, ◌∙◌, ap, drop, length, sym, take}
 use Rattle.std.proofs.lemmas.List.Elements.{All-drop, All-take}
 use Rattle.wm_tool.specs.Output.{set_by_all}
 use Rattle.wm_tool.specs.Planning.{setting_of}
-use Rattle.wm_tool.specs.Script.{IsFitLine}
+use Rattle.wm_script.specs.Script.{IsFitLine}
 use Rattle.wm_tool.proofs.LineLemmas.{rest_is}
 use Rattle.wm_tool.proofs.planning.plan_of.Goals as goal
 

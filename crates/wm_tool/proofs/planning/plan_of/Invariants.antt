@@ -2,7 +2,7 @@ use Rattle.std.proofs.Common.{◌≡◌, [], All, length}
 use Rattle.wm_layouts.specs.Plan.{IsSound}
 use Rattle.wm_tool.specs.Output.{outputs_or_default, plain, set_by_all}
 use Rattle.wm_tool.specs.Planning.{setting_of}
-use Rattle.wm_tool.specs.Script.{IsFitLine, outputs_in}
+use Rattle.wm_script.specs.Script.{IsFitLine, outputs_in}
 use Rattle.wm_tool.proofs.planning.plan_of.Given as goal
 
 -- the plan so far with what the rest says is that of all lines

@@ -1,6 +1,6 @@
 use Rattle.std.proofs.Common.{◌≡◌, ◌∙◌, ◌≤◌, arith, length, subst, sym}
 use Rattle.wm_layouts.specs.Plan.{FitOutputs, NamesDiffer}
-use Rattle.wm_tool.specs.Script.{outputs_in}
+use Rattle.wm_script.specs.Script.{outputs_in}
 use Rattle.wm_tool.proofs.PlanLemmas.{fit_outputs}
 use Rattle.wm_tool.proofs.planning.plan_on_outputs.Goals as goal
 

@@ -3,7 +3,7 @@ use Rattle.wm_core.specs.History.{opening_of}
 use Rattle.std.proofs.lemmas.List.Elements.{All-take, All-drop}
 use Rattle.wm_tool.specs.Output.{line_texts, out_from}
 use Rattle.wm_tool.specs.Running.{Plays}
-use Rattle.wm_tool.specs.Script.{IsFitLine}
+use Rattle.wm_script.specs.Script.{IsFitLine}
 use Rattle.wm_tool.proofs.LineLemmas.{none_left, one_step, plays_line, stops_line}
 use Rattle.wm_tool.proofs.RunLemmas.{fails, on_err, writes}
 use Rattle.wm_tool.proofs.replay.run_lines.Goals as goal

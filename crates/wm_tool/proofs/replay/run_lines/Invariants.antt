@@ -3,7 +3,7 @@ use Rattle.wm_core.specs.History.{opening_of}
 use Rattle.wm_tool.specs.declared.status.Refused.{Refused}
 use Rattle.wm_tool.specs.Output.{line_texts, out_from}
 use Rattle.wm_tool.specs.Running.{Plays}
-use Rattle.wm_tool.specs.Script.{IsFitLine}
+use Rattle.wm_script.specs.Script.{IsFitLine}
 use Rattle.wm_tool.proofs.replay.run_lines.Given as goal
 
 -- what the lines so far tell is written or held, the desk stands for them, and their refusals are backed

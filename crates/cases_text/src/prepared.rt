@@ -1,0 +1,134 @@
+//! Cases of preparing: the verdict on a text, and which of its patterns are built, by two builds.
+ghost use Rattle.std.specs.Prelude.{◌<◌, ◌^◌, length};
+
+use crate::fault::{Fault, tell_bad_line};
+use crate::reads::{long_text, text_of};
+use regex::Regex;
+use std::alloc::{AllocError, Global};
+use wm_criteria::{
+    Build, BuildFault, ListBuild, Prepared, RegexBuild, Verdict, prepare, prepare_bare,
+};
+
+/// The patterns that the build from a list refuses.
+const REFUSED: [&str; 2] = ["(", "zz+"];
+
+/// Writes down which patterns a build is asked for and which it refuses.
+#[derive(Drop)]
+struct Told<B> {
+    build: B,
+    log: String,
+}
+
+impl<B: Build> Build for Told<B> {
+    ghost refusals = { λ told. B.refusals told.build };
+
+    fn build(&mut self, alloc: Global, pattern: &str) -> Result<Regex, BuildFault> {
+        self.log.push_str(" ")?;
+        self.log.push_str(pattern)?;
+        let built = self.build.build(alloc, pattern);
+        if let Err(BuildFault::Refused) = built {
+            let _ = self.log.push_str(" refused");
+        }
+        built
+    }
+}
+
+/// The verdict on a text by a build that refuses listed patterns, by one that reads what it can, and by none.
+pub fn tell_prepared(alloc: Global, data: &str, out: &mut String) -> Result<(), Fault> {
+    match text_of(alloc, data)? {
+        Some(text) => tell_text(alloc, text.as_str(), out),
+        None => tell_bad_line(out),
+    }
+}
+
+/// The same of a long text.
+pub fn tell_long(alloc: Global, data: &str, out: &mut String) -> Result<(), Fault> {
+    match long_text(alloc, data)? {
+        Some(text) => tell_text(alloc, text.as_str(), out),
+        None => tell_bad_line(out),
+    }
+}
+
+fn tell_text(alloc: Global, text: &str, out: &mut String) -> Result<(), Fault> {
+    if text.len() >= 1 << 32 {
+        return tell_bad_line(out);
+    }
+    let listed = listed(alloc)?;
+    let by_list = ListBuild::new(listed);
+    tell_by(alloc, text, "list", by_list, out)?;
+    tell_by(alloc, text, "regex", RegexBuild::new(), out)?;
+    tell_alone(alloc, text, out)
+}
+
+/// The patterns that the build from a list refuses, as strings.
+fn listed(alloc: Global) -> Result<Vec<String>, AllocError> {
+    let mut listed = Vec::new(alloc);
+    for pattern in REFUSED {
+        listed.push(String::from_str(alloc, pattern)?)?;
+    }
+    Ok(listed)
+}
+
+/// What one build makes of a text, what is told of a bare copy, and which patterns were asked for.
+fn tell_by<B: Build + Drop>(
+    alloc: Global,
+    text: &str,
+    name: &str,
+    build: B,
+    out: &mut String,
+) -> Result<(), Fault>
+    requires { length text.now < 2 ^ 32 }
+{
+    let mut told = Told {
+        build,
+        log: String::new(alloc),
+    };
+    write!(out, "  {name}: ")?;
+    tell_with(alloc, text, &mut told, out)?;
+    write!(out, "; asked for{}\n", told.log)?;
+    Ok(())
+}
+
+fn tell_with<B: Build>(
+    alloc: Global,
+    text: &str,
+    build: &mut B,
+    out: &mut String,
+) -> Result<(), Fault>
+    requires { length text.now < 2 ^ 32 }
+{
+    let prepared = prepare(alloc, text, build)?;
+    push_verdict(out, &prepared)?;
+    out.push_str("; copied ")?;
+    tell_copy(alloc, &prepared, out)
+}
+
+/// What is told of a bare copy.
+fn tell_copy(alloc: Global, prepared: &Prepared, out: &mut String) -> Result<(), Fault> {
+    let copy = prepared.bare(alloc)?;
+    push_verdict(out, &copy)?;
+    Ok(())
+}
+
+/// What is told of a text that was read alone.
+fn tell_alone(alloc: Global, text: &str, out: &mut String) -> Result<(), Fault> {
+    let alone = prepare_bare(alloc, text)?;
+    out.push_str("  alone: ")?;
+    push_verdict(out, &alone)?;
+    out.push_str("\n")?;
+    Ok(())
+}
+
+/// The verdict in words, and whether all that has to be built is.
+fn push_verdict(out: &mut String, prepared: &Prepared) -> Result<(), AllocError> {
+    match &prepared.verdict {
+        Verdict::Ready(_) => out.push_str("ready")?,
+        Verdict::Bad { at } => write!(out, "bad at {at}")?,
+        Verdict::PatternRefused { pattern } => write!(out, "pattern {pattern} refused")?,
+    }
+    out.push_str(if prepared.built() {
+        ", built"
+    } else {
+        ", not built"
+    })
+}

@@ -1,0 +1,146 @@
+-- What lasts through words, texts and steps lasts through each history.
+use Rattle.std.proofs.Common.{◌≡◌, ◌≢◌, ℕ, Bool, true, false, cond, not, List, [], ◌∷◌, ◌++◌, Option, None, Some, is_some, refl, ap, sym, subst, ◌∙◌}
+use Rattle.wm_base.specs.declared.errors.Limit.{Limit}
+use Rattle.wm_base.specs.declared.geometry.Edges.{Edges}
+use Rattle.wm_base.specs.declared.geometry.Size.{Size}
+use Rattle.wm_base.specs.declared.ids.ConId.{ConId}
+use Rattle.wm_base.specs.declared.plan.OutputPlan.{OutputPlan}
+use Rattle.wm_base.specs.declared.properties.Props.{Props}
+use Rattle.wm_core.proofs.GoneLemmas.{owned_containers, some_part, still_containers}
+use Rattle.wm_core.proofs.OpeningLemmas.{fit_plans}
+use Rattle.wm_core.specs.Act.{Act, Run, Map, Close, Retitle, Urgent, Gone, OutputAdd, OutputRemove, Reserve, Ack, Give, Deadline, Still}
+use Rattle.wm_core.specs.declared.step.Answer.{Answer}
+use Rattle.wm_core.specs.declared.step.Answer.TheVariants as answers
+use Rattle.wm_core.specs.History.{Entry, Start, has_no_pixels, if_done, limit_of, map_tree, opening_of, tree, tree_after, window_answer}
+use Rattle.law_desk.specs.LastingLaws.{IsInOrder}
+use Rattle.wm_core.specs.Outputs.{add_answer, added, remove_answer, removed, reserve_answer, reserved, reserved_at, unless_full}
+use Rattle.wm_core.specs.Windows.{AreContainers, is_window, owned, retitled, with_urgency, with_urgent, without_urgent, without_windows}
+use Rattle.wm_floats.specs.Fullscreen.{fills_alone}
+use Rattle.law_fullscreen.proofs.SingleLemmas.{has_of, single_of, single_opening}
+use Rattle.law_lasting.proofs.LastSteps.{has_added, has_closed, has_detached, has_mapped, has_removed, has_reserved, has_titled, has_urgent}
+use Rattle.law_lasting.proofs.LastTexts.{HasLast, has_outcome, has_settled}
+use Rattle.law_lasting.proofs.ScratchpadLemmas.{back, both_lasts, from, openings_empty}
+use Rattle.law_lasting.proofs.SingleLasts.{single_lasts}
+use Rattle.law_lasting.specs.Lasting.{Lasts}
+use Rattle.wm_layouts.proofs.FitLemmas.{output_rect}
+use Rattle.wm_layouts.specs.declared.plan.Plan.{Plan}
+use Rattle.wm_layouts.specs.Plan.{IsSound as IsSoundPlan, is_fit_rect}
+use Rattle.wm_spaces.specs.Coming.{free_name, output_added_tree}
+use Rattle.wm_spaces.specs.Names.{output_named}
+use Rattle.wm_tree.proofs.ForestLemmas.{at_absent, only_absent, outside_end}
+use Rattle.wm_tree.proofs.OutputLemmas.{sound-with_output}
+use Rattle.wm_tree.proofs.StartLemmas.{sound-opening}
+use Rattle.wm_tree.specs.declared.place.NewCon.TheVariants as new
+use Rattle.wm_tree.specs.Change.{without}
+use Rattle.wm_tree.specs.Forest.{end}
+use Rattle.wm_tree.specs.Look.{con_kind, has, kind_of, only}
+use Rattle.wm_tree.specs.Outputs.{passed_by_output}
+use Rattle.wm_tree.specs.Recency.{lists, outside, without_id}
+use Rattle.wm_tree.specs.Sound.{IsSound}
+use Rattle.wm_tree.specs.TreeValue.{TreeValue, id, newcomer_place, workspace_of}
+use Rattle.wm_tree.specs.Words.{attached, detached, settled}
+
+-- ---- nodes that are not there
+
+-- the tree is as it was without a node that it does not have
+none_out : (v : ConId) (t : TreeValue) → has v t.nodes ≡ false → detached v t ≡ t
+none_out v t none =
+    let nodes : without v t.nodes ≡ t.nodes = at_absent v (λ row part kids floats rest. rest) end t.nodes none in
+    let alone : only v t.nodes ≡ end = only_absent v t.nodes none in
+    let recent : outside (only v t.nodes) t.recency ≡ t.recency = ap (λ f. outside f t.recency) alone ∙ outside_end t.recency in
+    let urgent : outside (only v t.nodes) t.urgent ≡ t.urgent = ap (λ f. outside f t.urgent) alone ∙ outside_end t.urgent in
+    ap (λ f. record t { nodes = f; recency = outside (only v t.nodes) t.recency; urgent = outside (only v t.nodes) t.urgent }) nodes
+    ∙ (ap (λ r. record t { recency = r; urgent = outside (only v t.nodes) t.urgent }) recent ∙ ap (λ u. record t { urgent = u }) urgent)
+
+-- an output that is added has a rectangle within the limits, and passes none
+may_add : (taken fit : Bool) (passed : Option Limit) → cond taken answers.NameTaken (cond (not fit) answers.BadRect (unless_full passed)) ≡ answers.Done → (fit ≡ true) × (passed ≡ None)
+may_add true fit passed h = cc
+may_add false false passed h = cc
+may_add false true None h = (refl, refl)
+may_add false true (Some limit) h = cc
+
+module _ {P : TreeValue → Type 0} (k : Lasts P) where
+  has_without : (vs : List ConId) (t : TreeValue) → AreContainers vs t → HasLast P t → HasLast P (without_windows vs t)
+  has_without [] t each g = g
+  has_without (v ∷ vs) t each g = has_without vs (detached v t) (still_containers v vs t g.sound each.1) (by (has v t.nodes) refl)
+    where
+      by : (b : Bool) → has v t.nodes ≡ b → HasLast P (detached v t)
+      by true e = has_detached k v t g (each.0 e)
+      by false e = subst (HasLast P) (sym (none_out v t e)) g
+
+  has_done : (a : Answer) (new t : TreeValue) → HasLast P t → (a ≡ answers.Done → HasLast P new) → HasLast P (if_done a new t)
+  has_done answers.Done new t g h = h refl
+  has_done other new t g h = g
+
+  has_map : (who : ℕ) (props : Props) (natural : Size) (o : Option Limit) (t : TreeValue) → limit_of t ≡ o → HasLast P t → HasLast P (map_tree t who props natural o)
+  has_map who props natural (Some limit) t e g = g
+  has_map who props natural None t e g =
+      let there : TreeValue = attached (newcomer_place t) (new.Window props who natural) t in
+      has_mapped k who props natural (fills_alone (id t.next_id) (workspace_of there (id t.next_id)) there) (id t.next_id) t g e
+
+  has_urgency : (v : ConId) (on : Bool) (t : TreeValue) → HasLast P t → HasLast P (with_urgency v on t)
+  has_urgency v true t g = has_settled k (with_urgent v t) (step (lists v t.urgent))
+    where
+      step : (b : Bool) → HasLast P (cond b t (record t { urgent = t.urgent ++ v ∷ [] }))
+      step true = g
+      step false = has_urgent k (t.urgent ++ v ∷ []) t g
+  has_urgency v false t g = has_settled k (without_urgent v t) (has_urgent k (without_id v t.urgent) t g)
+
+  has_reserve : (o : Option ConId) (edges : Edges) (t : TreeValue) → HasLast P t → HasLast P (settled (reserved_at o edges t))
+  has_reserve None edges t g = has_settled k t g
+  has_reserve (Some o) edges t g = has_settled k (reserved_at (Some o) edges t) (has_reserved k o edges t g)
+
+  has_add : (plan : OutputPlan) (t : TreeValue) → HasLast P t → add_answer plan t ≡ answers.Done → HasLast P (added plan t)
+  has_add plan t g h =
+      let may = may_add (is_some (output_named plan.name t)) (is_fit_rect plan.rect) (passed_by_output t.nodes t.next_id) h in
+      has_settled k (output_added_tree plan t) (has_added k plan t g (sound-with_output plan (free_name t) t (output_rect plan.rect may.0) may.1 g.sound))
+
+  -- a step keeps what lasts
+  pub has_after : (homes : List (List ℕ × List ℕ)) (t : TreeValue) (who : ℕ) (act : Act) → HasLast P t → HasLast P (tree_after homes t who act)
+  has_after homes t who (Run text verdict) g = has_outcome k homes verdict None t g
+  has_after homes t who (Map props buffer) g = by (has_no_pixels buffer.size)
+    where
+      by : (b : Bool) → HasLast P (cond b t (map_tree t who props buffer.size (limit_of t)))
+      by true = g
+      by false = has_map who props buffer.size (limit_of t) t refl g
+  has_after homes t who (Close v) g = has_done (window_answer t who v) (settled (detached v t)) t g (λ h. has_closed k v t g (is_con h))
+    where
+      is_con : window_answer t who v ≡ answers.Done → kind_of con_kind v t.nodes ≢ None
+      is_con h = by (is_window t who v) refl h
+        where
+          by : (b : Bool) → is_window t who v ≡ b → cond b answers.Done answers.NoView ≡ answers.Done → kind_of con_kind v t.nodes ≢ None
+          by true e z = some_part who (kind_of con_kind v t.nodes) e
+          by false e z = cc
+  has_after homes t who (Retitle v title) g = has_done (window_answer t who v) (retitled v title t) t g (λ h. has_settled k _ (has_titled k v title t g))
+  has_after homes t who (Urgent v on) g = has_done (window_answer t who v) (with_urgency v on t) t g (λ h. has_urgency v on t g)
+  has_after homes t who Gone g = has_settled k (without_windows (owned who t) t) (has_without (owned who t) t (owned_containers who t) g)
+  has_after homes t who (OutputAdd plan) g = has_done (add_answer plan t) (added plan t) t g (λ h. has_add plan t g h)
+  has_after homes t who (OutputRemove name) g = has_done (remove_answer name t) (removed name t) t g (λ h. has_settled k _ (has_removed k name t g))
+  has_after homes t who (Reserve name edges) g = has_done (reserve_answer name t) (reserved name edges t) t g (λ h. has_reserve (output_named name t) edges t g)
+  has_after homes t who (Ack v serial) g = g
+  has_after homes t who (Give v buffer) g = g
+  has_after homes t who (Deadline number) g = g
+  has_after homes t who Still g = g
+
+  -- and so does each history
+  pub has_history : (start : Start) (history : List Entry) → HasLast P start.opened → HasLast P (tree start history)
+  has_history start [] g = g
+  has_history start (entry ∷ history) g = has_after start.homes (tree start history) entry.who entry.act (has_history start history g)
+
+-- ---- trees in order
+
+pub histories_stay : (start : Start) (history : List Entry) → IsInOrder start.opened → IsInOrder (tree start history)
+histories_stay start history o =
+    let pad = has_history both_lasts start history (from start.opened o.sound o.scratchpad) in
+    let one = has_history single_lasts start history (record { sound = o.sound; held = single_of start.opened o.sound o.fullscreen }) in
+    record { sound = pad.sound; scratchpad = back (tree start history) pad; fullscreen = has_of (tree start history) one.sound one.held }
+
+pub histories_are : (plan : Plan) (history : List Entry) → IsSoundPlan plan → IsInOrder (tree (opening_of plan) history)
+histories_are plan history p =
+    let s : IsSound (opening_of plan).opened = sound-opening plan.outputs plan.border plan.inner plan.outer p.some p.few (fit_plans plan.outputs plan.outputs refl p.fit) in
+    histories_stay (opening_of plan) history
+    (record {
+      sound = s;
+      scratchpad = (openings_empty plan.outputs plan.border plan.inner plan.outer).1;
+      fullscreen = has_of (opening_of plan).opened s (single_opening plan.outputs plan.border plan.inner plan.outer);
+    })

@@ -1,0 +1,15 @@
+//! Laws of the trees that the histories of a desk leave.
+#![tactic(auto)]
+
+ghost use Rattle.law_desk.specs.LastingLaws.{HistoriesAreInOrder, HistoriesStayInOrder};
+
+/// A tree that is in order stays so through each history.
+pub fn histories_stay_in_order()
+    ensures { HistoriesStayInOrder }
+{}
+
+/// From a sound plan every history leaves a tree that is in order: sound, with only flagged windows in the scratchpad, each
+/// with an outer rectangle, and at most one fullscreen container in each workspace.
+pub fn histories_are_in_order()
+    ensures { HistoriesAreInOrder }
+{}

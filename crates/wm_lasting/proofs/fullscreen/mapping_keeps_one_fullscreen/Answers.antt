@@ -1,6 +1,0 @@
--- By the lemma of that name.
-use Rattle.wm_lasting.proofs.SingleLasts.{mapping_keeps}
-use Rattle.wm_lasting.proofs.fullscreen.mapping_keeps_one_fullscreen.Goals as goal
-
-pub returns : goal.returns
-returns c = mapping_keeps

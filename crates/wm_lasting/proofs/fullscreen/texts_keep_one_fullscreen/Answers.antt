@@ -1,6 +1,0 @@
--- By the lemma of that name.
-use Rattle.wm_lasting.proofs.SingleLasts.{texts_keep}
-use Rattle.wm_lasting.proofs.fullscreen.texts_keep_one_fullscreen.Goals as goal
-
-pub returns : goal.returns
-returns c = texts_keep

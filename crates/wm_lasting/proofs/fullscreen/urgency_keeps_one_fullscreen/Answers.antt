@@ -1,6 +1,0 @@
--- By the lemma of that name.
-use Rattle.wm_lasting.proofs.SingleLasts.{urgency_keeps}
-use Rattle.wm_lasting.proofs.fullscreen.urgency_keeps_one_fullscreen.Goals as goal
-
-pub returns : goal.returns
-returns c = urgency_keeps

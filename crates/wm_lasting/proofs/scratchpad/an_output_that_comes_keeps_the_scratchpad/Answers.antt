@@ -1,6 +1,0 @@
--- By the lemma of that name.
-use Rattle.wm_lasting.proofs.ScratchpadLemmas.{added_outputs_keep}
-use Rattle.wm_lasting.proofs.scratchpad.an_output_that_comes_keeps_the_scratchpad.Goals as goal
-
-pub returns : goal.returns
-returns c = added_outputs_keep

@@ -1,6 +1,0 @@
--- By the lemma of that name.
-use Rattle.wm_lasting.proofs.ScratchpadLemmas.{urgency_keeps}
-use Rattle.wm_lasting.proofs.scratchpad.urgency_keeps_the_scratchpad.Goals as goal
-
-pub returns : goal.returns
-returns c = urgency_keeps

@@ -1,0 +1,33 @@
+-- Texts that are UTF-8, or are not.
+use Rattle.std.proofs.Common.{◌≡◌, ◌∙◌, refl, ap, ℕ, List, None, Some, Bool, true, false, leb, length, ◌≤◌, ⊎_elim, arith}
+use Rattle.std.specs.Str.{is_utf8, IsUtf8}
+use Rattle.std.proofs.lemmas.Bool.Decides.{leb_tells}
+use Rattle.std.proofs.lemmas.Str.{IsUtf8-from_is_utf8, is_utf8-from_IsUtf8}
+use Rattle.wm_script.specs.declared.line.Deed.TheVariants.{Run}
+use Rattle.wm_script.specs.Quoted.{short_text}
+use Rattle.wm_script.specs.Lines.{run_at}
+
+-- bytes that are no UTF-8
+pub not_utf8 : (bytes : List ℕ) → (IsUtf8 bytes → ⊥) → is_utf8 bytes ≡ false
+not_utf8 bytes bad = by_test (is_utf8 bytes) refl
+  where
+    by_test : (b : Bool) → is_utf8 bytes ≡ b → b ≡ false
+    by_test false e = refl
+    by_test true e = absurd (bad (IsUtf8-from_is_utf8 bytes e))
+
+-- a line's text is run where it is UTF-8
+pub run_text : (bytes : List ℕ) → IsUtf8 bytes → run_at bytes ≡ Some (Run bytes)
+run_text bytes text = rw (is_utf8-from_IsUtf8 bytes text) refl
+
+pub run_no_text : (bytes : List ℕ) → (IsUtf8 bytes → ⊥) → run_at bytes ≡ None
+run_no_text bytes bad = rw (not_utf8 bytes bad) refl
+
+at_most : (a b : ℕ) → a ≤ b → leb a b ≡ true
+at_most a b h = ⊎_elim (λ p. p.0) (λ p. absurd (omega (arith, p.1, h))) (leb_tells a b)
+
+-- a quoted text is taken where it is UTF-8 and short
+pub is_short : (bytes : List ℕ) → IsUtf8 bytes → length bytes ≤ 1024 → short_text bytes ≡ Some bytes
+is_short bytes text short = rw (is_utf8-from_IsUtf8 bytes text, at_most (length bytes) 1024 short) refl
+
+pub is_no_text : (bytes : List ℕ) → (IsUtf8 bytes → ⊥) → short_text bytes ≡ None
+is_no_text bytes bad = rw (not_utf8 bytes bad) refl

@@ -1,0 +1,6 @@
+use Rattle.wm_script.specs.Script.{lines_of}
+use Rattle.wm_script.proofs.LawLemmas.{first_bad}
+use Rattle.wm_script.proofs.laws.bad_line_is_first.Goals as goal
+
+pub returns : goal.returns
+returns c = λ bytes line e. first_bad (lines_of bytes) line e

@@ -1,0 +1,5 @@
+pub mod Fields
+pub mod Lines
+pub mod Properties
+pub mod Quoted
+pub mod Script

@@ -1,0 +1,17 @@
+//! Scripts: what their lines say, and in which order they may stand.
+#![tactic(auto)]
+
+mod client_lines;
+mod fields;
+mod laws;
+mod line;
+mod output_lines;
+mod plan_lines;
+mod properties;
+mod quoted;
+mod script;
+mod window_lines;
+
+pub use laws::{bad_line_is_first, script_is_its_lines};
+pub use line::{Deed, Line};
+pub use script::{ScriptRefusal, read_script};

@@ -1,0 +1,167 @@
+//! Properties of a window on a line of a script.
+ghost use Rattle.std.specs.Prelude.{◌≡◌, ◌≤◌, IfOk, length};
+ghost use Rattle.std.specs.Option.{option_map};
+ghost use Rattle.wm_script.specs.Properties.{field_at, none_given, or_text, properties_at, property_at, props_of, with_property};
+
+use crate::fields::behind;
+use crate::quoted::quoted;
+use std::alloc::{AllocError, Global};
+use wm_base::{NoMemory, Props, Text, TextRefusal};
+
+/// How many properties there are.
+pub const FIELDS: u32 = 6;
+
+/// A property.
+#[derive(Clone, Copy, Debug, PartialEq, Eq)]
+pub enum Field {
+    Class,
+    Instance,
+    Role,
+    Kind,
+    Machine,
+    Title,
+}
+
+/// The properties that a line gives.
+#[derive(Debug, Drop)]
+pub struct Given {
+    class: Option<Text>,
+    instance: Option<Text>,
+    role: Option<Text>,
+    kind: Option<Text>,
+    machine: Option<Text>,
+    title: Option<Text>,
+}
+
+impl Given {
+    /// No properties.
+    pub fn none() -> Given
+        ensures { result ≡ none_given }
+    {
+        Given {
+            class: None,
+            instance: None,
+            role: None,
+            kind: None,
+            machine: None,
+            title: None,
+        }
+    }
+
+    /// These properties with one more. `None` exactly where it was given before.
+    fn with(self, field: Field, text: Text) -> Option<Given>
+        ensures { result ≡ with_property field text self }
+    {
+        let mut given = self;
+        let before = match field {
+            Field::Class => given.class.replace(text),
+            Field::Instance => given.instance.replace(text),
+            Field::Role => given.role.replace(text),
+            Field::Kind => given.kind.replace(text),
+            Field::Machine => given.machine.replace(text),
+            Field::Title => given.title.replace(text),
+        };
+        if before.is_none() { Some(given) } else { None }
+    }
+
+    /// The properties of a window: what was not given is empty, and its kind is `normal`.
+    pub fn props(self, alloc: Global) -> Result<Props, NoMemory>
+        ensures { IfOk result (λ props. props ≡ props_of self) }
+    {
+        let none = word(alloc, "")?;
+        let normal = word(alloc, "normal")?;
+        Ok(Props {
+            class: or_text(self.class, &none)?,
+            instance: or_text(self.instance, &none)?,
+            role: or_text(self.role, &none)?,
+            kind: or_text(self.kind, &normal)?,
+            machine: or_text(self.machine, &none)?,
+            title: or_text(self.title, &none)?,
+        })
+    }
+}
+
+/// These properties with at most `most` others, which reach to the end of the text.
+pub fn properties(
+    alloc: Global,
+    given: Given,
+    text: &[u8],
+    most: u32,
+) -> Result<Option<Given>, NoMemory>
+    ensures { IfOk result (λ all. all ≡ properties_at most given text.now) }
+{
+    if text.is_empty() {
+        return Ok(Some(given));
+    }
+    if most == 0 {
+        return Ok(None);
+    }
+    match property(alloc, given, text)? {
+        Some((given, rest)) => properties(alloc, given, rest, most - 1),
+        None => Ok(None),
+    }
+}
+
+/// These properties with one more, which stands behind a blank, and what follows it.
+fn property(alloc: Global, given: Given, text: &[u8]) -> Result<Option<(Given, &[u8])>, NoMemory>
+    ensures { IfOk result (λ more. option_map (λ found. (found.0, found.1.now)) more ≡ property_at given text.now) }
+{
+    let Some(text) = behind(text, b" ") else {
+        return Ok(None);
+    };
+    let Some((field, text)) = named_field(text) else {
+        return Ok(None);
+    };
+    let Some((said, rest)) = quoted(alloc, text)? else {
+        return Ok(None);
+    };
+    match given.with(field, said) {
+        Some(given) => Ok(Some((given, rest))),
+        None => Ok(None),
+    }
+}
+
+/// The word of a property with its `=`, and what follows it.
+fn named_field(text: &[u8]) -> Option<(Field, &[u8])>
+    ensures { option_map (λ found. (found.0, found.1.now)) result ≡ field_at text.now }
+{
+    if let Some(rest) = behind(text, b"class=") {
+        return Some((Field::Class, rest));
+    }
+    if let Some(rest) = behind(text, b"instance=") {
+        return Some((Field::Instance, rest));
+    }
+    if let Some(rest) = behind(text, b"role=") {
+        return Some((Field::Role, rest));
+    }
+    if let Some(rest) = behind(text, b"kind=") {
+        return Some((Field::Kind, rest));
+    }
+    if let Some(rest) = behind(text, b"machine=") {
+        return Some((Field::Machine, rest));
+    }
+    let rest = behind(text, b"title=")?;
+    Some((Field::Title, rest))
+}
+
+/// The text, or a copy of the other where there is none.
+fn or_text(text: Option<Text>, other: &Text) -> Result<Text, AllocError>
+    ensures { IfOk result (λ whole. whole ≡ or_text text other.now) }
+{
+    match text {
+        Some(text) => Ok(text),
+        None => other.clone(),
+    }
+}
+
+/// A short text.
+fn word(alloc: Global, text: &str) -> Result<Text, NoMemory>
+    requires { length text.now ≤ 1024 }
+    ensures { IfOk result (λ word. word ≡ text.now) }
+{
+    match Text::new(alloc, text) {
+        Ok(word) => Ok(word),
+        Err(TextRefusal::TooLong { len: _ }) => unreachable!(),
+        Err(TextRefusal::NoMemory) => Err(NoMemory),
+    }
+}

@@ -1,0 +1,9 @@
+pub mod DownLemmas
+pub mod KeyLemmas
+pub mod KidLemmas
+pub mod NeighbourLemmas
+pub mod RiseLemmas
+pub mod ShowLemmas
+pub mod SpaceLemmas
+pub mod SpaceOfLemmas
+pub mod StandingLemmas

@@ -1,0 +1,7 @@
+pub mod Keys
+pub mod Neighbours
+pub mod Outputs
+pub mod Rects
+pub mod Refusing
+pub mod Showing
+pub mod Subject

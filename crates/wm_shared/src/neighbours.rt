@@ -1,0 +1,88 @@
+//! The axis of a layout and of a direction, and the neighbours in a row.
+ghost use Rattle.std.specs.Prelude.{◌≡◌};
+ghost use Rattle.wm_shared.specs.Neighbours.{after, axis_of, before, dir_axis, first_id, is_forward, last_id, neighbour};
+
+use wm_base::{Axis, ConId, Dir, Layout};
+use wm_tree::Cursor;
+
+/// The axis along which a layout puts its children.
+pub fn layout_axis(layout: Layout) -> Axis
+    ensures { result ≡ axis_of layout }
+{
+    match layout {
+        Layout::SplitH | Layout::Tabbed => Axis::Across,
+        Layout::SplitV | Layout::Stacked => Axis::Down,
+    }
+}
+
+/// The axis of a direction.
+pub fn dir_axis(d: Dir) -> Axis
+    ensures { result ≡ dir_axis d }
+{
+    match d {
+        Dir::Left | Dir::Right => Axis::Across,
+        Dir::Up | Dir::Down => Axis::Down,
+    }
+}
+
+/// Whether the direction is towards the end of a row.
+pub fn is_forward(d: Dir) -> bool
+    ensures { result ≡ is_forward d }
+{
+    match d {
+        Dir::Left | Dir::Up => false,
+        Dir::Right | Dir::Down => true,
+    }
+}
+
+/// The node's neighbour in the row on that side.
+pub fn neighbour(d: Dir, con: ConId, row: &Cursor<'_>) -> Option<ConId>
+    ensures { result ≡ neighbour d con row.now }
+{
+    if is_forward(d) {
+        after(row, con)
+    } else {
+        before(row, con)
+    }
+}
+
+/// The first node of the row.
+pub fn first_id(row: &Cursor<'_>) -> Option<ConId>
+    ensures { result ≡ first_id row.now }
+{
+    Some(row.part()?.id)
+}
+
+/// The last node of the row.
+pub fn last_id(row: Cursor<'_>) -> Option<ConId>
+    ensures { result ≡ last_id row.entry }
+{
+    let part = row.part()?;
+    last_id(row.rest()).or(Some(part.id))
+}
+
+/// The node after this one in the row.
+fn after(row: &Cursor<'_>, con: ConId) -> Option<ConId>
+    ensures { result ≡ after con row.now }
+{
+    let part = row.part()?;
+    let rest = row.rest();
+    if part.id == con {
+        first_id(&rest)
+    } else {
+        after(&rest, con)
+    }
+}
+
+/// The node before this one in the row.
+fn before(row: &Cursor<'_>, con: ConId) -> Option<ConId>
+    ensures { result ≡ before con row.now }
+{
+    let part = row.part()?;
+    let rest = row.rest();
+    if first_id(&rest) == Some(con) {
+        Some(part.id)
+    } else {
+        before(&rest, con)
+    }
+}
