@@ -1,0 +1,173 @@
+//! The calls that add, move and remove nodes.
+ghost use Rattle.cases_tree.specs.Desk.{Holds};
+ghost use Rattle.std.specs.Prelude.{◌≡◌, true};
+ghost use Rattle.wm_tree.specs.Place.{IsPlace};
+
+use crate::desk::{Desk, is_fit, plan};
+use crate::fault::Fault;
+use crate::news::{placeholder, props_words, window};
+use crate::telling::{tell_done, tell_id};
+use crate::words::Words;
+use wm_tree::{NewCon, Place, Tree};
+
+/// Adds what the next word says.
+pub fn add(desk: &mut Desk, words: &mut Words<'_>, out: &mut String) -> Result<(), Fault>
+    requires { Holds desk.old }
+    ensures { Holds desk.new }
+{
+    match words.word() {
+        "window" => {
+            let at = place(&desk.tree, words)?;
+            attach(desk, at, window(words)?, out)
+        }
+        "placeholder" => {
+            let at = place(&desk.tree, words)?;
+            attach(desk, at, placeholder(words)?, out)
+        }
+        "split" => {
+            let layout = words.layout()?;
+            let at = place(&desk.tree, words)?;
+            attach(desk, at, NewCon::Split { layout }, out)
+        }
+        "output" => add_output(desk, words, out),
+        "workspace" => add_workspace(desk, words, out),
+        _ => Err(Fault::BadLine),
+    }
+}
+
+/// A place like `after 6`, `float 4 10,20 300x400` or `new`, where a new window goes.
+fn place(tree: &Tree, words: &mut Words<'_>) -> Result<Place, Fault> {
+    match words.word() {
+        "after" => Ok(Place::After(words.con()?)),
+        "before" => Ok(Place::Before(words.con()?)),
+        "first" => Ok(Place::First(words.con()?)),
+        "last" => Ok(Place::Last(words.con()?)),
+        "float" => Ok(Place::Float(words.con()?, words.rect()?)),
+        "scratchpad" => Ok(Place::Scratchpad(words.rect()?)),
+        "new" => Ok(tree.newcomer_place()),
+        _ => Err(Fault::BadLine),
+    }
+}
+
+/// Whether the place is one where the tree is known to stay sound.
+fn is_known(tree: &Tree, at: Place) -> bool
+    ensures { result ≡ true → IsPlace at tree.now.nodes }
+{
+    match at {
+        Place::After(con) | Place::Before(con) => tree.is_tiled(con),
+        Place::First(con) | Place::Last(con) | Place::Float(con, _) => tree.space(con).is_some(),
+        Place::Scratchpad(_) => true,
+    }
+}
+
+fn attach(desk: &mut Desk, at: Place, new: NewCon, out: &mut String) -> Result<(), Fault>
+    requires { Holds desk.old }
+    ensures { Holds desk.new }
+{
+    desk.sound = desk.sound && is_known(&desk.tree, at);
+    let answer = desk.tree.attach(at, new);
+    tell_id(out, answer)
+}
+
+fn add_output(desk: &mut Desk, words: &mut Words<'_>, out: &mut String) -> Result<(), Fault>
+    requires { Holds desk.old }
+    ensures { Holds desk.new }
+{
+    let plan = plan(words)?;
+    let name = words.last_text()?;
+    desk.sound = desk.sound && is_fit(plan.rect);
+    let answer = desk.tree.add_output(&plan, &name);
+    tell_id(out, answer)
+}
+
+fn add_workspace(desk: &mut Desk, words: &mut Words<'_>, out: &mut String) -> Result<(), Fault>
+    requires { Holds desk.old }
+    ensures { Holds desk.new }
+{
+    let output = words.con()?;
+    let name = words.last_text()?;
+    desk.sound = false;
+    let answer = desk.tree.add_workspace(output, &name);
+    tell_id(out, answer)
+}
+
+/// `move 6 last 4`: moves a container to a place.
+pub fn move_con(desk: &mut Desk, words: &mut Words<'_>, out: &mut String) -> Result<(), Fault>
+    requires { Holds desk.old }
+    ensures { Holds desk.new }
+{
+    let con = words.con()?;
+    let at = place(&desk.tree, words)?;
+    desk.sound = false;
+    let answer = desk.tree.move_to(con, at);
+    tell_done(out, answer)
+}
+
+/// `detach 6`: takes a container out.
+pub fn detach(desk: &mut Desk, words: &mut Words<'_>, out: &mut String) -> Result<(), Fault>
+    requires { Holds desk.old }
+    ensures { Holds desk.new }
+{
+    let con = words.con()?;
+    desk.sound = desk.sound && desk.tree.container(con).is_some();
+    let answer = desk.tree.detach(con);
+    tell_done(out, answer)
+}
+
+/// `wrap 6 tabbed`: puts a split around a container.
+pub fn wrap(desk: &mut Desk, words: &mut Words<'_>, out: &mut String) -> Result<(), Fault>
+    requires { Holds desk.old }
+    ensures { Holds desk.new }
+{
+    let con = words.con()?;
+    let layout = words.layout()?;
+    desk.sound = desk.sound && desk.tree.is_tiled(con);
+    let answer = desk.tree.wrap(con, layout);
+    tell_id(out, answer)
+}
+
+/// `exchange 6 8`: two containers change places.
+pub fn exchange(desk: &mut Desk, words: &mut Words<'_>, out: &mut String) -> Result<(), Fault>
+    requires { Holds desk.old }
+    ensures { Holds desk.new }
+{
+    let (con, other) = (words.con()?, words.con()?);
+    desk.sound = false;
+    let answer = desk.tree.exchange(con, other);
+    tell_done(out, answer)
+}
+
+/// `move-workspace 5 2`: a workspace goes to an output.
+pub fn move_space(desk: &mut Desk, words: &mut Words<'_>, out: &mut String) -> Result<(), Fault>
+    requires { Holds desk.old }
+    ensures { Holds desk.new }
+{
+    let (space, output) = (words.con()?, words.con()?);
+    desk.sound = false;
+    let answer = desk.tree.move_workspace(space, output);
+    tell_done(out, answer)
+}
+
+/// `remove-output 2`: an output goes.
+pub fn remove_output(desk: &mut Desk, words: &mut Words<'_>, out: &mut String) -> Result<(), Fault>
+    requires { Holds desk.old }
+    ensures { Holds desk.new }
+{
+    let output = words.con()?;
+    desk.sound = false;
+    let answer = desk.tree.remove_output(output);
+    tell_done(out, answer)
+}
+
+/// `fill 6 9 30x20 term`: a placeholder becomes a window of caller 9.
+pub fn fill(desk: &mut Desk, words: &mut Words<'_>, out: &mut String) -> Result<(), Fault>
+    requires { Holds desk.old }
+    ensures { Holds desk.new }
+{
+    let con = words.con()?;
+    let owner = words.number()?;
+    let natural = words.size()?;
+    let props = props_words(words)?;
+    let answer = desk.tree.fill(con, &props, owner, natural);
+    tell_done(out, answer)
+}

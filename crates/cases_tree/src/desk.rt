@@ -1,0 +1,103 @@
+//! What the lines of a case act on: a tree, and what was kept of it and of its arrangement.
+ghost use Rattle.std.specs.Prelude.{◌≡◌, true, IfOk};
+ghost use Rattle.wm_tree.specs.Sound.{FitPlans, IsOutputRect};
+ghost use Rattle.cases_tree.specs.Desk.{Holds};
+
+use crate::fault::Fault;
+use crate::words::Words;
+use std::alloc::Global;
+use wm_arrange::Arrangement;
+use wm_base::{Border, Edges, NoMemory, OutputPlan, Rect, Text};
+use wm_tree::Tree;
+
+/// A tree, whether each change so far was one that is known to keep it sound, and what was kept.
+#[derive(Drop)]
+pub struct Desk {
+    pub tree: Tree,
+    pub sound: bool,
+    pub kept: Option<Tree>,
+    pub held: Option<Arrangement>,
+}
+
+impl Desk {
+    /// The tree without outputs with which a file begins.
+    pub fn empty(alloc: Global) -> Result<Desk, NoMemory>
+        ensures { IfOk result Holds }
+    {
+        Ok(Desk {
+            tree: Tree::start(alloc, &[], Border::Bare, 0, 0)?,
+            sound: false,
+            kept: None,
+            held: None,
+        })
+    }
+}
+
+/// Begins with the opening tree of the border, the inner and the outer gap, and the outputs that the line names.
+pub fn start(desk: &mut Desk, words: &mut Words<'_>) -> Result<(), Fault>
+    requires { Holds desk.old }
+    ensures { Holds desk.new }
+{
+    let border = words.border()?;
+    let (inner, outer) = (words.number()?, words.number()?);
+    let plans = plans(words)?;
+    if plans.is_empty() || plans.len() > 8 {
+        return Err(Fault::BadLine);
+    }
+    let sound = are_fit(&plans);
+    let tree = Tree::start(words.alloc, &plans, border, inner, outer)?;
+    desk.sound = sound;
+    desk.tree = tree;
+    desk.kept = None;
+    desk.held = None;
+    Ok(())
+}
+
+/// The outputs that a line names, up to nine.
+fn plans(words: &mut Words<'_>) -> Result<Vec<OutputPlan>, Fault> {
+    let mut plans = Vec::new(words.alloc);
+    for _ in 0..9 {
+        if words.is_done() {
+            break;
+        }
+        plans.push(plan(words)?)?;
+    }
+    Ok(plans)
+}
+
+/// An output like `A 0,0 1000x800`, with nothing reserved.
+pub fn plan(words: &mut Words<'_>) -> Result<OutputPlan, Fault> {
+    let reserved = Edges {
+        top: 0,
+        right: 0,
+        bottom: 0,
+        left: 0,
+    };
+    Ok(OutputPlan {
+        name: words.text()?,
+        rect: words.rect()?,
+        reserved,
+    })
+}
+
+/// Whether the rectangles of the outputs are within the limits.
+fn are_fit(plans: &[OutputPlan]) -> bool
+    ensures { result ≡ true → FitPlans plans.now }
+{
+    match plans {
+        [] => true,
+        [plan, rest @ ..] => is_fit(plan.rect) && are_fit(rest),
+    }
+}
+
+/// Whether the rectangle of an output is within the limits.
+pub fn is_fit(rect: Rect) -> bool
+    ensures { result ≡ true → IsOutputRect rect }
+{
+    -131_072 <= rect.x
+        && rect.x <= 131_071
+        && -131_072 <= rect.y
+        && rect.y <= 131_071
+        && rect.w <= 16_384
+        && rect.h <= 16_384
+}

@@ -1,0 +1,42 @@
+//! The program cases_tree: cases of the tree's calls, of arrangements and of transactions, read from the files that it is
+//! given.
+#![tactic(auto)]
+
+mod changes;
+mod desk;
+mod fault;
+mod looks;
+mod marks;
+mod news;
+mod placed;
+mod play;
+mod sets;
+mod showing;
+mod telling;
+mod turns;
+mod words;
+
+use crate::fault::Fault;
+use crate::play::play;
+use crate::turns::play_turns;
+use std::{env, fs};
+
+fn main(rt: HostRuntime) -> Result<(), Fault> {
+    for word in env::args(&rt)?.skip(1) {
+        play_file(&rt, word.as_str())?;
+    }
+    Ok(())
+}
+
+/// Runs the cases of a file, on transactions where its name says so, else on trees.
+fn play_file(rt: &HostRuntime, name: &str) -> Result<(), Fault> {
+    let text = fs::read_to_string(rt, name)?;
+    let mut out = String::new(rt.alloc());
+    if name == "transactions.cases" {
+        play_turns(rt.alloc(), text.as_str(), &mut out)?;
+    } else {
+        play(rt.alloc(), text.as_str(), &mut out)?;
+    }
+    print!(rt; "{out}")?;
+    Ok(())
+}

@@ -1,0 +1,144 @@
+//! The lines of cases on trees and their arrangements.
+ghost use Rattle.cases_tree.specs.Desk.{Holds};
+
+use crate::desk::{Desk, start};
+use crate::fault::Fault;
+use crate::looks::read;
+use crate::sets::set;
+use crate::showing::push_tree;
+use crate::words::Words;
+use crate::{changes, marks, placed};
+use std::alloc::Global;
+use std::mem;
+use wm_tree::Tree;
+
+/// Does what the lines of a text say, and appends what comes out.
+pub fn play(alloc: Global, text: &str, out: &mut String) -> Result<(), Fault> {
+    let mut desk = Desk::empty(alloc)?;
+    for line in text.lines() {
+        take_line(&mut desk, alloc, line, out)?;
+    }
+    Ok(())
+}
+
+fn take_line(desk: &mut Desk, alloc: Global, line: &str, out: &mut String) -> Result<(), Fault>
+    requires { Holds desk.old }
+    ensures { Holds desk.new }
+{
+    if line.is_empty() || line.starts_with('#') {
+        return Ok(());
+    }
+    match run(desk, &mut Words::of(alloc, line), out) {
+        Err(Fault::BadLine) => Ok(writeln!(out, "bad line: {line}")?),
+        answer => answer,
+    }
+}
+
+fn run(desk: &mut Desk, words: &mut Words<'_>, out: &mut String) -> Result<(), Fault>
+    requires { Holds desk.old }
+    ensures { Holds desk.new }
+{
+    match words.word() {
+        "case" => Ok(writeln!(out, "case {}", words.rest())?),
+        "start" => start(desk, words),
+        "times" => times(desk, words, out),
+        "read" => read(&desk.tree, words, out),
+        "tree" => Ok(push_tree(words.alloc, out, &desk.tree)?),
+        "arrange" => placed::place(desk, words, out),
+        "again" => placed::compare(desk, words, out),
+        "area" => placed::area(desk, words, out),
+        "size" => placed::size(desk, words, out),
+        "cut" => placed::cut_all(words, out),
+        "keep" => keep(desk),
+        "back" => back(desk),
+        "same" => same(desk, words, out),
+        word => act(word, desk, words, out),
+    }
+}
+
+/// Does what a call that changes the tree says.
+fn act(word: &str, desk: &mut Desk, words: &mut Words<'_>, out: &mut String) -> Result<(), Fault>
+    requires { Holds desk.old }
+    ensures { Holds desk.new }
+{
+    match word {
+        "add" => changes::add(desk, words, out),
+        "move" => changes::move_con(desk, words, out),
+        "detach" => changes::detach(desk, words, out),
+        "wrap" => changes::wrap(desk, words, out),
+        "exchange" => changes::exchange(desk, words, out),
+        "fill" => changes::fill(desk, words, out),
+        "move-workspace" => changes::move_space(desk, words, out),
+        "remove-output" => changes::remove_output(desk, words, out),
+        "set" => set(desk, words),
+        "mark" => marks::mark(desk, words, out),
+        "marks" => marks::marks(desk, words, out),
+        "unmark" => marks::unmark(desk, words),
+        "urgent" => marks::urgent(desk, words, out),
+        "calm" => marks::calm(desk, words),
+        "raise" => marks::raise(desk, words),
+        "workspaces" => marks::workspaces(desk, words, out),
+        "settle" => settle(desk),
+        _ => Err(Fault::BadLine),
+    }
+}
+
+fn settle(desk: &mut Desk) -> Result<(), Fault>
+    requires { Holds desk.old }
+    ensures { Holds desk.new }
+{
+    desk.tree.settle();
+    Ok(())
+}
+
+/// `times 255 add window last 4`: makes a call so often, and says the last answer.
+fn times(desk: &mut Desk, words: &mut Words<'_>, out: &mut String) -> Result<(), Fault>
+    requires { Holds desk.old }
+    ensures { Holds desk.new }
+{
+    let count = words.number()?;
+    let line = words.rest();
+    let mut answer = String::new(words.alloc);
+    for _ in 0..count {
+        answer.clear();
+        let mut call = Words::of(words.alloc, line);
+        act(call.word(), desk, &mut call, &mut answer)?;
+    }
+    Ok(out.push_str(answer.as_str())?)
+}
+
+/// Keeps a copy of the tree.
+fn keep(desk: &mut Desk) -> Result<(), Fault>
+    requires { Holds desk.old }
+    ensures { Holds desk.new }
+{
+    desk.kept = Some(desk.tree.copy()?);
+    Ok(())
+}
+
+/// Goes back to the copy that was kept.
+fn back(desk: &mut Desk) -> Result<(), Fault>
+    ensures { Holds desk.new }
+{
+    desk.sound = false;
+    if let Some(tree) = &mut desk.kept {
+        mem::swap(&mut desk.tree, tree);
+    }
+    Ok(())
+}
+
+/// Says whether the tree is the one that was kept.
+fn same(desk: &Desk, words: &Words<'_>, out: &mut String) -> Result<(), Fault> {
+    let now = shown(words.alloc, &desk.tree)?;
+    let same = match &desk.kept {
+        Some(tree) => shown(words.alloc, tree)?.as_str() == now.as_str(),
+        None => false,
+    };
+    Ok(writeln!(out, "same {same}")?)
+}
+
+fn shown(alloc: Global, tree: &Tree) -> Result<String, Fault> {
+    let mut lines = String::new(alloc);
+    push_tree(alloc, &mut lines, tree)?;
+    Ok(lines)
+}

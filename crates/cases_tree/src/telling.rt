@@ -1,0 +1,59 @@
+//! The lines that say what was answered.
+use crate::fault::Fault;
+use std::alloc::AllocError;
+use wm_base::{Border, ConId, Layout, Rect};
+use wm_tree::TreeRefusal;
+
+/// The line of a call that gives an id.
+pub fn tell_id(out: &mut String, answer: Result<ConId, TreeRefusal>) -> Result<(), Fault> {
+    match answer {
+        Ok(con) => Ok(writeln!(out, "{}", con.0)?),
+        Err(refusal) => tell_refusal(out, refusal),
+    }
+}
+
+/// The line of a call that gives nothing.
+pub fn tell_done(out: &mut String, answer: Result<(), TreeRefusal>) -> Result<(), Fault> {
+    match answer {
+        Ok(()) => Ok(writeln!(out, "done")?),
+        Err(refusal) => tell_refusal(out, refusal),
+    }
+}
+
+fn tell_refusal(out: &mut String, refusal: TreeRefusal) -> Result<(), Fault> {
+    match refusal {
+        TreeRefusal::Full { limit } => Ok(writeln!(out, "full {}", limit.word())?),
+        TreeRefusal::Missing(con) => Ok(writeln!(out, "missing {}", con.0)?),
+        TreeRefusal::NoMemory => Err(Fault::NoMemory),
+    }
+}
+
+/// An id, or `none`.
+pub fn push_con(out: &mut String, con: Option<ConId>) -> Result<(), AllocError> {
+    match con {
+        Some(con) => write!(out, "{}", con.0),
+        None => out.push_str("none"),
+    }
+}
+
+pub fn push_rect(out: &mut String, rect: Rect) -> Result<(), AllocError> {
+    let Rect { x, y, w, h } = rect;
+    write!(out, "{x},{y} {w}x{h}")
+}
+
+pub fn push_border(out: &mut String, border: Border) -> Result<(), AllocError> {
+    match border {
+        Border::Normal(width) => write!(out, "normal {width}"),
+        Border::Pixel(width) => write!(out, "pixel {width}"),
+        Border::Bare => out.push_str("none"),
+    }
+}
+
+pub fn layout_word(layout: Layout) -> &'static str {
+    match layout {
+        Layout::SplitH => "splith",
+        Layout::SplitV => "splitv",
+        Layout::Tabbed => "tabbed",
+        Layout::Stacked => "stacked",
+    }
+}

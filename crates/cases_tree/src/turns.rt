@@ -1,0 +1,219 @@
+//! The lines of cases on transactions.
+ghost use Rattle.std.specs.Prelude.{◌≡◌, ◌≤◌, ◌<◌, ◌^◌, IfOk};
+ghost use Rattle.wm_txn.specs.Machine.{last_prefix};
+
+use crate::fault::Fault;
+use crate::placed::push_parts;
+use crate::words::Words;
+use std::alloc::{AllocError, Global};
+use wm_arrange::{Arrangement, Placed, PlacedPart};
+use wm_base::{Buffer, ConId, List, NoMemory};
+use wm_txn::{AckRefusal, BufferRefusal, Txn};
+
+/// How many lines of a case are taken.
+const MOST: u64 = 1_000_000;
+
+/// The transactions of a case, and how many entries they took.
+#[derive(Drop)]
+struct Turns {
+    txn: Txn,
+    place: u64,
+    ghost rises: { last_prefix txn ≤ place },
+    ghost few: { place ≤ 1000000 },
+}
+
+/// What an entry brings: the arrangement after it, the window that it mapped, and those that are gone.
+#[derive(Drop)]
+struct News {
+    parts: Vec<Placed>,
+    fresh: Option<(ConId, Buffer)>,
+    gone: Vec<ConId>,
+}
+
+/// Does what the lines of a text say, and appends what comes out.
+pub fn play_turns(alloc: Global, text: &str, out: &mut String) -> Result<(), Fault> {
+    let mut turns = Turns::start(alloc)?;
+    for line in text.lines() {
+        if !line.is_empty() && !line.starts_with('#') {
+            turns.take_line(alloc, line, out)?;
+        }
+    }
+    Ok(())
+}
+
+impl Turns {
+    /// Transactions that begin with an empty arrangement.
+    fn start(alloc: Global) -> Result<Turns, NoMemory> {
+        let first = Arrangement {
+            parts: List::of(Vec::new(alloc)),
+        };
+        let txn = Txn::start(alloc, first)?;
+        Ok(Turns { txn, place: 0 })
+    }
+
+    fn take_line(&mut self, alloc: Global, line: &str, out: &mut String) -> Result<(), Fault> {
+        match self.run(&mut Words::of(alloc, line), out) {
+            Err(Fault::BadLine) => Ok(writeln!(out, "bad line: {line}")?),
+            answer => answer,
+        }
+    }
+
+    fn run(&mut self, words: &mut Words<'_>, out: &mut String) -> Result<(), Fault> {
+        match words.word() {
+            "case" => {
+                *self = Turns::start(words.alloc)?;
+                Ok(writeln!(out, "case {}", words.rest())?)
+            }
+            "admit" => self.admit(words),
+            "ack" => self.ack(words, out),
+            "buffer" => self.buffer(words, out),
+            "deadline" => self.deadline(words),
+            "tell" => self.tell(words, out),
+            "current" => Ok(push_parts(out, self.txn.current())?),
+            _ => Err(Fault::BadLine),
+        }
+    }
+
+    /// The number of earlier entries. Counts one more.
+    fn count(&mut self) -> Result<u64, Fault>
+        ensures place { IfOk result (λ place. (place < 2 ^ 48) × (last_prefix self.old.txn ≤ place) × (place + 1 ≡ self.new.place)) }
+        ensures same { self.new.txn ≡ self.old.txn }
+    {
+        if self.place >= MOST {
+            return Err(Fault::BadLine);
+        }
+        let place = self.place;
+        self.place += 1;
+        Ok(place)
+    }
+
+    fn admit(&mut self, words: &mut Words<'_>) -> Result<(), Fault> {
+        let News { parts, fresh, gone } = read_news(words)?;
+        let newest = Arrangement {
+            parts: List::of(parts),
+        };
+        let place = self.count()?;
+        self.txn.admit(place, newest, fresh, &gone)?;
+        Ok(())
+    }
+
+    fn ack(&mut self, words: &mut Words<'_>, out: &mut String) -> Result<(), Fault> {
+        let con = words.con()?;
+        let serial = words.serial()?;
+        let _place = self.count()?;
+        match self.txn.ack(con, serial) {
+            Ok(()) => Ok(writeln!(out, "done")?),
+            Err(AckRefusal::NoView) => Ok(writeln!(out, "no view")?),
+            Err(AckRefusal::BadSerial { asked, last }) => {
+                Ok(writeln!(out, "bad serial {asked} {last}")?)
+            }
+        }
+    }
+
+    fn buffer(&mut self, words: &mut Words<'_>, out: &mut String) -> Result<(), Fault> {
+        let con = words.con()?;
+        let buffer = buffer(words)?;
+        let place = self.count()?;
+        match self.txn.buffer(place, con, buffer) {
+            Ok(()) => Ok(writeln!(out, "done")?),
+            Err(BufferRefusal::NoView) => Ok(writeln!(out, "no view")?),
+            Err(BufferRefusal::Empty) => Ok(writeln!(out, "empty")?),
+        }
+    }
+
+    fn deadline(&mut self, words: &mut Words<'_>) -> Result<(), Fault> {
+        let number = words.serial()?;
+        let place = self.count()?;
+        self.txn.deadline(place, number);
+        Ok(())
+    }
+
+    /// `tell 4 5`: what has ended and what waits, and of each window what it shows and was asked.
+    fn tell(&self, words: &mut Words<'_>, out: &mut String) -> Result<(), Fault> {
+        push_state(out, &self.txn)?;
+        for _ in 0..9 {
+            if words.is_done() {
+                break;
+            }
+            push_window(out, &self.txn, words.con()?)?;
+        }
+        Ok(())
+    }
+}
+
+fn push_state(out: &mut String, txn: &Txn) -> Result<(), AllocError> {
+    write!(
+        out,
+        "done {}, prefix {}, waiting ",
+        txn.done(),
+        txn.prefix()
+    )?;
+    match txn.waiting() {
+        Some(waiting) => {
+            let (number, least, acked) = (waiting.number, waiting.least.0, waiting.acked);
+            writeln!(out, "{number} for {least}, acknowledged {acked}")
+        }
+        None => writeln!(out, "none"),
+    }
+}
+
+fn push_window(out: &mut String, txn: &Txn, con: ConId) -> Result<(), AllocError> {
+    write!(out, "{} shows ", con.0)?;
+    match txn.shown(con) {
+        Some(buffer) => write!(
+            out,
+            "{:06x} {}x{}",
+            buffer.ink.0, buffer.size.w, buffer.size.h
+        )?,
+        None => out.push_str("none")?,
+    }
+    out.push_str(", asked ")?;
+    match txn.asked(con) {
+        Some((serial, size)) => writeln!(out, "{serial} {}x{}", size.w, size.h),
+        None => writeln!(out, "none"),
+    }
+}
+
+/// A buffer like `00ff00 640x480`.
+fn buffer(words: &mut Words<'_>) -> Result<Buffer, Fault> {
+    Ok(Buffer {
+        ink: words.ink()?,
+        size: words.size()?,
+    })
+}
+
+/// What an entry brings, as `map 4 00ff00 640x480 content 4 0,0 1000x800` or `gone 4`.
+fn read_news(words: &mut Words<'_>) -> Result<News, Fault> {
+    let mut news = News {
+        parts: Vec::new(words.alloc),
+        fresh: None,
+        gone: Vec::new(words.alloc),
+    };
+    for _ in 0..100 {
+        if words.is_done() {
+            break;
+        }
+        take_news(&mut news, words)?;
+    }
+    Ok(news)
+}
+
+fn take_news(news: &mut News, words: &mut Words<'_>) -> Result<(), Fault> {
+    match words.word() {
+        "map" => news.fresh = Some((words.con()?, buffer(words)?)),
+        "gone" => news.gone.push(words.con()?)?,
+        "back" => news.parts.push(part(PlacedPart::Back, words)?)?,
+        "area" => news.parts.push(part(PlacedPart::Area, words)?)?,
+        "content" => news.parts.push(part(PlacedPart::Content, words)?)?,
+        _ => return Err(Fault::BadLine),
+    }
+    Ok(())
+}
+
+fn part(part: PlacedPart, words: &mut Words<'_>) -> Result<Placed, Fault> {
+    Ok(Placed {
+        con: words.con()?,
+        part,
+        rect: words.rect()?,
+    })
+}
