@@ -1,5 +1,5 @@
 use Rattle.wm_tree.specs.Forest.{node_count}
-use Rattle.wm_sizes.proofs.climbing.+after.Given as goal
+use Rattle.wm_shared.proofs.neighbours.+after.Given as goal
 
 abbrev pub decreases-after : goal.decreases-after
 decreases-after l = node_count l.row.now

@@ -1,5 +1,5 @@
 use Rattle.wm_tree.specs.Forest.{node_count}
-use Rattle.wm_sizes.proofs.climbing.+before.Given as goal
+use Rattle.wm_shared.proofs.neighbours.+before.Given as goal
 
 abbrev pub decreases-before : goal.decreases-before
 decreases-before l = node_count l.row.now

@@ -1,5 +1,0 @@
-use Rattle.wm_tree.specs.Forest.{node_count}
-use Rattle.wm_focus.proofs.rungs.+before.Given as goal
-
-abbrev pub decreases-before : goal.decreases-before
-decreases-before l = node_count l.row
