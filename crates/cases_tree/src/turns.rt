@@ -1,5 +1,5 @@
 //! The lines of cases on transactions.
-ghost use Rattle.std.specs.Prelude.{◌≡◌, ◌≤◌, ◌<◌, ◌^◌, IfOk};
+ghost use Rattle.std.specs.Prelude.{◌≡◌, ◌≤◌, ◌<◌, ◌+◌, ◌^◌, IfOk};
 ghost use Rattle.wm_txn.specs.Machine.{last_prefix};
 
 use crate::fault::Fault;
