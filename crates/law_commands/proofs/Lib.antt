@@ -1,8 +1,12 @@
+pub mod FocusLaws
 pub mod FocusingLemmas
 pub mod KeepingLemmas
 pub mod PartMaps
 pub mod RaiseKeeps
+pub mod RaisedFocus
 pub mod SendLaws
 pub mod ShowLaws
+pub mod ShownLemmas
 pub mod TradeLemmas
 pub mod TurnLaws
+pub mod UnderLemmas

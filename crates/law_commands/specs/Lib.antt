@@ -1,3 +1,4 @@
+pub mod Focused
 pub mod Focusing
 pub mod Sending
 pub mod Showing

@@ -1,5 +1,12 @@
 //! Laws on the definitions of focusing.
+ghost use Rattle.law_commands.specs.Focused.{FocusFocuses};
 ghost use Rattle.law_commands.specs.Focusing.{ChildKeeps, DirectionKeeps, ParentKeeps};
+
+/// After `focus` on a container or workspace that is not refused, it is what is focused.
+#[tactic(auto, using(crate::proofs::FocusLaws::focus_focuses))]
+pub fn focus_focuses()
+    ensures { FocusFocuses }
+{}
 
 /// Focusing a child changes nothing but recency, urgency and fullscreen of its workspace.
 #[tactic(auto, using(crate::proofs::FocusingLemmas::child_keeps))]

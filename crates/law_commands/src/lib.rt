@@ -9,7 +9,7 @@ mod turning;
 
 pub use floating::floating_again_gives_the_rectangle_back;
 pub use focusing::{
-    focusing_a_child_keeps_the_rest, focusing_a_parent_keeps_the_rest,
+    focus_focuses, focusing_a_child_keeps_the_rest, focusing_a_parent_keeps_the_rest,
     focusing_in_a_direction_keeps_the_rest,
 };
 pub use keeping::{

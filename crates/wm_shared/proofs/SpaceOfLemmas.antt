@@ -25,7 +25,7 @@ con_space tiled room id (Space w) marks kids space n = absurd n
 con_space tiled room id (Con c) marks kids space n = refl
 
 -- what is among containers is in the workspace of their row
-low_space : (d : ConId) (s : Spot) (tiled : Bool) (room : ℕ) (row : Forest) → IsSoundRow containers tiled room row → has d row ≡ true → spaced (spot_in s d row) ≡ s.space
+pub low_space : (d : ConId) (s : Spot) (tiled : Bool) (room : ℕ) (row : Forest) → IsSoundRow containers tiled room row → has d row ≡ true → spaced (spot_in s d row) ≡ s.space
 low_space d s tiled room end p h = cc
 low_space d s tiled room (con part kids floats rest) p h =
     step (same part.id d) (has d kids) (has d floats) h (low_space d (spot_below true s part) true (room_below room part.kind) kids p.2) (low_space d (spot_below false s part) false (room_below room part.kind) floats p.3)

@@ -83,7 +83,7 @@ of_output w o (con part kids floats rest) h = step (same part.id o) h (of_output
     step false h ih = either (in_row w kids) (stands_on w rest) (ih h)
 
 -- the workspace that an output of the row shows
-shown_row : (c : ConId) (row : Forest) → IsSoundRow outputs true 32 row → in_row c row ≡ true → in_row (or_id (kind_by shown_of (first_part (node_in c row))) c) (first_kids (node_in c row)) ≡ true
+pub shown_row : (c : ConId) (row : Forest) → IsSoundRow outputs true 32 row → in_row c row ≡ true → in_row (or_id (kind_by shown_of (first_part (node_in c row))) c) (first_kids (node_in c row)) ≡ true
 shown_row c end s h = cc
 shown_row c (con part kids floats rest) s h = by_test (same part.id c) h (shown_row c rest s.4)
   where

@@ -53,7 +53,7 @@ count-parted m (con part kids floats rest) = step (is_sticky part.kind) (count-p
   step true h = omega (arith, h)
   step false h = omega (arith, h)
 
-has_loose : (i : ConId) (f : Forest) → has i f ≡ false → has i (loose f) ≡ false
+pub has_loose : (i : ConId) (f : Forest) → has i f ≡ false → has i (loose f) ≡ false
 has_loose i end h = h
 has_loose i (con part kids floats rest) h =
     let n = none_of_four (same part.id i) (has i kids) (has i floats) (has i rest) h in

@@ -62,7 +62,13 @@ impl Tree {
         ensures ids { OnOk result (self.now.next_id ≤ 4000000000) }
         ensures cause { IfErr result (IsAttachCause self.now at) }
     {
-        let share = self.share_at(at)?;
+        let share = match self.share_at(at) {
+            Ok(share) => share,
+            Err(refusal) => {
+                drop(new);
+                return Err(refusal);
+            }
+        };
         let id = ConId(self.next_id);
         let cell = new.cell(self.alloc, id, share, self.border, at.rect())?;
         Ok(Row { first: Some(cell) })
@@ -110,7 +116,7 @@ impl Row {
     pub(crate) fn put(&mut self, at: Place, row: Row)
         ensures { self.new ≡ put at row self.old }
     {
-        self.change(at.named(), Put { at, row });
+        drop(self.change(at.named(), Put { at, row }));
     }
 
     /// The row in which a newcomer at this place stands. `None` exactly where its node is not here.

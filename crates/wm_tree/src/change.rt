@@ -71,7 +71,7 @@ impl Cell {
     pub(crate) fn empty(&mut self, alloc: Global)
         ensures { alone self.new ≡ hole }
     {
-        *self = Cell::hole(alloc);
+        drop(mem::replace(self, Cell::hole(alloc)));
     }
 
     /// Makes the node ready for its new place. From another workspace (`away`) it loses fullscreen, and so does what

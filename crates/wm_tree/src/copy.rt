@@ -3,6 +3,7 @@ ghost use Rattle.std.specs.Prelude.{◌≡◌, ◌++◌, ◌∷◌, [], IfOk, On
 ghost use Rattle.wm_tree.specs.Forest.{end, con};
 ghost use Rattle.wm_tree.specs.Row.{row_of};
 ghost use Rattle.wm_tree.specs.TreeValue.{bare, filled};
+ghost use Rattle.wm_tree.specs.declared.part.ConKind.TheVariants.{Placeholder};
 
 use crate::part::{ConKind, ConPart, NodeKind, OutputPart, Part, SpacePart, Swallow, SwallowKey};
 use crate::row::{Cell, Row};
@@ -72,6 +73,23 @@ fn copy_swallows(alloc: Global, swallows: &[Swallow]) -> Result<List<Swallow>, A
     Ok(List::of(copy))
 }
 
+fn copy_placeholder(
+    alloc: Global,
+    props: &Props,
+    swallows: &List<Swallow>,
+) -> Result<ConKind, AllocError>
+    ensures { IfOk result (λ copy. copy ≡ Placeholder props.now swallows.now) }
+{
+    let swallows = copy_swallows(alloc, swallows.items())?;
+    match copy_props(props) {
+        Ok(props) => Ok(ConKind::Placeholder { props, swallows }),
+        Err(error) => {
+            drop(swallows);
+            Err(error)
+        }
+    }
+}
+
 impl ConKind {
     fn copy(&self, alloc: Global) -> Result<ConKind, AllocError>
         ensures { IfOk result (λ copy. copy ≡ self.now) }
@@ -90,10 +108,7 @@ impl ConKind {
                 owner: *owner,
                 natural: *natural,
             }),
-            ConKind::Placeholder { props, swallows } => Ok(ConKind::Placeholder {
-                props: copy_props(props)?,
-                swallows: copy_swallows(alloc, swallows.items())?,
-            }),
+            ConKind::Placeholder { props, swallows } => copy_placeholder(alloc, props, swallows),
         }
     }
 }

@@ -66,8 +66,9 @@ impl Edit for KindEdit {
     ghost word = { kind_changed };
 
     fn edit(self, row: &mut Row) {
-        if let Some(cell) = &mut row.first {
-            self.make(&mut cell.part.kind);
+        match &mut row.first {
+            Some(cell) => self.make(&mut cell.part.kind),
+            None => drop(self),
         }
     }
 }

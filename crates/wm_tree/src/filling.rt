@@ -33,8 +33,7 @@ impl Tree {
             return Err(TreeRefusal::Missing(con));
         }
         let props = copy_props(props)?;
-        self.nodes
-            .change(con, KindEdit::Fill(props, owner, natural));
+        self.edit(con, KindEdit::Fill(props, owner, natural));
         Ok(())
     }
 }

@@ -4,12 +4,13 @@ ghost use Rattle.wm_tree.specs.declared.part.NodeKind.TheVariants.{Con, Output, 
 ghost use Rattle.wm_tree.specs.Kinds.{changed, filled, laid_out, last_split_of, titled};
 
 use crate::part::{ConKind, ConPart, ConState, NodeKind, OutputPart, SpacePart};
+use std::mem;
 use wm_base::{ConId, Edges, Layout, Props, Size, Text};
 
 /// A change of one node: a container's share, state, title or title format, the window that a placeholder becomes, a
 /// container's or workspace's layout, a workspace's name or gaps, an output's reserved edges or shown workspace, or the
 /// root's current output.
-#[derive(Debug, Drop)]
+#[derive(Drop)]
 pub enum KindEdit {
     Share(u32),
     Layout(Layout),
@@ -41,8 +42,9 @@ impl KindEdit {
     fn make_root(self, current: &mut ConId)
         ensures { Root current.new ≡ changed self (Root current.old) }
     {
-        if let KindEdit::Current(output) = self {
-            *current = output;
+        match self {
+            KindEdit::Current(output) => *current = output,
+            other => drop(other),
         }
     }
 
@@ -53,7 +55,7 @@ impl KindEdit {
         match self {
             KindEdit::Reserved(edges) => output.reserved = edges,
             KindEdit::Shown(shown) => output.shown = shown,
-            _ => {}
+            other => drop(other),
         }
     }
 
@@ -71,7 +73,7 @@ impl KindEdit {
                 space.inner = inner;
                 space.outer = outer;
             }
-            _ => {}
+            other => drop(other),
         }
     }
 
@@ -86,7 +88,7 @@ impl KindEdit {
             KindEdit::Title(title) => set_title(&mut con.kind, title),
             KindEdit::TitleFormat(format) => con.title_format = format,
             KindEdit::Fill(props, owner, natural) => fill(&mut con.kind, props, owner, natural),
-            _ => {}
+            other => drop(other),
         }
     }
 }
@@ -129,10 +131,13 @@ fn fill(kind: &mut ConKind, props: Props, owner: u32, natural: Size)
     ensures { kind.new ≡ filled props owner natural kind.old }
 {
     if let ConKind::Placeholder { .. } = kind {
-        *kind = ConKind::Window {
+        let window = ConKind::Window {
             props,
             owner,
             natural,
         };
+        drop(mem::replace(kind, window));
+    } else {
+        drop(props);
     }
 }

@@ -90,7 +90,7 @@ impl Tree {
         ensures cause { IfErr result (IsMarkCause self.old con) }
     {
         let marks = self.with_mark(con, n)?;
-        self.nodes.change(con, SetMarks(marks));
+        drop(self.nodes.change(con, SetMarks(marks)));
         Ok(())
     }
 
@@ -119,7 +119,7 @@ impl Tree {
         ensures sound { IsSound self.old → IsSound self.new }
     {
         let alloc = self.alloc;
-        self.nodes.change(con, Unmark { alloc, name: n });
+        drop(self.nodes.change(con, Unmark { alloc, name: n }));
     }
 
     /// Puts the window last among the urgent ones. It is not urgent yet.

@@ -123,7 +123,7 @@ impl Tree {
         let id = ConId(self.next_id);
         let new = NewCon::Split { layout };
         let split = new.cell(self.alloc, id, share, self.border, None)?;
-        self.nodes.change(con, Wrap(split));
+        drop(self.nodes.change(con, Wrap(split)));
         self.recency.push_reserved(id);
         self.next_id += 1;
         Ok(id)

@@ -4,7 +4,7 @@ ghost use Rattle.wm_tree.specs.Counts.{but, row_length, space_count};
 ghost use Rattle.wm_tree.specs.Forest.{end};
 ghost use Rattle.wm_tree.specs.Look.{first_floats, first_kids, has, nth_id, only};
 ghost use Rattle.wm_tree.specs.Change.{without};
-ghost use Rattle.wm_tree.specs.Outputs.{IsOutput, IsOutputCause, handed_on, heir, passed_by_output, taking_in, with_output, without_output, yielded};
+ghost use Rattle.wm_tree.specs.Outputs.{IsOutput, IsOutputCause, handed_on, heir, new_output, passed_by_output, taking_in, with_output, without_output, yielded};
 ghost use Rattle.wm_tree.specs.Row.{row_of};
 ghost use Rattle.wm_tree.specs.Sound.{IsOutputRect, IsSound};
 ghost use Rattle.wm_tree.specs.TreeValue.{id};
@@ -16,10 +16,10 @@ use crate::kind::KindEdit;
 use crate::place::{Place, TreeRefusal};
 use crate::row::{Cell, Row};
 use crate::spaces::MAX_SPACES;
-use crate::start::{output_part, row_over};
+use crate::start::output_part;
 use crate::tree::{ROOT, Tree};
 use std::mem;
-use wm_base::{ConId, Limit, OutputPlan, Text};
+use wm_base::{ConId, Limit, NoMemory, OutputPlan, Text};
 
 /// How many outputs a tree has at most.
 const MAX_OUTPUTS: usize = 8;
@@ -133,13 +133,27 @@ impl Tree {
         self.recency.reserve(1)?;
         let id = ConId(self.next_id);
         let shown = ConId(self.next_id + 1);
-        let space = self.new_space(shown, first)?;
-        let output = output_part(self.alloc, id, o, shown)?;
-        let row = row_over(self.alloc, output, space)?;
+        let row = self.new_output(id, o, shown, first)?;
         self.nodes.put(Place::Last(ROOT), row);
         self.recency.push_reserved(shown);
         self.next_id += 2;
         Ok(id)
+    }
+
+    /// A row of an output under this id over an empty workspace of this name, which it shows.
+    fn new_output(
+        &self,
+        id: ConId,
+        plan: &OutputPlan,
+        shown: ConId,
+        first: &Text,
+    ) -> Result<Row, NoMemory>
+        ensures { IfOk result (λ row. row ≡ new_output id plan.now shown first.now self.now) }
+    {
+        let part = output_part(self.alloc, id, plan, shown)?;
+        let mut cell = Cell::of(self.alloc, part)?;
+        cell.set_kids(self.new_space(shown, first)?);
+        Ok(Row { first: Some(cell) })
     }
 
     /// That another output passes no limit.
@@ -184,7 +198,7 @@ impl Tree {
         ensures { self.new ≡ yielded o heir self.old }
     {
         if self.current() == o {
-            self.nodes.change(ROOT, KindEdit::Current(heir));
+            self.edit(ROOT, KindEdit::Current(heir));
         }
     }
 
@@ -193,6 +207,6 @@ impl Tree {
         ensures { self.new ≡ handed_on o heir self.old }
     {
         let gone = self.nodes.take_node(o);
-        self.nodes.change(heir, TakeIn(gone));
+        drop(self.nodes.change(heir, TakeIn(gone)));
     }
 }

@@ -152,7 +152,13 @@ impl NewCon {
     ) -> Result<Box<Cell>, NoMemory>
         ensures { IfOk result (λ cell. row_of cell.value ≡ con (new_part id share border rect self) end end end) }
     {
-        let title_format = short_text(alloc, "%title")?;
+        let title_format = match short_text(alloc, "%title") {
+            Ok(text) => text,
+            Err(error) => {
+                drop(self);
+                return Err(error);
+            }
+        };
         let part = self.part(alloc, id, share, border, rect, title_format);
         Ok(Cell::of(alloc, part)?)
     }

@@ -13,13 +13,20 @@ use crate::tree::{ROOT, Tree};
 use wm_base::{Border, ConId, Edges, Text};
 
 impl Tree {
+    /// Makes the change of the node, where that is there.
+    pub(crate) fn edit(&mut self, id: ConId, edit: KindEdit)
+        ensures { self.new ≡ edited id edit self.old }
+    {
+        drop(self.nodes.change(id, edit));
+    }
+
     /// Gives the container another state. No second window of a workspace is fullscreen, and a floating or scratchpad
     /// window has a rectangle.
     pub fn set_state(&mut self, con: ConId, s: ConState)
         ensures tree { self.new ≡ edited con (edits.State s) self.old }
         ensures sound { IsSound self.old → IsSound self.new }
     {
-        self.nodes.change(con, KindEdit::State(s));
+        self.edit(con, KindEdit::State(s));
     }
 
     /// Gives the window or placeholder another title.
@@ -27,7 +34,7 @@ impl Tree {
         ensures tree { self.new ≡ edited con (edits.Title t) self.old }
         ensures sound { IsSound self.old → IsSound self.new }
     {
-        self.nodes.change(con, KindEdit::Title(t));
+        self.edit(con, KindEdit::Title(t));
     }
 
     /// Gives the container another title format.
@@ -35,7 +42,7 @@ impl Tree {
         ensures tree { self.new ≡ edited con (edits.TitleFormat t) self.old }
         ensures sound { IsSound self.old → IsSound self.new }
     {
-        self.nodes.change(con, KindEdit::TitleFormat(t));
+        self.edit(con, KindEdit::TitleFormat(t));
     }
 
     /// Gives the workspace another name, which no other workspace has.
@@ -43,7 +50,7 @@ impl Tree {
         ensures tree { self.new ≡ edited w (edits.Name n) self.old }
         ensures sound { IsSound self.old → IsSound self.new }
     {
-        self.nodes.change(w, KindEdit::Name(n));
+        self.edit(w, KindEdit::Name(n));
     }
 
     /// Gives the workspace other gaps, of at most 1,000 pixels.
@@ -51,7 +58,7 @@ impl Tree {
         ensures tree { self.new ≡ edited w (edits.Gaps inner outer) self.old }
         ensures sound { IsSound self.old → IsSound self.new }
     {
-        self.nodes.change(w, KindEdit::Gaps(inner, outer));
+        self.edit(w, KindEdit::Gaps(inner, outer));
     }
 
     /// Gives new containers this border, and new workspaces these gaps.
@@ -69,7 +76,7 @@ impl Tree {
         ensures tree { self.new ≡ edited o (edits.Reserved e) self.old }
         ensures sound { IsSound self.old → IsSound self.new }
     {
-        self.nodes.change(o, KindEdit::Reserved(e));
+        self.edit(o, KindEdit::Reserved(e));
     }
 
     /// Makes the output the current one.
@@ -77,7 +84,7 @@ impl Tree {
         ensures tree { self.new ≡ edited root (edits.Current o) self.old }
         ensures sound { in_row o (first_kids self.old.nodes) ≡ true → IsSound self.old → IsSound self.new }
     {
-        self.nodes.change(ROOT, KindEdit::Current(o));
+        self.edit(ROOT, KindEdit::Current(o));
     }
 
     /// Sets the name of the previous workspace.
@@ -94,7 +101,7 @@ impl Tree {
         ensures sound { IsShowable (parent self.old w) w self.old.nodes → IsSound self.old → IsSound self.new }
     {
         if let Some(output) = self.parent(w) {
-            self.nodes.change(output, KindEdit::Shown(w));
+            self.edit(output, KindEdit::Shown(w));
         }
     }
 }

@@ -66,7 +66,7 @@ fn opening_nodes(
 }
 
 /// A row of one node over these children.
-pub(crate) fn row_over(alloc: Global, part: Part, kids: Row) -> Result<Row, AllocError>
+fn row_over(alloc: Global, part: Part, kids: Row) -> Result<Row, AllocError>
     ensures { IfOk result (λ row. row ≡ con part kids end end) }
 {
     let cell = Cell {

@@ -62,7 +62,7 @@ impl Tree {
         ensures tree { self.new ≡ edited con (edits.Layout l) self.old }
         ensures sound { IsSound self.old → IsSound self.new }
     {
-        self.nodes.change(con, KindEdit::Layout(l));
+        self.edit(con, KindEdit::Layout(l));
     }
 
     /// Gives the tiled container another share, from 1 to 1,048,576.
@@ -70,7 +70,7 @@ impl Tree {
         ensures tree { self.new ≡ edited con (edits.Share s) self.old }
         ensures sound { IsTiled con self.old.nodes → 1 ≤ s → s ≤ 1048576 → IsSound self.old → IsSound self.new }
     {
-        self.nodes.change(con, KindEdit::Share(s));
+        self.edit(con, KindEdit::Share(s));
     }
 
     /// Puts the container or workspace first in the order of recency and takes its urgency. A floating window comes
@@ -116,7 +116,7 @@ impl Row {
         ensures { self.new ≡ raised_at con space self.old }
     {
         if let Some(space) = space {
-            self.change(space, RaiseIn(con));
+            drop(self.change(space, RaiseIn(con)));
         }
     }
 }
