@@ -183,6 +183,38 @@ bare_text commands.Idle = codes "exec"
 bare_text commands.Exit = codes "exit"
 bare_text c = []
 
+-- a command that gives or takes a name, or one that has no argument
+abbrev pub naming_text : Command → List ℕ
+naming_text (commands.Mark add toggle name) = mark_text add toggle ++ quoted name
+naming_text (commands.Unmark m) = unmark_text m
+naming_text (commands.Workspace t) = codes "workspace " ++ target_text t
+naming_text (commands.Rename was name) = rename_text was name
+naming_text (commands.Mode m) = codes "mode " ++ quoted m
+naming_text (commands.AppendLayout l) = codes "append_layout " ++ quoted l
+naming_text (commands.TitleFormat t) = codes "title_format " ++ quoted t
+naming_text c = bare_text c
+
+-- a command on the looks of a window, or one of those above
+abbrev pub window_text : Command → List ℕ
+window_text (commands.Resize grow side px ppt) = resize_text grow side px ppt
+window_text (commands.ResizeSet w h) = sides_text w h
+window_text (commands.Floating a) = codes "floating " ++ switch_text a
+window_text (commands.Fullscreen a) = codes "fullscreen " ++ switch_text a
+window_text (commands.SetBorder b) = border_text b
+window_text (commands.Gaps outer all op px) = gaps_text outer all op px
+window_text (commands.Sticky a) = codes "sticky " ++ switch_text a
+window_text c = naming_text c
+
+-- a command that moves its subject, or one of those above
+abbrev pub moving_text : Command → List ℕ
+moving_text (commands.MoveDir d n) = move_text d n
+moving_text (commands.MoveToWorkspace t) = codes "move container to workspace " ++ target_text t
+moving_text (commands.MoveToOutput o) = codes "move container to output " ++ output_text o
+moving_text (commands.MoveWorkspace o) = codes "move workspace to output " ++ output_text o
+moving_text (commands.MoveToMark m) = codes "move container to mark " ++ quoted m
+moving_text (commands.MovePosition x y) = position_text x y
+moving_text c = window_text c
+
 unfoldable pub spelled : Command → List ℕ
 spelled (commands.Split a) = split_text a
 spelled (commands.SetLayout a) = layout_text a
@@ -190,28 +222,8 @@ spelled (commands.CycleLayout a) = cycle_text a
 spelled (commands.FocusDir d) = codes "focus " ++ dir_text d
 spelled (commands.FocusKind k) = kind_text k
 spelled (commands.FocusOutput o) = codes "focus output " ++ output_text o
-spelled (commands.MoveDir d n) = move_text d n
-spelled (commands.MoveToWorkspace t) = codes "move container to workspace " ++ target_text t
-spelled (commands.MoveToOutput o) = codes "move container to output " ++ output_text o
-spelled (commands.MoveWorkspace o) = codes "move workspace to output " ++ output_text o
-spelled (commands.MoveToMark m) = codes "move container to mark " ++ quoted m
-spelled (commands.MovePosition x y) = position_text x y
 spelled (commands.Swap a) = codes "swap container with " ++ swap_text a
-spelled (commands.Resize grow side px ppt) = resize_text grow side px ppt
-spelled (commands.ResizeSet w h) = sides_text w h
-spelled (commands.Floating a) = codes "floating " ++ switch_text a
-spelled (commands.Fullscreen a) = codes "fullscreen " ++ switch_text a
-spelled (commands.SetBorder b) = border_text b
-spelled (commands.Gaps outer all op px) = gaps_text outer all op px
-spelled (commands.Sticky a) = codes "sticky " ++ switch_text a
-spelled (commands.Mark add toggle name) = mark_text add toggle ++ quoted name
-spelled (commands.Unmark m) = unmark_text m
-spelled (commands.Workspace t) = codes "workspace " ++ target_text t
-spelled (commands.Rename was name) = rename_text was name
-spelled (commands.Mode m) = codes "mode " ++ quoted m
-spelled (commands.AppendLayout l) = codes "append_layout " ++ quoted l
-spelled (commands.TitleFormat t) = codes "title_format " ++ quoted t
-spelled c = bare_text c
+spelled c = moving_text c
 
 -- ---- keys
 
@@ -223,21 +235,26 @@ abbrev pub urgent_text : Bool → List ℕ
 urgent_text true = codes "urgent=latest"
 urgent_text false = codes "urgent=oldest"
 
+-- a key that has a text; nothing for any other
+abbrev pub pattern_text : Key → List ℕ
+pattern_text (keys.Class x) = codes "class=" ++ quoted x
+pattern_text (keys.Instance x) = codes "instance=" ++ quoted x
+pattern_text (keys.Role x) = codes "window_role=" ++ quoted x
+pattern_text (keys.Kind x) = codes "window_type=" ++ quoted x
+pattern_text (keys.Machine x) = codes "machine=" ++ quoted x
+pattern_text (keys.Title x) = codes "title=" ++ quoted x
+pattern_text (keys.Mark x) = codes "con_mark=" ++ quoted x
+pattern_text (keys.Workspace x) = codes "workspace=" ++ quoted x
+pattern_text k = []
+
 unfoldable pub key_text : Key → List ℕ
-key_text (keys.Class x) = codes "class=" ++ quoted x
-key_text (keys.Instance x) = codes "instance=" ++ quoted x
-key_text (keys.Role x) = codes "window_role=" ++ quoted x
-key_text (keys.Kind x) = codes "window_type=" ++ quoted x
-key_text (keys.Machine x) = codes "machine=" ++ quoted x
-key_text (keys.Title x) = codes "title=" ++ quoted x
-key_text (keys.Mark x) = codes "con_mark=" ++ quoted x
-key_text (keys.Workspace x) = codes "workspace=" ++ quoted x
 key_text (keys.Id n) = codes "id=" ++ decimal n
 key_text (keys.Con o) = con_text o
 key_text (keys.Urgent latest) = urgent_text latest
 key_text keys.Floating = codes "floating"
 key_text keys.Tiling = codes "tiling"
 key_text keys.All = codes "all"
+key_text k = pattern_text k
 
 -- each key and a blank behind it
 unfoldable pub keys_text : List Key → List ℕ

@@ -1,6 +1,6 @@
 //! Printing batches.
 ghost use Rattle.std.specs.Prelude.{◌≡◌, ◌++◌, ◌∷◌, string_bytes, IfOk, OnOk};
-ghost use Rattle.wm_grammar.specs.Spelling.{key_text, keys_text, criteria_text, commands_text, group_text, groups_text, spelling};
+ghost use Rattle.wm_grammar.specs.Spelling.{key_text, pattern_text, keys_text, criteria_text, commands_text, group_text, groups_text, spelling};
 ghost use Rattle.wm_grammar.specs.Readable.{IsReadable};
 ghost use Rattle.wm_grammar.specs.Reading.{Reads};
 
@@ -102,14 +102,6 @@ fn put_key(out: &mut String, key: &Key) -> Result<(), NoMemory>
     ensures { OnOk result (string_bytes out.new ≡ string_bytes out.old ++ key_text key.now) }
 {
     match key {
-        Key::Class(text) => put_named(out, "class=", text),
-        Key::Instance(text) => put_named(out, "instance=", text),
-        Key::Role(text) => put_named(out, "window_role=", text),
-        Key::Kind(text) => put_named(out, "window_type=", text),
-        Key::Machine(text) => put_named(out, "machine=", text),
-        Key::Title(text) => put_named(out, "title=", text),
-        Key::Mark(text) => put_named(out, "con_mark=", text),
-        Key::Workspace(text) => put_named(out, "workspace=", text),
         Key::Id(n) => put_counted(out, "id=", *n),
         Key::Con(None) => put(out, "con_id=__focused__"),
         Key::Con(Some(n)) => put_counted(out, "con_id=", *n),
@@ -118,5 +110,23 @@ fn put_key(out: &mut String, key: &Key) -> Result<(), NoMemory>
         Key::Floating => put(out, "floating"),
         Key::Tiling => put(out, "tiling"),
         Key::All => put(out, "all"),
+        _ => put_pattern(out, key),
+    }
+}
+
+/// Writes a key that has a text; nothing for any other.
+fn put_pattern(out: &mut String, key: &Key) -> Result<(), NoMemory>
+    ensures { OnOk result (string_bytes out.new ≡ string_bytes out.old ++ pattern_text key.now) }
+{
+    match key {
+        Key::Class(text) => put_named(out, "class=", text),
+        Key::Instance(text) => put_named(out, "instance=", text),
+        Key::Role(text) => put_named(out, "window_role=", text),
+        Key::Kind(text) => put_named(out, "window_type=", text),
+        Key::Machine(text) => put_named(out, "machine=", text),
+        Key::Title(text) => put_named(out, "title=", text),
+        Key::Mark(text) => put_named(out, "con_mark=", text),
+        Key::Workspace(text) => put_named(out, "workspace=", text),
+        _ => Ok(()),
     }
 }

@@ -1,7 +1,7 @@
 //! Printing commands.
 ghost use Rattle.std.specs.Prelude.{◌≡◌, ◌++◌, string_bytes, OnOk, codes, decimal};
 ghost use Rattle.std.specs.Fmt.{signed_decimal};
-ghost use Rattle.wm_grammar.specs.Spelling.{spelled, quoted, output_text, target_text, swap_text, border_text, unmark_text, rename_text, renaming_text, move_text, position_text, sides_text, resize_text, gaps_text};
+ghost use Rattle.wm_grammar.specs.Spelling.{spelled, moving_text, window_text, naming_text, quoted, output_text, target_text, swap_text, border_text, unmark_text, rename_text, renaming_text, move_text, position_text, sides_text, resize_text, gaps_text};
 
 use crate::arguments::{GapOp, OutArg, Side, SwapArg, Target};
 use crate::command::Command;
@@ -22,17 +22,33 @@ pub fn put_command(out: &mut String, command: &Command) -> Result<(), NoMemory>
         Command::SetLayout(arg) => put(out, layout_text(*arg)),
         Command::CycleLayout(arg) => put(out, cycle_text(*arg)),
         Command::FocusDir(dir) => put_two(out, "focus ", dir_text(*dir)),
-        Command::Focus | Command::FocusParent | Command::FocusChild => put(out, bare_text(command)),
         Command::FocusKind(kind) => put(out, kind_text(*kind)),
         Command::FocusOutput(output) => put_output(out, "focus output ", output),
+        Command::Swap(arg) => put_swap(out, "swap container with ", arg),
+        _ => put_moving(out, command),
+    }
+}
+
+/// Writes a command that moves its subject, or one of those below.
+fn put_moving(out: &mut String, command: &Command) -> Result<(), NoMemory>
+    ensures { OnOk result (string_bytes out.new ≡ string_bytes out.old ++ moving_text command.now) }
+{
+    match command {
         Command::MoveDir(dir, n) => put_move(out, *dir, *n),
         Command::MoveToWorkspace(target) => put_target(out, "move container to workspace ", target),
         Command::MoveToOutput(output) => put_output(out, "move container to output ", output),
         Command::MoveWorkspace(output) => put_output(out, "move workspace to output ", output),
         Command::MoveToMark(mark) => put_named(out, "move container to mark ", mark),
         Command::MovePosition(x, y) => put_position(out, *x, *y),
-        Command::MoveCenter | Command::MoveToScratchpad => put(out, bare_text(command)),
-        Command::Swap(arg) => put_swap(out, "swap container with ", arg),
+        _ => put_window(out, command),
+    }
+}
+
+/// Writes a command on the looks of a window, or one of those below.
+fn put_window(out: &mut String, command: &Command) -> Result<(), NoMemory>
+    ensures { OnOk result (string_bytes out.new ≡ string_bytes out.old ++ window_text command.now) }
+{
+    match command {
         Command::Resize {
             grow,
             side,
@@ -45,17 +61,23 @@ pub fn put_command(out: &mut String, command: &Command) -> Result<(), NoMemory>
         Command::SetBorder(border) => put_border(out, *border),
         Command::Gaps { outer, all, op, px } => put_gaps(out, *outer, *all, *op, *px),
         Command::Sticky(arg) => put_two(out, "sticky ", switch_text(*arg)),
+        _ => put_naming(out, command),
+    }
+}
+
+/// Writes a command that gives or takes a name, or one that has no argument.
+fn put_naming(out: &mut String, command: &Command) -> Result<(), NoMemory>
+    ensures { OnOk result (string_bytes out.new ≡ string_bytes out.old ++ naming_text command.now) }
+{
+    match command {
         Command::Mark { add, toggle, name } => put_named(out, mark_text(*add, *toggle), name),
         Command::Unmark(mark) => put_unmark(out, mark),
         Command::Workspace(target) => put_target(out, "workspace ", target),
         Command::Rename(was, name) => put_rename(out, was, name),
-        Command::CycleBorder | Command::ScratchpadShow => put(out, bare_text(command)),
         Command::Mode(mode) => put_named(out, "mode ", mode),
         Command::AppendLayout(layout) => put_named(out, "append_layout ", layout),
         Command::TitleFormat(format) => put_named(out, "title_format ", format),
-        Command::Kill | Command::Nop | Command::Idle | Command::Exit => {
-            put(out, bare_text(command))
-        }
+        _ => put(out, bare_text(command)),
     }
 }
 
