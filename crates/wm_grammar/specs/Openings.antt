@@ -152,20 +152,30 @@ word_at s =
 unfoldable pub past_keyword_to : List ℕ → Option (List ℕ)
 past_keyword_to s = if is_word (until is_gap s) (codes "to") then Some (skip (from is_gap s)) else None
 
+-- a value, and what follows
+abbrev pub before_rest : {A : Type 0} → List ℕ → A → A × List ℕ
+before_rest rest c = (c, rest)
+
+-- the command of both names
+abbrev pub renaming : List ℕ → List ℕ → Option Command
+renaming was name = argument was >>= λ a. argument name >>= λ b. Some (commands.Rename (Some a) b)
+
+-- behind to: the new name
+abbrev pub renamed_to : List ℕ → List ℕ → Option (Command × List ℕ)
+renamed_to was s = do
+  name ← text_at false s
+  a ← argument was
+  b ← argument name.0
+  Some (commands.Rename (Some a) b, name.1)
+
 -- the word of the old name, to, and the new name
 unfoldable pub renamed : List ℕ → Option (Command × List ℕ)
 renamed s = do
   was ← word_at s
   behind ← past_keyword_to (skip was.1)
-  name ← text_at false behind
-  a ← argument was.0
-  b ← argument name.0
-  Some (commands.Rename (Some a) b, name.1)
+  renamed_to was.0 behind
 
 -- ---- commands
-
-abbrev pub before_rest : {A : Type 0} → List ℕ → A → A × List ℕ
-before_rest rest c = (c, rest)
 
 -- the command of its keywords and the text at s, and what follows
 unfoldable pub finished : Opening → List ℕ → Option (Command × List ℕ)

@@ -1,7 +1,7 @@
 //! Reading one command: its keywords, and the text behind them.
 ghost use Rattle.std.specs.Prelude.{◌≡◌, IfOk, option_map, option_copied};
 ghost use Rattle.wm_grammar.specs.Fitted.{piece_bytes};
-ghost use Rattle.wm_grammar.specs.Openings.{text_at, named, made, word_at, past_keyword_to, renamed, finished, first_finished, verb_command, command_at};
+ghost use Rattle.wm_grammar.specs.Openings.{text_at, named, made, word_at, past_keyword_to, renamed, renamed_to, renaming, before_rest, finished, first_finished, verb_command, command_at};
 ghost use Rattle.wm_grammar.specs.Ways.{seen};
 
 use crate::arguments::{OutArg, SwapArg, Target};
@@ -98,10 +98,10 @@ fn made(alloc: Global, opening: Opening, text: &[u8]) -> Result<Option<Command>,
     if let Opening::Idle = opening {
         return Ok(Some(Command::Idle));
     }
-    let Some(name) = argument(alloc, text)? else {
-        return Ok(None)
-    };
-    Ok(named(opening, name))
+    match argument(alloc, text)? {
+        Some(name) => Ok(named(opening, name)),
+        None => Ok(None),
+    }
 }
 
 /// A word, quoted or not, and what follows.
@@ -143,19 +143,44 @@ fn renamed(alloc: Global, text: &[u8]) -> Result<Read<'_>, NoMemory>
     let Some((was, behind)) = word_at(alloc, text)? else {
         return Ok(None)
     };
-    let Some(behind) = past_keyword_to(skip(behind)) else {
+    match past_keyword_to(skip(behind)) {
+        Some(behind) => renamed_to(alloc, was.bytes(), behind),
+        None => Ok(None),
+    }
+}
+
+/// The renaming of the workspace of this name, behind `to`.
+fn renamed_to<'a>(alloc: Global, was: &[u8], text: &'a [u8]) -> Result<Read<'a>, NoMemory>
+    ensures { IfOk result (λ o. option_map (λ x. (x.0, x.1.now)) o ≡ renamed_to was.now text.now) }
+{
+    let Some((name, rest)) = text_at(alloc, false, text)? else {
         return Ok(None)
     };
-    let Some((name, rest)) = text_at(alloc, false, behind)? else {
+    let command = renaming(alloc, was, name.bytes())?;
+    Ok(before_rest(command, rest))
+}
+
+/// The renaming of the workspace of one name to another.
+fn renaming(alloc: Global, was: &[u8], name: &[u8]) -> Result<Option<Command>, NoMemory>
+    ensures { IfOk result (λ o. o ≡ renaming was.now name.now) }
+{
+    let Some(was) = argument(alloc, was)? else {
         return Ok(None)
     };
-    let Some(was) = argument(alloc, was.bytes())? else {
-        return Ok(None)
-    };
-    let Some(name) = argument(alloc, name.bytes())? else {
-        return Ok(None)
-    };
-    Ok(Some((Command::Rename(Some(was), name), rest)))
+    match argument(alloc, name)? {
+        Some(name) => Ok(Some(Command::Rename(Some(was), name))),
+        None => Ok(None),
+    }
+}
+
+/// What was read, where anything was, and what follows it.
+pub fn before_rest<T: Drop>(read: Option<T>, rest: &[u8]) -> Option<(T, &[u8])>
+    ensures { option_map (λ x. (x.0, x.1.now)) result ≡ option_map (before_rest rest.now) read }
+{
+    match read {
+        Some(value) => Some((value, rest)),
+        None => None,
+    }
 }
 
 /// The command of its keywords and the text behind them, and the end of the command.
@@ -169,10 +194,8 @@ fn finished(alloc: Global, opening: Opening, text: &[u8]) -> Result<Read<'_>, No
     let Some((found, rest)) = text_at(alloc, opening.is_one_word(), text)? else {
         return Ok(None);
     };
-    let Some(command) = made(alloc, opening, found.bytes())? else {
-        return Ok(None)
-    };
-    Ok(Some((command, rest)))
+    let command = made(alloc, opening, found.bytes())?;
+    Ok(before_rest(command, rest))
 }
 
 /// The command of the first way to read the keywords whose text fits.

@@ -1,5 +1,5 @@
 //! Searching how far a text may read, turn by turn: to the end of each command, or over a blank group.
-ghost use Rattle.std.specs.Prelude.{◌≡◌, ◌<◌, ◌≤◌, ℕ, length, IfOk, OnOk, IfSome, option_copied};
+ghost use Rattle.std.specs.Prelude.{◌≡◌, ◌<◌, ◌≤◌, ℕ, length, IfOk, OnOk, IfSome, option_copied, option_map};
 ghost use Rattle.std.specs.List.{All};
 ghost use Rattle.wm_grammar.specs.Farthest.{before_last_quote, cut_off, here, farthest};
 ghost use Rattle.wm_grammar.specs.Last.{at_turn, last_of};
@@ -25,9 +25,16 @@ struct Turn<'a> {
 fn command_turn(alloc: Global, text: &[u8]) -> Result<Option<&[u8]>, NoMemory>
     ensures { IfOk result (λ o. option_copied o ≡ command_turn text.now) }
 {
-    match command_at(alloc, text)? {
-        Some((_, rest)) => Ok(Some(rest)),
-        None => Ok(None),
+    Ok(end_of(command_at(alloc, text)?))
+}
+
+/// What follows what was read.
+fn end_of<T: Drop>(read: Option<(T, &[u8])>) -> Option<&[u8]>
+    ensures { option_copied result ≡ option_map (λ x. x.1.now) read.entry }
+{
+    match read {
+        Some((_, rest)) => Some(rest),
+        None => None,
     }
 }
 
@@ -38,10 +45,10 @@ fn front_turn(alloc: Global, text: &[u8]) -> Result<Option<&[u8]>, NoMemory>
     if text.is_empty() || starts(text, b';') {
         return Ok(Some(text));
     }
-    let Some((_, rest)) = criteria_part(alloc, text)? else {
-        return Ok(None)
-    };
-    command_turn(alloc, skip(rest))
+    match end_of(criteria_part(alloc, text)?) {
+        Some(rest) => command_turn(alloc, skip(rest)),
+        None => Ok(None),
+    }
 }
 
 /// What follows the command, at the front of a group (fresh) or behind a `,` within one.
@@ -78,10 +85,7 @@ fn command_part(alloc: Global, fresh: bool, text: &[u8]) -> Result<&[u8], NoMemo
     if !fresh {
         return Ok(text);
     }
-    match criteria_part(alloc, skip(text))? {
-        Some((_, rest)) => Ok(rest),
-        None => Ok(text),
-    }
+    Ok(end_of(criteria_part(alloc, skip(text))?).unwrap_or(text))
 }
 
 /// What stands before the last quote that a turn closed, where its command has a `;` there. The turn stopped at
