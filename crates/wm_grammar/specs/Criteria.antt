@@ -33,6 +33,18 @@ key_of names.Id x = option_map keys.Id (natural x)
 key_of names.Con x = if is_text x (codes "__focused__") then Some (keys.Con None) else option_map (λ n. keys.Con (Some n)) (natural x)
 key_of names.Urgent x = option_map keys.Urgent (choice urgent_words x)
 
+-- the key of a name whose value is a text
+abbrev pub texted : KeyName → List ℕ → Option Key
+texted names.Class x = Some (keys.Class x)
+texted names.Instance x = Some (keys.Instance x)
+texted names.Role x = Some (keys.Role x)
+texted names.Kind x = Some (keys.Kind x)
+texted names.Machine x = Some (keys.Machine x)
+texted names.Title x = Some (keys.Title x)
+texted names.Mark x = Some (keys.Mark x)
+texted names.Workspace x = Some (keys.Workspace x)
+texted n x = None
+
 -- a value, quoted or not, and what follows
 unfoldable pub value_at : List ℕ → Option (List ℕ × List ℕ)
 value_at s =

@@ -1,12 +1,13 @@
 //! Reading criteria: keys between brackets.
-ghost use Rattle.std.specs.Prelude.{◌≡◌, ◌&&◌, not, [], IfOk, option_map};
-ghost use Rattle.wm_grammar.specs.Criteria.{name_words, flag_words, urgent_words, key_of, value_at, valued_at, key_at, place_of, has_place, ends_key, closed_keys, keys_at, criteria_at};
+ghost use Rattle.std.specs.Prelude.{◌≡◌, ◌&&◌, ℕ, List, Option, not, [], IfOk, option_map, option_copied, option_and_then};
+ghost use Rattle.wm_grammar.specs.Criteria.{name_words, flag_words, urgent_words, texted, key_of, value_at, valued_at, key_at, place_of, has_place, ends_key, closed_keys, and_keys, keys_at, criteria_at};
 ghost use Rattle.wm_grammar.specs.Fitted.{piece_bytes};
 ghost use Rattle.wm_grammar.specs.Pieces.{choice};
+ghost use Rattle.wm_grammar.specs.declared.batch.Key.{Key};
 
 use crate::batch::Key;
 use crate::numbers::natural;
-use crate::reading::Piece;
+use crate::reading::{Piece, before_rest};
 use crate::verbs::choice;
 use crate::words::{Stop, argument, cut, is_text, past, skip, starts, unquote};
 use std::alloc::Global;
@@ -71,19 +72,32 @@ fn is_latest(word: &[u8]) -> Option<bool>
 fn key_of(alloc: Global, name: KeyName, value: &[u8]) -> Result<Option<Key>, NoMemory>
     ensures { IfOk result (λ o. o ≡ key_of name value.now) }
 {
-    Ok(match name {
-        KeyName::Class => argument(alloc, value)?.map(Key::Class),
-        KeyName::Instance => argument(alloc, value)?.map(Key::Instance),
-        KeyName::Role => argument(alloc, value)?.map(Key::Role),
-        KeyName::Kind => argument(alloc, value)?.map(Key::Kind),
-        KeyName::Machine => argument(alloc, value)?.map(Key::Machine),
-        KeyName::Title => argument(alloc, value)?.map(Key::Title),
-        KeyName::Mark => argument(alloc, value)?.map(Key::Mark),
-        KeyName::Workspace => argument(alloc, value)?.map(Key::Workspace),
-        KeyName::Id => natural(value).map(Key::Id),
-        KeyName::Con => con_of(value),
-        KeyName::Urgent => is_latest(value).map(|latest| Key::Urgent { latest }),
-    })
+    match name {
+        KeyName::Id => Ok(natural(value).map(Key::Id)),
+        KeyName::Con => Ok(con_of(value)),
+        KeyName::Urgent => Ok(is_latest(value).map(|latest| Key::Urgent { latest })),
+        _ => Ok(match argument(alloc, value)? {
+            Some(text) => texted(name, text),
+            None => None,
+        }),
+    }
+}
+
+/// The key of a name whose value is a text.
+fn texted(name: KeyName, text: Text) -> Option<Key>
+    ensures { result ≡ texted name text }
+{
+    match name {
+        KeyName::Class => Some(Key::Class(text)),
+        KeyName::Instance => Some(Key::Instance(text)),
+        KeyName::Role => Some(Key::Role(text)),
+        KeyName::Kind => Some(Key::Kind(text)),
+        KeyName::Machine => Some(Key::Machine(text)),
+        KeyName::Title => Some(Key::Title(text)),
+        KeyName::Mark => Some(Key::Mark(text)),
+        KeyName::Workspace => Some(Key::Workspace(text)),
+        KeyName::Id | KeyName::Con | KeyName::Urgent => None,
+    }
 }
 
 /// The container of an id, or the focused one.
@@ -124,10 +138,8 @@ fn valued_at(alloc: Global, name: KeyName, text: &[u8]) -> Result<Option<(Key, &
     let Some((value, rest)) = value_at(alloc, text)? else {
         return Ok(None)
     };
-    let Some(key) = key_of(alloc, name, value.bytes())? else {
-        return Ok(None)
-    };
-    Ok(Some((key, rest)))
+    let key = key_of(alloc, name, value.bytes())?;
+    Ok(before_rest(key, rest))
 }
 
 /// A key, and what follows.
@@ -142,10 +154,7 @@ fn key_at(alloc: Global, text: &[u8]) -> Result<Option<(Key, &[u8])>, NoMemory>
         };
         return valued_at(alloc, name, value);
     }
-    let Some(key) = flag_of(word) else {
-        return Ok(None)
-    };
-    Ok(Some((key, rest)))
+    Ok(before_rest(flag_of(word), rest))
 }
 
 /// The place of a key among all keys.
@@ -215,17 +224,42 @@ fn keys_at(alloc: Global, most: usize, text: &[u8]) -> Result<Option<(Vec<Key>, 
     let mut rest = text;
     let mut left = most;
     while left > 0 && !starts(skip(rest), b']') {
-        let Some((key, behind)) = key_at(alloc, skip(rest))? else {
+        let Some(behind) = add_key(alloc, &mut keys, skip(rest))? else {
             return Ok(None)
         };
-        if !fits_behind(&key, keys.as_slice(), behind) {
-            return Ok(None);
-        }
-        keys.push(key)?;
         rest = behind;
         left -= 1;
     }
     Ok(closed_keys(keys, skip(rest)))
+}
+
+/// Puts the key that stands here behind the others, and gives what follows.
+fn add_key<'a>(
+    alloc: Global,
+    keys: &mut Vec<Key>,
+    text: &'a [u8],
+) -> Result<Option<&'a [u8]>, NoMemory>
+    ensures { IfOk result (λ o. (go : List Key → List ℕ → Option (List Key × List ℕ)) → option_and_then (go keys.new.items) (option_copied o) ≡ option_and_then (and_keys go keys.old.items) (key_at text.now)) }
+{
+    match key_at(alloc, text)? {
+        Some((key, behind)) => put_behind(keys, key, behind),
+        None => Ok(None),
+    }
+}
+
+/// Puts the key behind the others, where it ends before the rest and is none of them, and gives the rest.
+fn put_behind<'a>(
+    keys: &mut Vec<Key>,
+    key: Key,
+    rest: &'a [u8],
+) -> Result<Option<&'a [u8]>, NoMemory>
+    ensures { IfOk result (λ o. (go : List Key → List ℕ → Option (List Key × List ℕ)) → option_and_then (go keys.new.items) (option_copied o) ≡ and_keys go keys.old.items (key, rest.now)) }
+{
+    if !fits_behind(&key, keys.as_slice(), rest) {
+        return Ok(None);
+    }
+    keys.push(key)?;
+    Ok(Some(rest))
 }
 
 /// The keys, and what follows the `]` that stands here.
