@@ -1,6 +1,9 @@
 //! The forms of commands that have no text of their own: keywords and numbers alone.
-ghost use Rattle.std.specs.Prelude.{◌≡◌, option_copied};
-ghost use Rattle.wm_grammar.specs.Forms.{split_form, layout_form, only_output, focus_word, focus_form, fullscreen_form, width_form, border_form, gaps_form, kill_form, scratchpad_form, plain_form, swap_form, past_with};
+ghost use Rattle.std.specs.Prelude.{◌≡◌, if◌then◌else◌, Some, option_copied, option_map};
+ghost use Rattle.wm_grammar.specs.Forms.{split_form, layout_form, only_output, focus_word, focus_form, fullscreen_form, width_form, border_form, gaps_form, kill_form, scratchpad_form, plain_form, swap_form, past_with, switch_words, cycle_words, target_words};
+ghost use Rattle.wm_grammar.specs.Pieces.{is_nil, only};
+ghost use Rattle.wm_grammar.specs.declared.arguments.Cycle.TheVariants.{Bare};
+ghost use Rattle.wm_grammar.specs.declared.command.Command.TheVariants.{CycleLayout, Floating, Sticky, Workspace};
 
 use crate::arguments::{Cycle, OnOff, OutArg, SwapArg};
 use crate::command::Command;
@@ -27,13 +30,13 @@ pub fn plain_form(verb: Verb, rest: &[u8]) -> Option<Command>
         Verb::Move => move_form(rest),
         Verb::Swap => swap_form(rest),
         Verb::Resize => resize_form(rest),
-        Verb::Floating => on_off(single(rest)?).map(Command::Floating),
+        Verb::Floating => floating_form(rest),
         Verb::Fullscreen => fullscreen_form(rest),
         Verb::Border => border_form(rest),
         Verb::Gaps => gaps_form(rest),
-        Verb::Sticky => on_off(single(rest)?).map(Command::Sticky),
+        Verb::Sticky => sticky_form(rest),
         Verb::Unmark => rest.is_empty().then_some(Command::Unmark(None)),
-        Verb::Workspace => target_of(single(rest)?).map(Command::Workspace),
+        Verb::Workspace => workspace_form(rest),
         Verb::Scratchpad => scratchpad_form(rest),
         Verb::Kill => kill_form(rest),
         Verb::Nop => rest.is_empty().then_some(Command::Nop),
@@ -41,6 +44,24 @@ pub fn plain_form(verb: Verb, rest: &[u8]) -> Option<Command>
         Verb::Exit => rest.is_empty().then_some(Command::Exit),
         Verb::Mark | Verb::Rename | Verb::Mode | Verb::AppendLayout | Verb::TitleFormat => None,
     }
+}
+
+fn floating_form(rest: &[u8]) -> Option<Command>
+    ensures { result ≡ option_map Floating (only switch_words rest.now) }
+{
+    on_off(single(rest)?).map(Command::Floating)
+}
+
+fn sticky_form(rest: &[u8]) -> Option<Command>
+    ensures { result ≡ option_map Sticky (only switch_words rest.now) }
+{
+    on_off(single(rest)?).map(Command::Sticky)
+}
+
+fn workspace_form(rest: &[u8]) -> Option<Command>
+    ensures { result ≡ option_map Workspace (only target_words rest.now) }
+{
+    target_of(single(rest)?).map(Command::Workspace)
 }
 
 #[tactic(auto, unfolding(crate::specs::Forms::split_form))]
@@ -54,14 +75,21 @@ fn split_form(rest: &[u8]) -> Option<Command>
 fn layout_form(rest: &[u8]) -> Option<Command>
     ensures { result ≡ layout_form rest.now }
 {
-    if !says(rest, b"toggle") {
-        return layout_arg(single(rest)?).map(Command::SetLayout);
+    if says(rest, b"toggle") {
+        cycle_form(after(rest))
+    } else {
+        layout_arg(single(rest)?).map(Command::SetLayout)
     }
-    let more = after(rest);
-    if more.is_empty() {
+}
+
+/// What follows `layout toggle`.
+fn cycle_form(rest: &[u8]) -> Option<Command>
+    ensures { result ≡ option_map CycleLayout (if is_nil rest.now then Some Bare else only cycle_words rest.now) }
+{
+    if rest.is_empty() {
         return Some(Command::CycleLayout(Cycle::Bare));
     }
-    cycle_of(single(more)?).map(Command::CycleLayout)
+    cycle_of(single(rest)?).map(Command::CycleLayout)
 }
 
 /// The output of a keyword, where nothing follows.
