@@ -22,7 +22,7 @@ pub struct Criteria {
 }
 
 /// What a container has to be. Texts are patterns unless something else is said.
-#[derive(Debug, Drop)]
+#[derive(Drop)]
 pub enum Key {
     /// A window whose class matches.
     Class(Text),

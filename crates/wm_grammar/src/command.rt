@@ -6,7 +6,7 @@ use wm_base::{Border, Dir, Text};
 
 /// A command. Its subject is the focused container or those that the criteria match. Numbers are in pixels
 /// where nothing else is said.
-#[derive(Debug, Drop)]
+#[derive(Drop)]
 pub enum Command {
     /// `split h`: gives the subject, wrapped where it has neighbours, a split layout.
     Split(SplitArg),

@@ -17,6 +17,7 @@ mod reading;
 mod refusal;
 mod resizing;
 mod search;
+mod shown;
 mod texts;
 mod verbs;
 mod words;
