@@ -7,7 +7,7 @@ ghost use Rattle.wm_grammar.specs.declared.batch.Key.{Key};
 
 use crate::batch::Key;
 use crate::numbers::natural;
-use crate::reading::{Piece, before_rest};
+use crate::reading::{Piece, before_rest, quoted_piece};
 use crate::verbs::choice;
 use crate::words::{Stop, argument, cut, is_text, past, skip, starts, unquote};
 use std::alloc::Global;
@@ -117,10 +117,7 @@ fn value_at(alloc: Global, text: &[u8]) -> Result<Option<(Piece<'_>, &[u8])>, No
     ensures { IfOk result (λ o. option_map (λ x. (piece_bytes x.0, x.1.now)) o ≡ value_at text.now) }
 {
     if let [b'"', quoted @ ..] = text {
-        let Some((bytes, rest)) = unquote(alloc, quoted)? else {
-            return Ok(None)
-        };
-        return Ok(Some((Piece::Quoted(bytes), rest)));
+        return Ok(quoted_piece(unquote(alloc, quoted)?));
     }
     let (found, rest) = cut(text, Stop::Value);
     Ok(if found.is_empty() {

@@ -1,7 +1,7 @@
 //! Reading one command: its keywords, and the text behind them.
-ghost use Rattle.std.specs.Prelude.{◌≡◌, IfOk, option_map, option_copied};
+ghost use Rattle.std.specs.Prelude.{◌≡◌, ℕ, List, Option, IfOk, option_map, option_copied, option_and_then};
 ghost use Rattle.wm_grammar.specs.Fitted.{piece_bytes};
-ghost use Rattle.wm_grammar.specs.Openings.{text_at, named, made, word_at, past_keyword_to, renamed, renamed_to, renaming, before_rest, finished, first_finished, verb_command, command_at};
+ghost use Rattle.wm_grammar.specs.Openings.{text_at, closed, bare, named, made, word_at, past_keyword_to, renamed, renamed_to, renaming, before_rest, finished, first_finished, verb_command, command_at};
 ghost use Rattle.wm_grammar.specs.Ways.{seen};
 
 use crate::arguments::{OutArg, SwapArg, Target};
@@ -46,22 +46,43 @@ fn text_at(
     ensures { IfOk result (λ o. option_map (λ x. (piece_bytes x.0, x.1.now)) o ≡ text_at one_word text.now) }
 {
     if let [b'"', quoted @ ..] = text {
-        let Some((bytes, behind)) = unquote(alloc, quoted)? else {
-            return Ok(None)
-        };
-        let rest = skip(behind);
-        return Ok(if ends(rest) {
-            Some((Piece::Quoted(bytes), rest))
-        } else {
-            None
-        });
+        return Ok(closed(quoted_piece(unquote(alloc, quoted)?)));
     }
     let (found, rest) = cut(text, Stop::End);
-    let found = trim_end(found);
-    if found.is_empty() || one_word && stops_in(found, Stop::Break) {
-        return Ok(None);
+    Ok(bare(one_word, trim_end(found), rest))
+}
+
+/// A text that was quoted, and what follows it.
+pub fn quoted_piece(read: Option<(Vec<u8>, &[u8])>) -> Option<(Piece<'_>, &[u8])>
+    ensures { let o : Option (List ℕ × List ℕ) = option_map (λ x. (x.0.items, x.1.now)) read.entry in option_map (λ x. (piece_bytes x.0, x.1.now)) result ≡ o }
+{
+    match read {
+        Some((bytes, rest)) => Some((Piece::Quoted(bytes), rest)),
+        None => None,
     }
-    Ok(Some((Piece::Plain(found), rest)))
+}
+
+/// A quoted text, where the command ends behind it, and that end.
+fn closed<'a>(read: Option<(Piece<'a>, &'a [u8])>) -> Option<(Piece<'a>, &'a [u8])>
+    ensures { option_map (λ x. (piece_bytes x.0, x.1.now)) result ≡ option_and_then closed (option_map (λ x. (piece_bytes x.0, x.1.now)) read.entry) }
+{
+    let (piece, behind) = read?;
+    if ends(skip(behind)) {
+        Some((piece, skip(behind)))
+    } else {
+        None
+    }
+}
+
+/// A text that is not quoted, where it may stand so, and what follows.
+fn bare<'a>(one_word: bool, found: &'a [u8], rest: &'a [u8]) -> Option<(Piece<'a>, &'a [u8])>
+    ensures { option_map (λ x. (piece_bytes x.0, x.1.now)) result ≡ bare one_word found.now rest.now }
+{
+    if found.is_empty() || one_word && stops_in(found, Stop::Break) {
+        None
+    } else {
+        Some((Piece::Plain(found), rest))
+    }
 }
 
 /// The command of its keywords and its argument.
@@ -110,16 +131,10 @@ fn word_at(alloc: Global, text: &[u8]) -> Result<Option<(Piece<'_>, &[u8])>, NoM
     ensures { IfOk result (λ o. option_map (λ x. (piece_bytes x.0, x.1.now)) o ≡ word_at text.now) }
 {
     if let [b'"', quoted @ ..] = text {
-        let Some((bytes, rest)) = unquote(alloc, quoted)? else {
-            return Ok(None)
-        };
-        return Ok(Some((Piece::Quoted(bytes), rest)));
+        return Ok(quoted_piece(unquote(alloc, quoted)?));
     }
     let (found, rest) = cut(text, Stop::Gap);
-    if found.is_empty() || stops_in(found, Stop::Break) {
-        return Ok(None);
-    }
-    Ok(Some((Piece::Plain(found), rest)))
+    Ok(bare(true, found, rest))
 }
 
 /// What follows the word `to`, which stands first.
