@@ -102,15 +102,20 @@ output_text outs.Primary = codes "primary"
 output_text outs.Next = codes "next"
 output_text (outs.Named n) = quoted n
 
+-- the keyword of a workspace that has no name; nothing for any other
+abbrev pub target_word : Target → List ℕ
+target_word targets.Next = codes "next"
+target_word targets.Prev = codes "prev"
+target_word targets.NextOnOutput = codes "next_on_output"
+target_word targets.PrevOnOutput = codes "prev_on_output"
+target_word targets.BackAndForth = codes "back_and_forth"
+target_word targets.Current = codes "current"
+target_word t = []
+
 abbrev pub target_text : Target → List ℕ
-target_text targets.Next = codes "next"
-target_text targets.Prev = codes "prev"
-target_text targets.NextOnOutput = codes "next_on_output"
-target_text targets.PrevOnOutput = codes "prev_on_output"
-target_text targets.BackAndForth = codes "back_and_forth"
 target_text (targets.Number n) = codes "number " ++ quoted n
 target_text (targets.Named n) = quoted n
-target_text targets.Current = codes "current"
+target_text t = target_word t
 
 abbrev pub swap_text : SwapArg → List ℕ
 swap_text (swaps.Con n) = codes "con_id " ++ decimal n
@@ -227,14 +232,6 @@ spelled c = moving_text c
 
 -- ---- keys
 
-abbrev pub con_text : Option ℕ → List ℕ
-con_text None = codes "con_id=__focused__"
-con_text (Some n) = codes "con_id=" ++ decimal n
-
-abbrev pub urgent_text : Bool → List ℕ
-urgent_text true = codes "urgent=latest"
-urgent_text false = codes "urgent=oldest"
-
 -- a key that has a text; nothing for any other
 abbrev pub pattern_text : Key → List ℕ
 pattern_text (keys.Class x) = codes "class=" ++ quoted x
@@ -249,8 +246,10 @@ pattern_text k = []
 
 unfoldable pub key_text : Key → List ℕ
 key_text (keys.Id n) = codes "id=" ++ decimal n
-key_text (keys.Con o) = con_text o
-key_text (keys.Urgent latest) = urgent_text latest
+key_text (keys.Con None) = codes "con_id=__focused__"
+key_text (keys.Con (Some n)) = codes "con_id=" ++ decimal n
+key_text (keys.Urgent true) = codes "urgent=latest"
+key_text (keys.Urgent false) = codes "urgent=oldest"
 key_text keys.Floating = codes "floating"
 key_text keys.Tiling = codes "tiling"
 key_text keys.All = codes "all"

@@ -1,5 +1,5 @@
 //! Reading criteria: keys between brackets.
-ghost use Rattle.std.specs.Prelude.{◌≡◌, ◌&&◌, ℕ, List, Option, not, [], IfOk, option_map, option_copied, option_and_then};
+ghost use Rattle.std.specs.Prelude.{◌≡◌, ◌&&◌, ◌++◌, ◌∷◌, if◌then◌else◌, ℕ, List, Option, not, [], IfOk, OnOk, option_map, option_copied, option_and_then};
 ghost use Rattle.wm_grammar.specs.Criteria.{name_words, flag_words, urgent_words, texted, key_of, value_at, valued_at, key_at, place_of, has_place, ends_key, closed_keys, and_keys, keys_at, criteria_at};
 ghost use Rattle.wm_grammar.specs.Fitted.{piece_bytes};
 ghost use Rattle.wm_grammar.specs.Pieces.{choice};
@@ -238,25 +238,23 @@ fn add_key<'a>(
 ) -> Result<Option<&'a [u8]>, NoMemory>
     ensures { IfOk result (λ o. (go : List Key → List ℕ → Option (List Key × List ℕ)) → option_and_then (go keys.new.items) (option_copied o) ≡ option_and_then (and_keys go keys.old.items) (key_at text.now)) }
 {
-    match key_at(alloc, text)? {
-        Some((key, behind)) => put_behind(keys, key, behind),
-        None => Ok(None),
-    }
+    let Some((key, behind)) = key_at(alloc, text)? else {
+        return Ok(None)
+    };
+    let fits = fits_behind(&key, keys.as_slice(), behind);
+    let added = put_fitting(keys, fits, key)?;
+    Ok(added.then_some(behind))
 }
 
-/// Puts the key behind the others, where it ends before the rest and is none of them, and gives the rest.
-fn put_behind<'a>(
-    keys: &mut Vec<Key>,
-    key: Key,
-    rest: &'a [u8],
-) -> Result<Option<&'a [u8]>, NoMemory>
-    ensures { IfOk result (λ o. (go : List Key → List ℕ → Option (List Key × List ℕ)) → option_and_then (go keys.new.items) (option_copied o) ≡ and_keys go keys.old.items (key, rest.now)) }
+/// Puts an item behind the others, where it fits. Gives whether it does.
+fn put_fitting<T: Drop>(items: &mut Vec<T>, fits: bool, item: T) -> Result<bool, NoMemory>
+    ensures fits { IfOk result (λ added. added ≡ fits) }
+    ensures items { OnOk result (items.new.items ≡ (if fits then items.old.items ++ item ∷ [] else items.old.items)) }
 {
-    if !fits_behind(&key, keys.as_slice(), rest) {
-        return Ok(None);
+    if fits {
+        items.push(item)?;
     }
-    keys.push(key)?;
-    Ok(Some(rest))
+    Ok(fits)
 }
 
 /// The keys, and what follows the `]` that stands here.

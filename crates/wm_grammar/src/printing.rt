@@ -8,7 +8,7 @@ use crate::command::Command;
 use crate::writing::{
     bare_text, cycle_text, dir_text, gap_text, grow_text, kind_text, layout_text, mark_text,
     op_text, put, put_integer, put_number, put_quoted, scope_text, side_text, split_text,
-    switch_text,
+    switch_text, target_word,
 };
 use wm_base::{Border, Dir, NoMemory, Text};
 
@@ -113,23 +113,23 @@ fn put_output(out: &mut String, keywords: &str, output: &OutArg) -> Result<(), N
 }
 
 /// Writes keywords and a workspace.
-#[tactic(auto, using(crate::proofs::Lists::joining))]
 fn put_target(out: &mut String, keywords: &str, target: &Target) -> Result<(), NoMemory>
     ensures { OnOk result (string_bytes out.new ≡ string_bytes out.old ++ (keywords.now ++ target_text target.now)) }
 {
     match target {
-        Target::Next => put_two(out, keywords, "next"),
-        Target::Prev => put_two(out, keywords, "prev"),
-        Target::NextOnOutput => put_two(out, keywords, "next_on_output"),
-        Target::PrevOnOutput => put_two(out, keywords, "prev_on_output"),
-        Target::BackAndForth => put_two(out, keywords, "back_and_forth"),
-        Target::Number(name) => {
-            put(out, keywords)?;
-            put_named(out, "number ", name)
-        }
+        Target::Number(name) => put_numbered(out, keywords, name),
         Target::Named(name) => put_named(out, keywords, name),
-        Target::Current => put_two(out, keywords, "current"),
+        _ => put_two(out, keywords, target_word(target)),
     }
+}
+
+/// Writes keywords and the name of a numbered workspace.
+#[tactic(auto, using(crate::proofs::Lists::joining))]
+fn put_numbered(out: &mut String, keywords: &str, name: &Text) -> Result<(), NoMemory>
+    ensures { OnOk result (string_bytes out.new ≡ string_bytes out.old ++ (keywords.now ++ (codes "number " ++ quoted name.now))) }
+{
+    put(out, keywords)?;
+    put_named(out, "number ", name)
 }
 
 /// Writes keywords and a number.

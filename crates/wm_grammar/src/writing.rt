@@ -1,9 +1,9 @@
 //! Writing words, numbers and quoted texts at the end of a text.
 ghost use Rattle.std.specs.Prelude.{◌≡◌, ℕ, ◌<◌, ◌≤◌, ◌++◌, ◌∷◌, [], true, false, length, get_or, take, string_bytes, OnOk, decimal};
 ghost use Rattle.std.specs.Fmt.{signed_decimal};
-ghost use Rattle.wm_grammar.specs.Spelling.{is_special, escaped, quoted, bare_text, dir_text, split_text, layout_text, cycle_text, kind_text, switch_text, side_text, op_text, mark_text, grow_text, gap_text, scope_text};
+ghost use Rattle.wm_grammar.specs.Spelling.{is_special, escaped, quoted, bare_text, dir_text, split_text, layout_text, cycle_text, kind_text, switch_text, target_word, side_text, op_text, mark_text, grow_text, gap_text, scope_text};
 
-use crate::arguments::{Cycle, GapOp, Kind, LayoutArg, OnOff, Side, SplitArg};
+use crate::arguments::{Cycle, GapOp, Kind, LayoutArg, OnOff, Side, SplitArg, Target};
 use crate::command::Command;
 use std::fmt::Write;
 use wm_base::{Dir, NoMemory};
@@ -157,6 +157,21 @@ pub fn switch_text(arg: OnOff) -> &'static str
         OnOff::Enable => "enable",
         OnOff::Disable => "disable",
         OnOff::Toggle => "toggle",
+    }
+}
+
+/// The keyword of a workspace that has no name; nothing for any other.
+pub fn target_word(target: &Target) -> &'static str
+    ensures { result.now ≡ target_word target.now }
+{
+    match target {
+        Target::Next => "next",
+        Target::Prev => "prev",
+        Target::NextOnOutput => "next_on_output",
+        Target::PrevOnOutput => "prev_on_output",
+        Target::BackAndForth => "back_and_forth",
+        Target::Current => "current",
+        _ => "",
     }
 }
 
