@@ -3,6 +3,7 @@ ghost use Rattle.std.specs.Prelude.{◌≡◌, false, IfOk};
 ghost use Rattle.serde_json.specs.View.{view};
 ghost use Rattle.serde_json.specs.Written.{has_float, compact_text};
 ghost use Rattle.wm_json.specs.Replies.{reply_data, replies_data, replies_text};
+ghost use Rattle.wm_json.specs.declared.replies.Reply.TheVariants as replies;
 
 use crate::values::{error_value, parse_error_value, success_value};
 use serde_json::Value;
@@ -32,15 +33,25 @@ fn reply_value(alloc: Global, reply: &Reply) -> Result<Value, NoMemory>
     match reply {
         Reply::Ok => success_value(alloc, true),
         Reply::Error(error) => Ok(error_value(alloc, error.text())?),
-        Reply::Parse(at) => {
-            let text = format!(in alloc; "parse error at byte {at}")?;
-            Ok(parse_error_value(alloc, text.as_str())?)
-        }
-        Reply::Pattern(pattern) => {
-            let text = format!(in alloc; "pattern {pattern} is refused")?;
-            Ok(error_value(alloc, text.as_str())?)
-        }
+        Reply::Parse(at) => parse_value(alloc, *at),
+        Reply::Pattern(pattern) => pattern_value(alloc, *pattern),
     }
+}
+
+/// The object of a reply to a text that does not read.
+fn parse_value(alloc: Global, at: usize) -> Result<Value, NoMemory>
+    ensures { IfOk result (λ v. view v ≡ reply_data (replies.Parse at)) }
+{
+    let text = format!(in alloc; "parse error at byte {at}")?;
+    Ok(parse_error_value(alloc, text.as_str())?)
+}
+
+/// The object of a reply to a command whose pattern was refused.
+fn pattern_value(alloc: Global, pattern: u32) -> Result<Value, NoMemory>
+    ensures { IfOk result (λ v. view v ≡ reply_data (replies.Pattern pattern)) }
+{
+    let text = format!(in alloc; "pattern {pattern} is refused")?;
+    Ok(error_value(alloc, text.as_str())?)
 }
 
 /// The array of the replies, an object each.
