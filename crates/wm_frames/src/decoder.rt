@@ -2,9 +2,8 @@
 ghost use Rattle.std.specs.Prelude.{◌≡◌, ◌++◌, ℕ, List, [], None, Some, Err, length, IfSome, IfNone, IfErr, OnOk};
 ghost use Rattle.std.specs.Option.{option_to_list};
 
-use crate::message::{FrameFault, HEAD, Message};
-use crate::partial::{Partial, begin, fault_of, missing};
-use crate::whole::read_frames;
+use crate::message::{FrameFault, Message};
+use crate::partial::{Partial, fault_of, missing};
 use std::alloc::Global;
 use std::collections::VecDeque;
 use std::marker::Model;
@@ -109,13 +108,14 @@ impl Decoder {
             self.partial.go_on(head, after, missing)?;
             return Ok(());
         }
-        let (ends, later) = after.split_at(missing);
-        let (fresh, tail) = read_frames(self.alloc, later)?;
-        let size = HEAD + self.partial.body.len() + missing + (later.len() - tail.len());
-        let place = self.place.saturating_add(size as u64);
-        let (next, fault) = begin(self.alloc, place, tail)?;
-        self.partial
-            .complete(head, ends, next, &mut self.queue, fresh)?;
+        let (place, fault) = self.partial.end(
+            self.alloc,
+            self.place,
+            head,
+            after,
+            missing,
+            &mut self.queue,
+        )?;
         self.place = place;
         self.fault = fault;
         fault.map_or(Ok(()), Err)

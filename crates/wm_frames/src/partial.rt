@@ -1,12 +1,15 @@
 //! The bytes of a frame that is not whole yet: its head, and then its payload so far.
-ghost use Rattle.std.specs.Prelude.{◌≡◌, ℕ, ◌+◌, ◌-◌, ◌<◌, ◌≤◌, ◌++◌, ◌∷◌, [], length, IfOk, OnOk, OnErr};
+ghost use Rattle.std.specs.Prelude.{◌≡◌, ℕ, ◌+◌, ◌-◌, ◌<◌, ◌≤◌, ◌++◌, ◌∷◌, [], drop, length, take, IfOk, OnOk, OnErr};
+ghost use Rattle.wm_frames.specs.Decoding.{capped};
 ghost use Rattle.wm_frames.specs.Front.{front_of, length_field, kind_field};
+ghost use Rattle.wm_frames.specs.Reading.{messages, tail};
 ghost use Rattle.wm_frames.specs.Step.{fault_at, kept};
 ghost use Rattle.wm_frames.specs.Partial.{IsPartial};
 
 use crate::front::{Front, number_at, read_front};
 use crate::head::Head;
 use crate::message::{FrameFault, HEAD, Message, add};
+use crate::whole::read_frames;
 use std::alloc::{AllocError, Global};
 use std::collections::VecDeque;
 use std::mem;
@@ -55,6 +58,41 @@ impl Partial {
         self.body.extend_from_slice(after)?;
         self.head = head;
         Ok(())
+    }
+
+    /// Ends the frame with as many of these bytes as it lacks, queues its message and those of the whole frames behind it,
+    /// and begins with the rest. Gives the place of the rest, and its fault.
+    pub fn end(
+        &mut self,
+        alloc: Global,
+        place: u64,
+        head: Head,
+        after: &[u8],
+        missing: usize,
+        queue: &mut VecDeque<Message>,
+    ) -> Result<(u64, Option<FrameFault>), AllocError>
+        requires head { length head ≡ 14 }
+        requires fits { length self.old.body.items + missing ≤ 262144 }
+        requires enough { missing ≤ length after.now }
+        ensures ok_queue { OnOk result (queue.new.items ≡ queue.old.items
+            ++ record { kind = kind_field head; payload = self.old.body.items ++ take missing after.now } ∷ messages (drop missing after.now)) }
+        ensures ok_rest { OnOk result (self.new.head ++ self.new.body.items
+            ≡ kept (tail (drop missing after.now)) (front_of (tail (drop missing after.now)))) }
+        ensures ok_partial { OnOk result (IsPartial self.new.head self.new.body.items) }
+        ensures ok_place { IfOk result (λ r. r.0 ≡ capped (place + (14 + length self.old.body.items + missing
+            + (length (drop missing after.now) - length (tail (drop missing after.now)))))) }
+        ensures ok_fault { IfOk result (λ r. r.1 ≡ fault_at r.0 (front_of (tail (drop missing after.now)))) }
+        ensures err_queue { OnErr result (queue.new.items ≡ queue.old.items) }
+        ensures err_head { OnErr result (self.new.head ≡ self.old.head) }
+        ensures err_body { OnErr result (self.new.body.items ≡ self.old.body.items) }
+    {
+        let (ends, later) = after.split_at(missing);
+        let (fresh, rest) = read_frames(alloc, later)?;
+        let size = HEAD + self.body.len() + missing + (later.len() - rest.len());
+        let place = place.saturating_add(size as u64);
+        let (next, fault) = begin(alloc, place, rest)?;
+        self.complete(head, ends, next, queue, fresh)?;
+        Ok((place, fault))
     }
 
     /// Ends the frame with its last bytes, puts its message and the fresh ones into the queue, and begins with the next.

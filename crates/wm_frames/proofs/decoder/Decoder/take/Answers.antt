@@ -1,10 +1,9 @@
-use Rattle.std.proofs.Common.{◌≡◌, ◌+◌, ◌<◌, ◌≤◌, ◌^◌, ◌++◌, length, sym, ◌∙◌, ap, refl, arith, rules}
+use Rattle.std.proofs.Common.{◌≡◌, ◌<◌, ◌≤◌, ◌^◌, ◌++◌, drop, length, take, sym, ◌∙◌, ap, refl, arith, rules}
 use Rattle.wm_frames.specs.Front.{front_of, length_field}
-use Rattle.wm_frames.specs.Reading.{tail}
+use Rattle.wm_frames.specs.Reading.{messages}
 use Rattle.wm_frames.specs.Decoding.{Decoding}
-use Rattle.wm_frames.specs.Step.{fault_at, kept}
-use Rattle.wm_frames.proofs.ReadingLemmas.{tail-not_whole, tail-length}
-use Rattle.wm_frames.proofs.StepLemmas.{began, misses, fault_takes, part_takes, frame_takes, still_part, partial_by, from_view, body_fits, frame_size}
+use Rattle.wm_frames.specs.Step.{fault_at}
+use Rattle.wm_frames.proofs.StepLemmas.{began, misses, fault_takes, part_takes, frame_takes, still_part, partial_by, from_view, body_fits, frame_size, head_whole}
 use Rattle.wm_frames.proofs.decoder.Decoder.take.Goals as goal
 
 pub returns-in-Some-clause-takes : goal.returns-in-Some-clause-takes
@@ -51,43 +50,28 @@ returns-then-after-missing-clause-takes c = λ _.
     (misses c.bytes-2.result.now c.fill-taken.new.self c.self.inside.partial.body.items c.missing-missing.result c.len.result c.bytes-2.ensures.value (c.len.ensures ∙ search rules) c.missing-missing.ensures.head c.missing-missing.ensures.body) c.if-after-missing.true)
     refl (ap (λ xs. xs ++ c.go_on.new.self.body.items) c.in_ok-go_on.ensures.ok_head ∙ ap (λ xs. c.fill-taken.new.self ++ xs) c.in_ok-go_on.ensures.ok_body) refl (ap (λ d. d.fault) c.self.view_is ∙ c.requires))
 
-pub overflow_add-size-2 : goal.overflow_add-size-2
-overflow_add-size-2 c =
-    let size : length c.self.inside.partial.body.items + c.missing-missing.result ≤ 262144 = frame_size c.self.inside.partial.head c.self.inside.partial.body.items c.args.piece.now c.fill-taken.new.self c.split_at.result.1.now c.self.inside.place c.fill-taken.result c.missing-missing.result
+pub end-requires-clause-head : goal.end-requires-clause-head
+end-requires-clause-head c =
+    head_whole c.self.inside.partial.head c.self.inside.partial.body.items c.args.piece.now c.fill-taken.new.self c.split_at.result.1.now c.fill-taken.result c.missing-missing.result
     (began c.self.inside.partial.head c.copied-head.result c.self.inside.partial.body.items c.args.piece.now c.fill-taken.new.self c.bytes.result.now c.fill-taken.result
     c.self.invariant c.copied-head.ensures c.fill-taken.ensures.count c.fill-taken.ensures.bytes c.bytes.ensures.value c.bytes.ensures.short) c.split_at.ensures.back
-    (misses c.bytes-2.result.now c.fill-taken.new.self c.self.inside.partial.body.items c.missing-missing.result c.len.result c.bytes-2.ensures.value (c.len.ensures ∙ search rules) c.missing-missing.ensures.head c.missing-missing.ensures.body) c.if-after-missing.false (ap (λ xs. fault_at c.self.inside.place (front_of xs)) (sym c.bytes.ensures.value) ∙ sym c.in_default.ensures) in
-    let e : c.len-2.result ≡ length c.self.inside.partial.body.items = (c.len-2.ensures ∙ search rules) in
-    omega arith
+    (misses c.bytes-2.result.now c.fill-taken.new.self c.self.inside.partial.body.items c.missing-missing.result c.len.result c.bytes-2.ensures.value (c.len.ensures ∙ search rules) c.missing-missing.ensures.head c.missing-missing.ensures.body) c.if-after-missing.false
 
-pub overflow_sub-size : goal.overflow_sub-size
-overflow_sub-size c = omega (arith, tail-length c.split_at-2.result.1.now, ap length c.in_ok-fresh.ensures.tail)
-
-pub overflow_add-size-3 : goal.overflow_add-size-3
-overflow_add-size-3 c =
-    let size : length c.self.inside.partial.body.items + c.missing-missing.result ≤ 262144 = frame_size c.self.inside.partial.head c.self.inside.partial.body.items c.args.piece.now c.fill-taken.new.self c.split_at.result.1.now c.self.inside.place c.fill-taken.result c.missing-missing.result
+pub end-requires-clause-fits : goal.end-requires-clause-fits
+end-requires-clause-fits c =
+    frame_size c.self.inside.partial.head c.self.inside.partial.body.items c.args.piece.now c.fill-taken.new.self c.split_at.result.1.now c.self.inside.place c.fill-taken.result c.missing-missing.result
     (began c.self.inside.partial.head c.copied-head.result c.self.inside.partial.body.items c.args.piece.now c.fill-taken.new.self c.bytes.result.now c.fill-taken.result
     c.self.invariant c.copied-head.ensures c.fill-taken.ensures.count c.fill-taken.ensures.bytes c.bytes.ensures.value c.bytes.ensures.short) c.split_at.ensures.back
-    (misses c.bytes-2.result.now c.fill-taken.new.self c.self.inside.partial.body.items c.missing-missing.result c.len.result c.bytes-2.ensures.value (c.len.ensures ∙ search rules) c.missing-missing.ensures.head c.missing-missing.ensures.body) c.if-after-missing.false (ap (λ xs. fault_at c.self.inside.place (front_of xs)) (sym c.bytes.ensures.value) ∙ sym c.in_default.ensures) in
-    let e : c.len-2.result ≡ length c.self.inside.partial.body.items = (c.len-2.ensures ∙ search rules) in
-    omega arith
-
-pub begin-requires : goal.begin-requires
-begin-requires c = λ n e. tail-not_whole c.split_at-2.result.1.now n (ap front_of (sym c.in_ok-fresh.ensures.tail) ∙ e)
+    (misses c.bytes-2.result.now c.fill-taken.new.self c.self.inside.partial.body.items c.missing-missing.result c.len.result c.bytes-2.ensures.value (c.len.ensures ∙ search rules) c.missing-missing.ensures.head c.missing-missing.ensures.body) c.if-after-missing.false (ap (λ xs. fault_at c.self.inside.place (front_of xs)) (sym c.bytes.ensures.value) ∙ sym c.in_default.ensures)
 
 pub returns-clause-takes : goal.returns-clause-takes
 returns-clause-takes c = λ _.
     let inside : Decoding = record { queue = c.self.inside.queue.items; rest = c.self.inside.partial.head ++ c.self.inside.partial.body.items; place = c.self.inside.place; fault = c.self.inside.fault } in
     from_view inside _ _ _ c.self.view_is
-    (frame_takes inside _ c.self.inside.partial.head c.self.inside.partial.body.items c.args.piece.now c.fill-taken.new.self c.split_at.result.1.now c.split_at-2.result.0.now c.split_at-2.result.1.now c.in_ok-fresh.fresh.items c.fill-taken.result c.missing-missing.result
+    (frame_takes inside _ c.self.inside.partial.head c.self.inside.partial.body.items c.args.piece.now c.fill-taken.new.self c.split_at.result.1.now
+    (take c.missing-missing.result c.split_at.result.1.now) (drop c.missing-missing.result c.split_at.result.1.now) (messages (drop c.missing-missing.result c.split_at.result.1.now)) c.fill-taken.result c.missing-missing.result
     (began c.self.inside.partial.head c.copied-head.result c.self.inside.partial.body.items c.args.piece.now c.fill-taken.new.self c.bytes.result.now c.fill-taken.result
     c.self.invariant c.copied-head.ensures c.fill-taken.ensures.count c.fill-taken.ensures.bytes c.bytes.ensures.value c.bytes.ensures.short)
     refl c.split_at.ensures.back (ap (λ xs. fault_at c.self.inside.place (front_of xs)) (sym c.bytes.ensures.value) ∙ sym c.in_default.ensures)
-    (misses c.bytes-2.result.now c.fill-taken.new.self c.self.inside.partial.body.items c.missing-missing.result c.len.result c.bytes-2.ensures.value (c.len.ensures ∙ search rules) c.missing-missing.ensures.head c.missing-missing.ensures.body) c.if-after-missing.false c.split_at-2.ensures.front c.split_at-2.ensures.back c.in_ok-fresh.ensures.messages
-    c.in_ok-complete.ensures.ok_queue
-    (ap (λ xs. xs ++ c.complete.new.self.body.items) c.in_ok-complete.ensures.ok_head ∙ ap (λ xs. c.in_ok-next.next.head ++ xs) c.in_ok-complete.ensures.ok_body
-    ∙ c.in_ok-next.ensures.bytes ∙ ap (λ xs. kept xs (front_of xs)) c.in_ok-fresh.ensures.tail)
-    (let e : c.len-2.result ≡ length c.self.inside.partial.body.items = (c.len-2.ensures ∙ search rules) in
-    let t : length c.in_ok-fresh.tail.now ≡ length (tail c.split_at-2.result.1.now) = ap length c.in_ok-fresh.ensures.tail in
-    omega (arith, c.saturating_add-place.ensures))
-    (c.in_ok-next.ensures.fault ∙ ap (λ xs. fault_at c.saturating_add-place.result (front_of xs)) c.in_ok-fresh.ensures.tail))
+    (misses c.bytes-2.result.now c.fill-taken.new.self c.self.inside.partial.body.items c.missing-missing.result c.len.result c.bytes-2.ensures.value (c.len.ensures ∙ search rules) c.missing-missing.ensures.head c.missing-missing.ensures.body) c.if-after-missing.false refl refl refl
+    c.in_ok-place.ensures.ok_queue c.in_ok-place.ensures.ok_rest c.in_ok-place.ensures.ok_place c.in_ok-place.ensures.ok_fault)
