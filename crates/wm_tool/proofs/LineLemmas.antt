@@ -1,7 +1,6 @@
 -- One line of a script is played: what it adds to the history, and what it tells.
 use Rattle.std.proofs.Common.{◌≡◌, ◌∙◌, refl, ap, sym, subst, ℕ, suc, ◌+◌, ◌-◌, get_or, ◌<◌, ◌≤◌, List, [], ◌∷◌, ◌++◌, Option, None, Some, length, take, drop, arith}
 use Rattle.std.proofs.lemmas.List.{take_all}
-use Rattle.wm_tree.specs.TreeValue.{opening}
 use Rattle.wm_core.specs.DeskValue.{DeskValue, Stands}
 use Rattle.wm_core.specs.History.{History, Start, answer, opening_of}
 use Rattle.wm_script.specs.declared.line.Deed.{Deed}

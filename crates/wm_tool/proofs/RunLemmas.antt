@@ -1,6 +1,6 @@
 -- A desk takes steps one after another, and what they tell is written in pieces.
-use Rattle.std.proofs.Common.{◌≡◌, ◌∙◌, refl, ap, ap₂, sym, subst, ℕ, zero, suc, ◌+◌, ◌-◌, inl, inr, List, [], ◌∷◌, ◌++◌, Option, None, Some, Result, Ok, Err, length, take, drop, arith, length-append, append_assoc}
-use Rattle.std.specs.Prelude.{IfErr, IsErrAnd, OnErr, OnOk}
+use Rattle.std.proofs.Common.{◌≡◌, ◌∙◌, refl, ap, ap₂, sym, subst, ℕ, zero, suc, ◌+◌, inl, inr, List, [], ◌∷◌, ◌++◌, Option, None, Some, Result, Ok, Err, length, take, drop, arith, length-append, append_assoc}
+use Rattle.std.specs.Prelude.{IfErr, IfOk, IsErrAnd, OnErr, OnOk}
 use Rattle.std.proofs.lemmas.List.{append-nil, drop_all, take_all, take-append-drop}
 use Rattle.wm_core.specs.DeskValue.{DeskValue, Stands}
 use Rattle.wm_criteria.specs.Building.{Tells}
@@ -9,7 +9,7 @@ use Rattle.wm_ports.specs.Told.{TakesAll, TakesPart}
 use Rattle.wm_tool.specs.declared.replay.Stop.{Stop}
 use Rattle.wm_tool.specs.declared.status.Refused.{Refused}
 use Rattle.wm_tool.specs.Ending.{HasStopped}
-use Rattle.wm_tool.specs.Output.{after, takes, entry_of, run_entry, told}
+use Rattle.wm_tool.specs.Output.{takes, entry_of, run_entry, told}
 use Rattle.wm_tool.specs.Refusals.{IsBacked, IsRising, refusal_at, verdict_of}
 use Rattle.wm_tool.specs.Running.{Backs, Grows, Holds, IsBackedTo, Leads, Plays, Runs, Stops, Writes, fresh}
 use Rattle.wm_core.specs.Act.{Run, act_of}
@@ -237,3 +237,15 @@ on_ok (Err e) p = tt
 pub ok_weaker : {A : Type 0} {E : Type 0} {P Q : Type 0} (r : Result A E) → OnOk r P → (P → Q) → OnOk r Q
 ok_weaker (Ok x) p weaker = weaker p
 ok_weaker (Err e) p weaker = tt
+
+pub err_weaker : {A : Type 0} {E : Type 0} {P Q : Type 0} (r : Result A E) → OnErr r P → (P → Q) → OnErr r Q
+err_weaker (Ok x) p weaker = tt
+err_weaker (Err e) p weaker = weaker p
+
+pub if_ok_weaker : {A : Type 0} {E : Type 0} {P Q : A → Type 0} (r : Result A E) → IfOk r P → ((x : A) → P x → Q x) → IfOk r Q
+if_ok_weaker (Ok x) p weaker = weaker x p
+if_ok_weaker (Err e) p weaker = tt
+
+pub either_way : {A : Type 0} {E : Type 0} {P : Type 0} (r : Result A E) → OnOk r P → OnErr r P → P
+either_way (Ok x) ok err = ok
+either_way (Err e) ok err = err

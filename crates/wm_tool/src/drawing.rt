@@ -11,7 +11,7 @@ ghost use Rattle.wm_tool.specs.Running.{Draws};
 ghost use Rattle.wm_script.specs.Script.{IsFitLine, IsSoundScript};
 ghost use Rattle.wm_tool.specs.declared.status.Refused.{Refused};
 
-use crate::planning::plan_of;
+use crate::planning::desk_of;
 use crate::replay::{Stop, run_line};
 use std::alloc::Global;
 use wm_base::NoMemory;
@@ -39,10 +39,33 @@ pub fn draw<B: Build, W: Sink>(
         (B.refusals build.old) (B.refusals build.new) (B.refused build.old) (B.refused build.new) }
     ensures err { IfErr result (HasStopped (W.faults sink.old) (W.faults sink.new)) }
 {
-    let plan = plan_of(alloc, lines)?;
-    let mut desk = Desk::start(alloc, plan)?;
-    play_lines(alloc, lines, &mut desk, build, refused)?;
-    let bytes = picture(alloc, &desk)?;
+    let mut desk = desk_of(alloc, lines)?;
+    let end = draw_on(alloc, lines, &mut desk, build, refused, sink);
+    drop(desk);
+    end
+}
+
+/// Runs the lines on a desk that is new, and writes the picture of the frame that they leave.
+fn draw_on<B: Build, W: Sink>(
+    alloc: Global,
+    lines: &[Line],
+    desk: &mut Desk,
+    build: &mut B,
+    refused: &mut Vec<crate::status::Refused>,
+    sink: &mut W,
+) -> Result<(), Stop>
+    requires few { length lines.now ≤ 16777216 }
+    requires fit { All IsFitLine lines.now }
+    requires none { refused.old.items ≡ [] }
+    requires stands { Stands desk.old [] }
+    ensures ok { OnOk result (TakesAll (W.taken sink.old) (W.taken sink.new) (drawn_from (opening_of desk.old.plan) lines.now refused.new.items [])) }
+    ensures part { OnErr result (TakesPart (W.taken sink.old) (W.taken sink.new) (drawn_from (opening_of desk.old.plan) lines.now refused.new.items [])) }
+    ensures backed { IsBacked (line_texts lines.now) refused.new.items
+        (B.refusals build.old) (B.refusals build.new) (B.refused build.old) (B.refused build.new) }
+    ensures err { IfErr result (HasStopped (W.faults sink.old) (W.faults sink.new)) }
+{
+    play_lines(alloc, lines, desk, build, refused)?;
+    let bytes = picture(alloc, desk)?;
     write_all(sink, &bytes)?;
     Ok(())
 }

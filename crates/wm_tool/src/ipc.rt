@@ -1,10 +1,10 @@
 //! The messages of i3-ipc are answered one after another, and each reply is written as it is made.
-ghost use Rattle.std.specs.Prelude.{◌≡◌, ℕ, List, Option, ◌+◌, ◌<◌, ◌≤◌, ◌^◌, [], ◌∷◌, ◌++◌, None, Some, IfErr, IfOk, OnErr, OnOk, length};
+ghost use Rattle.std.specs.Prelude.{◌≡◌, ℕ, List, Option, ◌+◌, ◌<◌, ◌≤◌, ◌^◌, [], ◌∷◌, ◌++◌, false, None, Some, IfErr, IfOk, OnErr, OnOk, length};
 ghost use Rattle.std.specs.Option.{option_map};
 ghost use Rattle.std.specs.List.{AllByRecursion};
 ghost use Rattle.wm_frames.specs.Frame.{IsShort};
 ghost use Rattle.wm_core.specs.History.{answer, History, opening_of};
-ghost use Rattle.wm_json.specs.Replies.{replies_text};
+ghost use Rattle.wm_json.specs.Replies.{replies_text, success_text, VERSION_TEXT};
 ghost use Rattle.wm_layouts.specs.Plan.{IsStandard};
 ghost use Rattle.wm_ports.specs.Told.{TakesAll, TakesPart};
 ghost use Rattle.wm_tool.specs.Ending.{HasStopped};
@@ -15,6 +15,7 @@ ghost use Rattle.wm_tool.specs.Running.{Backs, Grows, Leads, Plays, Stops};
 ghost use Rattle.wm_tool.specs.declared.status.Refused.{Refused};
 
 use crate::judging::run_text;
+use crate::planning::standard_desk;
 use crate::replay::Stop;
 use std::alloc::Global;
 use std::str;
@@ -23,7 +24,6 @@ use wm_core::{Answer, Desk};
 use wm_criteria::Build;
 use wm_frames::{Decoder, Message, encode};
 use wm_json::{Reply, compact, replies_json, success_value, version_value};
-use wm_layouts::Plan;
 use wm_ports::{Sink, write_all};
 
 /// RUN_COMMAND: the payload is a command text.
@@ -53,10 +53,11 @@ pub fn answer_all<B: Build, W: Sink>(
     ensures err { IfErr result (HasStopped (W.faults sink.old) (W.faults sink.new)) }
     ensures counted { W.faults sink.old ≤ W.faults sink.new }
 {
-    let mut desk = Desk::start(alloc, Plan::standard(alloc)?)?;
+    let mut desk = standard_desk(alloc)?;
     let mut piece = Vec::new(alloc);
-    answer_queue(alloc, decoder, &mut desk, build, refused, &mut piece, sink)?;
-    Ok(())
+    let end = answer_queue(alloc, decoder, &mut desk, build, refused, &mut piece, sink);
+    drop(desk);
+    end
 }
 
 /// Answers the queued messages on the desk. Each reply is written before the next message is looked at.
@@ -86,7 +87,9 @@ fn answer_queue<B: Build, W: Sink>(
     ensures counted { W.faults sink.old ≤ W.faults sink.new }
 {
     while let Some(message) = decoder.next() {
-        answer_message(alloc, desk, &message, build, refused, piece)?;
+        let answered = answer_message(alloc, desk, &message, build, refused, piece);
+        drop(message);
+        answered?;
         write_all(sink, piece)?;
         piece.clear();
     }
@@ -207,8 +210,24 @@ fn kind_payload(alloc: Global, kind: u32) -> Result<Option<Vec<u8>>, NoMemory>
     ensures { (payload : List ℕ) → IfOk result (λ p. option_map (λ bytes. bytes.items) p ≡ plain_payload (request_by kind payload)) }
 {
     match kind {
-        GET_VERSION => Ok(Some(compact(alloc, &version_value(alloc)?)?)),
-        0..=LAST_KIND => Ok(Some(compact(alloc, &success_value(alloc, false)?)?)),
+        GET_VERSION => Ok(Some(version_text(alloc)?)),
+        0..=LAST_KIND => Ok(Some(refusal_text(alloc)?)),
         _ => Ok(None),
     }
+}
+
+/// The text of the object that names this program's version.
+fn version_text(alloc: Global) -> Result<Vec<u8>, NoMemory>
+    ensures { IfOk result (λ bytes. bytes.items ≡ VERSION_TEXT) }
+{
+    let value = version_value(alloc)?;
+    compact(alloc, &value)
+}
+
+/// The text of the object that says that nothing was done.
+fn refusal_text(alloc: Global) -> Result<Vec<u8>, NoMemory>
+    ensures { IfOk result (λ bytes. bytes.items ≡ success_text false) }
+{
+    let value = success_value(alloc, false)?;
+    compact(alloc, &value)
 }

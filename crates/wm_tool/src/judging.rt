@@ -64,5 +64,7 @@ pub fn run_text<B: Build>(
 {
     let text = judge(alloc, text, desk.steps(), build, refused)?;
     let step = Step::Run(text);
-    desk.step(who, &step)
+    let answer = desk.step(who, &step);
+    drop(step);
+    answer
 }

@@ -9,6 +9,7 @@ mod planning;
 mod replay;
 mod run;
 mod status;
+mod steps;
 
 pub use run::tool;
 pub use status::{Refused, Status};

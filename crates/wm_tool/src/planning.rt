@@ -1,18 +1,39 @@
 //! The plan of a script: the standard one with what the lines of the plan say.
 ghost use Rattle.std.specs.Prelude.{◌≡◌, [], IfOk};
+ghost use Rattle.wm_core.specs.DeskValue.{Stands};
 ghost use Rattle.wm_core.specs.History.{opening_of};
-ghost use Rattle.wm_layouts.specs.Plan.{IsSound};
+ghost use Rattle.wm_layouts.specs.Plan.{IsSound, IsStandard};
 ghost use Rattle.wm_tool.specs.Output.{outputs_or_default, plain, set_by, start_of};
 ghost use Rattle.wm_tool.specs.Planning.{setting_of};
 ghost use Rattle.wm_script.specs.Script.{IsFitLine, IsSoundScript, outputs_in};
 
 use std::alloc::{AllocError, Global};
 use wm_base::{List, NoMemory, OutputPlan};
+use wm_core::Desk;
 use wm_layouts::Plan;
 use wm_script::{Deed, Line};
 
+/// The desk at the opening of the plan of the lines.
+pub fn desk_of(alloc: Global, lines: &[Line]) -> Result<Desk, NoMemory>
+    requires { IsSoundScript lines.now }
+    ensures opens { IfOk result (λ desk. opening_of desk.plan ≡ start_of lines.now) }
+    ensures stands { IfOk result (λ desk. Stands desk []) }
+{
+    let plan = plan_of(alloc, lines)?;
+    Desk::start(alloc, plan)
+}
+
+/// The desk at the opening of the standard plan.
+pub fn standard_desk(alloc: Global) -> Result<Desk, NoMemory>
+    ensures plan { IfOk result (λ desk. IsStandard desk.plan) }
+    ensures stands { IfOk result (λ desk. Stands desk []) }
+{
+    let plan = Plan::standard(alloc)?;
+    Desk::start(alloc, plan)
+}
+
 /// The plan that the lines make of the standard one.
-pub fn plan_of(alloc: Global, lines: &[Line]) -> Result<Plan, NoMemory>
+fn plan_of(alloc: Global, lines: &[Line]) -> Result<Plan, NoMemory>
     requires { IsSoundScript lines.now }
     ensures opens { IfOk result (λ plan. opening_of plan ≡ start_of lines.now) }
     ensures sound { IfOk result (λ plan. IsSound plan) }

@@ -1,7 +1,7 @@
 //! The lines of a script are run, and what they tell is written in pieces.
-ghost use Rattle.std.specs.Prelude.{◌≡◌, ℕ, List, Option, ◌+◌, ◌<◌, ◌≤◌, ◌^◌, [], ◌∷◌, None, All, IfErr, IfOk, IfSome, OnErr, OnOk, length};
-ghost use Rattle.std.specs.Option.{option_map};
+ghost use Rattle.std.specs.Prelude.{◌≡◌, ℕ, List, Option, ◌+◌, ◌<◌, ◌≤◌, ◌^◌, [], ◌∷◌, None, Some, All, IfErr, IfOk, OnErr, OnOk, length};
 ghost use Rattle.wm_core.specs.Act.{act_of};
+ghost use Rattle.wm_core.specs.DeskValue.{Stands};
 ghost use Rattle.wm_core.specs.Frame.{frame};
 ghost use Rattle.wm_core.specs.Look.{look};
 ghost use Rattle.wm_paint.specs.FrameText.{frame_text};
@@ -10,30 +10,30 @@ ghost use Rattle.wm_core.specs.Sizes.{IsFitStep};
 ghost use Rattle.wm_defs.specs.Counts.{Rose};
 ghost use Rattle.wm_ports.specs.Told.{TakesAll, TakesPart};
 ghost use Rattle.wm_tool.specs.Ending.{HasStopped};
-ghost use Rattle.wm_tool.specs.Output.{act_in, after, answer_text, entry_of, line_step, line_texts, out_from, start_of, told, view_text};
+ghost use Rattle.wm_tool.specs.Output.{after, answer_text, entry_of, line_step, line_texts, out_from, run_entry, start_of, told, view_text};
 ghost use Rattle.wm_tool.specs.Refusals.{refusal_at, IsBacked};
 ghost use Rattle.wm_tool.specs.Running.{Backs, Grows, Leads, Plays, Stops, Writes};
-ghost use Rattle.wm_script.specs.Script.{IsFitDeed, IsFitLine, IsSoundScript};
+ghost use Rattle.wm_script.specs.Script.{IsFitLine, IsSoundScript};
 ghost use Rattle.wm_tool.specs.declared.status.Refused.{Refused};
 ghost use Rattle.wm_tool.specs.declared.replay.Stop.TheVariants as stops;
 
 use crate::answers::{push_answer, push_view};
 use crate::judging::run_text;
-use crate::planning::{copy_output, plan_of};
+use crate::planning::desk_of;
+use crate::steps::step_of;
 use std::alloc::{AllocError, Global};
 use wm_base::NoMemory;
-use wm_core::{ClientStep, Desk, Query, Step};
+use wm_core::{Desk, Query, Step};
 use wm_criteria::Build;
 use wm_paint::frame_text;
 use wm_ports::{Failed, Sink, write_all};
 use wm_script::{Deed, Line};
-use wm_tree::copy_props;
 
 /// How long a piece of the output is at least before it is written, in bytes.
 const PIECE: usize = 65536;
 
 /// Why a script was not run to its end.
-#[derive(Clone, Copy, Debug, PartialEq, Eq)]
+#[derive(Clone, Copy)]
 pub enum Stop {
     WriteFault,
     NoMemory,
@@ -80,10 +80,33 @@ pub fn replay<B: Build, W: Sink>(
         (B.refusals build.old) (B.refusals build.new) (B.refused build.old) (B.refused build.new) }
     ensures err { IfErr result (HasStopped (W.faults sink.old) (W.faults sink.new)) }
 {
-    let plan = plan_of(alloc, lines)?;
-    let mut desk = Desk::start(alloc, plan)?;
+    let mut desk = desk_of(alloc, lines)?;
+    let end = replay_on(alloc, lines, &mut desk, build, refused, sink);
+    drop(desk);
+    end
+}
+
+/// Runs the lines on a desk that is new, and writes what they tell.
+fn replay_on<B: Build, W: Sink>(
+    alloc: Global,
+    lines: &[Line],
+    desk: &mut Desk,
+    build: &mut B,
+    refused: &mut Vec<crate::status::Refused>,
+    sink: &mut W,
+) -> Result<(), Stop>
+    requires few { length lines.now ≤ 16777216 }
+    requires fit { All IsFitLine lines.now }
+    requires none { refused.old.items ≡ [] }
+    requires stands { Stands desk.old [] }
+    ensures ok { OnOk result (TakesAll (W.taken sink.old) (W.taken sink.new) (out_from (opening_of desk.old.plan) lines.now refused.new.items [])) }
+    ensures part { OnErr result (TakesPart (W.taken sink.old) (W.taken sink.new) (out_from (opening_of desk.old.plan) lines.now refused.new.items [])) }
+    ensures backed { IsBacked (line_texts lines.now) refused.new.items
+        (B.refusals build.old) (B.refusals build.new) (B.refused build.old) (B.refused build.new) }
+    ensures err { IfErr result (HasStopped (W.faults sink.old) (W.faults sink.new)) }
+{
     let mut piece = Vec::new(alloc);
-    run_lines(alloc, lines, &mut desk, build, refused, &mut piece, sink)?;
+    run_lines(alloc, lines, desk, build, refused, &mut piece, sink)?;
     write_all(sink, &piece)?;
     Ok(())
 }
@@ -156,8 +179,7 @@ pub(crate) fn run_line<B: Build>(
 {
     match &line.deed {
         Deed::Run(text) => {
-            let answer = run_text(alloc, desk, line.who, text.as_str(), build, refused)?;
-            push_answer(alloc, piece, &answer)
+            run_and_tell(alloc, desk, line.who, text.as_str(), build, refused, piece)
         }
         Deed::Paint => paint(alloc, desk, piece),
         Deed::Marks => look(alloc, desk, line.who, &Query::Marks, piece),
@@ -169,53 +191,35 @@ pub(crate) fn run_line<B: Build>(
             look(alloc, desk, line.who, &query, piece)
         }
         deed => match step_of(deed)? {
-            Some(step) => take(alloc, desk, line.who, &step, piece),
+            Some(step) => take(alloc, desk, line.who, step, piece),
             None => Ok(()),
         },
     }
 }
 
-/// The step of a line that takes one and runs no text.
-fn step_of(deed: &Deed) -> Result<Option<Step>, NoMemory>
-    requires { IsFitDeed deed.now }
-    ensures act { IfOk result (λ step. option_map act_of step ≡ act_in deed.now) }
-    ensures fit { IfOk result (λ step. IfSome step IsFitStep) }
+/// Runs a text for the caller, and adds what that is answered.
+fn run_and_tell<B: Build>(
+    alloc: Global,
+    desk: &mut Desk,
+    who: u32,
+    text: &str,
+    build: &mut B,
+    refused: &mut Vec<crate::status::Refused>,
+    piece: &mut Vec<u8>,
+) -> Result<(), NoMemory>
+    requires few { desk.old.steps < 2 ^ 48 }
+    requires short { length text.now < 2 ^ 32 }
+    ensures ok { refusal_at desk.old.steps refused.old.items ≡ None →
+        OnOk result (Leads desk.old desk.new (λ history. run_entry who refused.new.items history text.now ∷ history)
+        (λ history. answer_text (answer (opening_of desk.old.plan) history (run_entry who refused.new.items history text.now))) piece.old.items piece.new.items) }
+    ensures steps { OnOk result (desk.new.steps ≡ desk.old.steps + 1) }
+    ensures plan { OnOk result (desk.new.plan ≡ desk.old.plan) }
+    ensures grows { Grows desk.old.steps (Some text.now ∷ []) refused.old.items refused.new.items }
+    ensures backs { Backs desk.old.steps (Some text.now ∷ []) refused.old.items refused.new.items
+        (B.refusals build.old) (B.refusals build.new) (B.refused build.old) (B.refused build.new) }
 {
-    let step = match deed {
-        Deed::Map { props, buffer } => Step::Map {
-            props: copy_props(props)?,
-            buffer: *buffer,
-            then: None,
-        },
-        Deed::Retitle { con, title } => Step::Retitle {
-            con: *con,
-            title: title.clone()?,
-        },
-        Deed::Urgent { con, on } => Step::Urgent { con: *con, on: *on },
-        Deed::Close(con) => Step::Close { con: *con },
-        Deed::Gone => Step::Gone,
-        Deed::Ack { con, serial } => Step::Client(ClientStep::Ack {
-            con: *con,
-            serial: *serial,
-        }),
-        Deed::Give { con, buffer } => Step::Client(ClientStep::Buffer {
-            con: *con,
-            buffer: *buffer,
-        }),
-        Deed::Deadline(number) => Step::Client(ClientStep::Deadline { number: *number }),
-        Deed::OutputAdd(plan) => Step::OutputAdd {
-            plan: copy_output(plan)?,
-        },
-        Deed::OutputRemove(name) => Step::OutputRemove {
-            name: name.clone()?,
-        },
-        Deed::Reserve { name, edges } => Step::Reserve {
-            name: name.clone()?,
-            edges: *edges,
-        },
-        _ => return Ok(None),
-    };
-    Ok(Some(step))
+    let answer = run_text(alloc, desk, who, text, build, refused)?;
+    push_answer(alloc, piece, &answer)
 }
 
 /// Takes a step of the caller, and adds its answer.
@@ -223,18 +227,19 @@ fn take(
     alloc: Global,
     desk: &mut Desk,
     who: u32,
-    step: &Step,
+    step: Step,
     piece: &mut Vec<u8>,
 ) -> Result<(), NoMemory>
     requires few { desk.old.steps < 2 ^ 48 }
-    requires fit { IsFitStep step.now }
-    ensures ok { OnOk result (Leads desk.old desk.new (λ history. entry_of who (act_of step.now) ∷ history)
-        (λ history. answer_text (answer (opening_of desk.old.plan) history (entry_of who (act_of step.now)))) piece.old.items piece.new.items) }
+    requires fit { IsFitStep step }
+    ensures ok { OnOk result (Leads desk.old desk.new (λ history. entry_of who (act_of step) ∷ history)
+        (λ history. answer_text (answer (opening_of desk.old.plan) history (entry_of who (act_of step)))) piece.old.items piece.new.items) }
     ensures steps { OnOk result (desk.new.steps ≡ desk.old.steps + 1) }
     ensures plan { OnOk result (desk.new.plan ≡ desk.old.plan) }
 {
-    let answer = desk.step(who, step)?;
-    push_answer(alloc, piece, &answer)
+    let answer = desk.step(who, &step);
+    drop(step);
+    push_answer(alloc, piece, &answer?)
 }
 
 /// Adds the frame.

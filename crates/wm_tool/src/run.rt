@@ -22,7 +22,7 @@ use wm_script::read_script;
 const MOST: usize = 16_777_216;
 
 /// What the tool can do.
-#[derive(Clone, Copy, Debug, PartialEq, Eq)]
+#[derive(Clone, Copy)]
 pub enum Command {
     /// Reads a script, and writes the answers of its steps and its frames.
     Replay,
@@ -159,9 +159,29 @@ fn answer_frames<W: Sink, B: Build>(
     ensures faults { (old new : ℕ) → HasRisen (ending_of result) old new (W.faults sink.old) (W.faults sink.new) }
 {
     let mut decoder = Decoder::new(alloc);
-    let end = feed_all(&mut decoder, bytes)?;
+    answer_fed(alloc, &mut decoder, bytes, sink, build)
+}
+
+/// Feeds the bytes to a new decoder, and answers the messages that they make.
+fn answer_fed<W: Sink, B: Build>(
+    alloc: Global,
+    decoder: &mut Decoder,
+    bytes: &[u8],
+    sink: &mut W,
+    build: &mut B,
+) -> Result<List<Refused>, Status>
+    requires fresh { Stands [] [] decoder.old }
+    requires within { length bytes.now ≤ 16777216 }
+    ensures ends { EndsOn commands.Ipc bytes.now (ending_of result) }
+    ensures unwritten { OnUnwritten (ending_of result) (sink.new ≡ sink.old) }
+    ensures written { WritesOn commands.Ipc bytes.now
+        (record { old = B.refusals build.old; new = B.refusals build.new; told_old = B.refused build.old; told_new = B.refused build.new })
+        (ending_of result) (W.taken sink.old) (W.taken sink.new) }
+    ensures faults { (old new : ℕ) → HasRisen (ending_of result) old new (W.faults sink.old) (W.faults sink.new) }
+{
+    let end = feed_all(decoder, bytes)?;
     let mut refused = Vec::new(alloc);
-    answer_all(alloc, &mut decoder, build, &mut refused, sink)?;
+    answer_all(alloc, decoder, build, &mut refused, sink)?;
     match end {
         FramesEnd::Whole => Ok(List::of(refused)),
         FramesEnd::Bad { at } => Err(Status::BadFrames { at }),
@@ -170,7 +190,7 @@ fn answer_frames<W: Sink, B: Build>(
 }
 
 /// How frames end: whole, at a place where none begins, or with a part of one.
-#[derive(Clone, Copy, Debug, PartialEq, Eq)]
+#[derive(Clone, Copy)]
 enum FramesEnd {
     Whole,
     Bad { at: u64 },

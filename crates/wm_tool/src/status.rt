@@ -18,7 +18,7 @@ pub struct Refused {
 }
 
 /// How a run of the tool ended. Its number is the exit status of the program.
-#[derive(Debug, Drop)]
+#[derive(Drop)]
 pub enum Status {
     /// All was read and written. The steps of which a pattern was refused are listed.
     Done { refused: List<Refused> },

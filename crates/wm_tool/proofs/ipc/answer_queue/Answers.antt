@@ -10,25 +10,25 @@ use Rattle.wm_tool.proofs.MessageLemmas.{one_text, plays_message, stops_message}
 use Rattle.wm_tool.proofs.RunLemmas.{fails, on_err, writes, writes_all}
 use Rattle.wm_tool.proofs.ipc.answer_queue.Goals as goal
 
-pub returns-in_err-answer_message-clause-part : goal.returns-in_err-answer_message-clause-part
-returns-in_err-answer_message-clause-part g c = λ old whole texts count told p.
+pub returns-in_err-answered-clause-part : goal.returns-in_err-answered-clause-part
+returns-in_err-answered-clause-part g c = λ old whole texts count told p.
     let now = g.W.Sink.taken c.loop-message.sink in
     let desk = c.loop-message.desk in
     on_err c.from_residual.result
-    (stops_message old now desk c.loop-message.refused.items c.answer_message.new.refused.items [] whole texts count (g.B.Build.refusals c.loop-message.build) (g.B.Build.refusals c.answer_message.new.build) told (g.B.Build.refused c.loop-message.build) (g.B.Build.refused c.answer_message.new.build)
-    c.in-Some.message c.loop-message.decoder.queue c.next.new.self.queue c.in-Some.ensures.queue (c.loop-message.invariant.plays old whole texts count told p) c.answer_message.ensures.grows c.answer_message.ensures.backs)
+    (stops_message old now desk c.loop-message.refused.items c.answer_message-answered.new.refused.items [] whole texts count (g.B.Build.refusals c.loop-message.build) (g.B.Build.refusals c.answer_message-answered.new.build) told (g.B.Build.refused c.loop-message.build) (g.B.Build.refused c.answer_message-answered.new.build)
+    c.in-Some.message c.loop-message.decoder.queue c.next.new.self.queue c.in-Some.ensures.queue (c.loop-message.invariant.plays old whole texts count told p) c.answer_message-answered.ensures.grows c.answer_message-answered.ensures.backs)
 
 pub returns-in_err-write_all-clause-part : goal.returns-in_err-write_all-clause-part
 returns-in_err-write_all-clause-part g c = λ old whole texts count told p.
     let now = g.W.Sink.taken c.loop-message.sink in
     let desk = c.loop-message.desk in
     on_err c.from_residual-in_err-write_all.result
-    (fails old now (g.W.Sink.taken c.write_all.new.sink) c.answer_message.new.desk c.answer_message.new.refused.items c.answer_message.new.piece.items (replies_from c.next.new.self.queue) whole texts (message_texts c.next.new.self.queue) count (g.B.Build.refusals c.answer_message.new.build) told (g.B.Build.refused c.answer_message.new.build)
-    (plays_message old now desk c.loop-message.refused.items c.answer_message.new.refused.items [] whole texts count (g.B.Build.refusals c.loop-message.build) (g.B.Build.refusals c.answer_message.new.build) told (g.B.Build.refused c.loop-message.build) (g.B.Build.refused c.answer_message.new.build)
-    c.in-Some.message c.loop-message.decoder.queue c.next.new.self.queue c.in-Some.ensures.queue (c.loop-message.invariant.plays old whole texts count told p) c.answer_message.ensures.grows c.answer_message.ensures.backs
-    c.answer_message.new.desk c.answer_message.new.piece.items c.loop-message.invariant.plan
-    (λ none. subst (λ before. Leads desk c.answer_message.new.desk (after_message c.in-Some.message c.answer_message.new.refused.items) (replied (opening_of desk.plan) c.in-Some.message c.answer_message.new.refused.items) before c.answer_message.new.piece.items) c.loop-message.invariant.empty (c.in_ok-answer_message.ensures.ok none))
-    c.in_ok-answer_message.ensures.steps)
+    (fails old now (g.W.Sink.taken c.write_all.new.sink) c.answer_message-answered.new.desk c.answer_message-answered.new.refused.items c.answer_message-answered.new.piece.items (replies_from c.next.new.self.queue) whole texts (message_texts c.next.new.self.queue) count (g.B.Build.refusals c.answer_message-answered.new.build) told (g.B.Build.refused c.answer_message-answered.new.build)
+    (plays_message old now desk c.loop-message.refused.items c.answer_message-answered.new.refused.items [] whole texts count (g.B.Build.refusals c.loop-message.build) (g.B.Build.refusals c.answer_message-answered.new.build) told (g.B.Build.refused c.loop-message.build) (g.B.Build.refused c.answer_message-answered.new.build)
+    c.in-Some.message c.loop-message.decoder.queue c.next.new.self.queue c.in-Some.ensures.queue (c.loop-message.invariant.plays old whole texts count told p) c.answer_message-answered.ensures.grows c.answer_message-answered.ensures.backs
+    c.answer_message-answered.new.desk c.answer_message-answered.new.piece.items c.loop-message.invariant.plan
+    (λ none. subst (λ before. Leads desk c.answer_message-answered.new.desk (after_message c.in-Some.message c.answer_message-answered.new.refused.items) (replied (opening_of desk.plan) c.in-Some.message c.answer_message-answered.new.refused.items) before c.answer_message-answered.new.piece.items) c.loop-message.invariant.empty (c.in_ok-answered.ensures.ok none))
+    c.in_ok-answered.ensures.steps)
     (subst (TakesPart now (g.W.Sink.taken c.write_all.new.sink)) c.deref.ensures.value c.in_err-write_all.ensures.part))
 
 pub loop-message-preserved : goal.loop-message-preserved
@@ -37,18 +37,18 @@ loop-message-preserved g c =
     let desk = c.loop-message.desk in
     let kept = c.loop-message.invariant in
     record {
-      few = omega (arith, kept.few, c.in_ok-answer_message.ensures.steps, one_text (text_of_request (request_of c.in-Some.message)), ap length c.in-Some.ensures.queue);
-      plan = subst IsStandard (sym c.in_ok-answer_message.ensures.plan) kept.plan;
+      few = omega (arith, kept.few, c.in_ok-answered.ensures.steps, one_text (text_of_request (request_of c.in-Some.message)), ap length c.in-Some.ensures.queue);
+      plan = subst IsStandard (sym c.in_ok-answered.ensures.plan) kept.plan;
       short = (subst (AllByRecursion IsShort) c.in-Some.ensures.queue kept.short).1;
       empty = c.clear.ensures.items;
       plays = λ old whole texts count told p.
-          writes old now (g.W.Sink.taken c.write_all.new.sink) c.answer_message.new.desk c.answer_message.new.refused.items c.answer_message.new.piece.items (replies_from c.next.new.self.queue) whole texts (message_texts c.next.new.self.queue) count (g.B.Build.refusals c.answer_message.new.build) told (g.B.Build.refused c.answer_message.new.build)
-          (plays_message old now desk c.loop-message.refused.items c.answer_message.new.refused.items [] whole texts count (g.B.Build.refusals c.loop-message.build) (g.B.Build.refusals c.answer_message.new.build) told (g.B.Build.refused c.loop-message.build) (g.B.Build.refused c.answer_message.new.build)
-          c.in-Some.message c.loop-message.decoder.queue c.next.new.self.queue c.in-Some.ensures.queue (c.loop-message.invariant.plays old whole texts count told p) c.answer_message.ensures.grows c.answer_message.ensures.backs
-          c.answer_message.new.desk c.answer_message.new.piece.items c.loop-message.invariant.plan
-          (λ none. subst (λ before. Leads desk c.answer_message.new.desk (after_message c.in-Some.message c.answer_message.new.refused.items) (replied (opening_of desk.plan) c.in-Some.message c.answer_message.new.refused.items) before c.answer_message.new.piece.items) c.loop-message.invariant.empty (c.in_ok-answer_message.ensures.ok none))
-          c.in_ok-answer_message.ensures.steps)
-          [] (writes_all now (g.W.Sink.taken c.write_all.new.sink) c.answer_message.new.piece.items [] (subst (TakesAll now (g.W.Sink.taken c.write_all.new.sink)) c.deref.ensures.value c.in_ok-write_all.ensures.ok) refl);
+          writes old now (g.W.Sink.taken c.write_all.new.sink) c.answer_message-answered.new.desk c.answer_message-answered.new.refused.items c.answer_message-answered.new.piece.items (replies_from c.next.new.self.queue) whole texts (message_texts c.next.new.self.queue) count (g.B.Build.refusals c.answer_message-answered.new.build) told (g.B.Build.refused c.answer_message-answered.new.build)
+          (plays_message old now desk c.loop-message.refused.items c.answer_message-answered.new.refused.items [] whole texts count (g.B.Build.refusals c.loop-message.build) (g.B.Build.refusals c.answer_message-answered.new.build) told (g.B.Build.refused c.loop-message.build) (g.B.Build.refused c.answer_message-answered.new.build)
+          c.in-Some.message c.loop-message.decoder.queue c.next.new.self.queue c.in-Some.ensures.queue (c.loop-message.invariant.plays old whole texts count told p) c.answer_message-answered.ensures.grows c.answer_message-answered.ensures.backs
+          c.answer_message-answered.new.desk c.answer_message-answered.new.piece.items c.loop-message.invariant.plan
+          (λ none. subst (λ before. Leads desk c.answer_message-answered.new.desk (after_message c.in-Some.message c.answer_message-answered.new.refused.items) (replied (opening_of desk.plan) c.in-Some.message c.answer_message-answered.new.refused.items) before c.answer_message-answered.new.piece.items) c.loop-message.invariant.empty (c.in_ok-answered.ensures.ok none))
+          c.in_ok-answered.ensures.steps)
+          [] (writes_all now (g.W.Sink.taken c.write_all.new.sink) c.answer_message-answered.new.piece.items [] (subst (TakesAll now (g.W.Sink.taken c.write_all.new.sink)) c.deref.ensures.value c.in_ok-write_all.ensures.ok) refl);
       counted = omega (arith, kept.counted, c.write_all.ensures.counted);
     }
 
@@ -58,7 +58,7 @@ returns-clause-ok g c = λ old whole texts count told p.
     subst (λ queue. Plays old now c.loop-message.desk c.loop-message.refused.items [] (replies_from queue) whole texts (message_texts queue) count (g.B.Build.refusals c.loop-message.build) told (g.B.Build.refused c.loop-message.build))
     c.in_default.ensures.none (c.loop-message.invariant.plays old whole texts count told p)
 
-pub answer_message-requires : goal.answer_message-requires
-answer_message-requires g c =
+pub answer_message-answered-requires : goal.answer_message-answered-requires
+answer_message-answered-requires g c =
     let kept = c.loop-message.invariant in
     record { few = omega (arith, kept.few); short = (subst (AllByRecursion IsShort) c.in-Some.ensures.queue kept.short).0 }

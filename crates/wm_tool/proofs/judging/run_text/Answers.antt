@@ -17,17 +17,17 @@ pub returns-clause-answer : goal.returns-clause-answer
 returns-clause-answer g c = λ none history s.
     let p = c.in_ok-text.text in
     let grown = subst (λ n. c.judge.new.refused.items ≡ c.args.refused.now.items ++ fresh n p.verdict) c.steps.ensures c.in_ok-text.ensures.grown in
-    subst (λ e. IfOk c.step.result (λ a. a ≡ answer (opening_of c.args.desk.now.plan) history e))
+    subst (λ e. IfOk c.step-answer.result (λ a. a ≡ answer (opening_of c.args.desk.now.plan) history e))
     (run_entry_is c.args.who c.args.desk.now.steps history c.args.refused.now.items c.judge.new.refused.items c.args.text.now p none s.counted c.in_ok-text.ensures.text c.in_ok-text.ensures.verdict grown)
-    (c.step.ensures.answer history s)
+    (c.step-answer.ensures.answer history s)
 
 pub returns-clause-stands : goal.returns-clause-stands
 returns-clause-stands g c = λ none history s.
     let p = c.in_ok-text.text in
     let grown = subst (λ n. c.judge.new.refused.items ≡ c.args.refused.now.items ++ fresh n p.verdict) c.steps.ensures c.in_ok-text.ensures.grown in
-    subst (λ e. OnOk c.step.result (Stands c.step.new.self (e ∷ history)))
+    subst (λ e. OnOk c.step-answer.result (Stands c.step-answer.new.self (e ∷ history)))
     (run_entry_is c.args.who c.args.desk.now.steps history c.args.refused.now.items c.judge.new.refused.items c.args.text.now p none s.counted c.in_ok-text.ensures.text c.in_ok-text.ensures.verdict grown)
-    (c.step.ensures.stands history s)
+    (c.step-answer.ensures.stands history s)
 
 pub returns-clause-grows : goal.returns-clause-grows
 returns-clause-grows g c =

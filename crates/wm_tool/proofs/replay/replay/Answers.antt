@@ -1,104 +1,14 @@
-use Rattle.std.proofs.Common.{ℕ, [], List, ap, refl, subst, sym, ◌∙◌}
-use Rattle.wm_core.specs.History.{opening_of}
+use Rattle.std.specs.Prelude.{OnErr, OnOk}
 use Rattle.wm_ports.specs.Told.{TakesAll, TakesPart}
-use Rattle.wm_tool.specs.Output.{line_texts, out_from}
-use Rattle.wm_tool.specs.declared.status.Refused.{Refused}
-use Rattle.wm_tool.specs.Running.{Plays}
 use Rattle.wm_tool.proofs.LineLemmas.{from_start}
-use Rattle.wm_tool.proofs.RunLemmas.{begins, ends, fails, on_err, stopped_as}
 use Rattle.wm_tool.proofs.replay.replay.Goals as goal
-
-pub returns-in_err-run_lines-clause-part : goal.returns-in_err-run_lines-clause-part
-returns-in_err-run_lines-clause-part g c =
-    let told = g.W.Sink.taken c.args.sink.now in
-    let start = opening_of c.in_ok-desk.desk.plan in
-    let tells = out_from start c.args.lines.now in
-    let texts = line_texts c.args.lines.now in
-    let count = g.B.Build.refusals c.args.build.now in
-    let refused = g.B.Build.refused c.args.build.now in
-    let whole : List Refused → List ℕ = λ rs. tells rs [] in
-    let begun : Plays told told c.in_ok-desk.desk c.args.refused.now.items c.new-piece.result.items tells whole texts texts count count refused refused =
-    subst (λ rs. Plays told told c.in_ok-desk.desk rs c.new-piece.result.items tells whole texts texts count count refused refused) (sym c.requires.none)
-    (subst (λ piece. Plays told told c.in_ok-desk.desk [] piece tells whole texts texts count count refused refused) (sym c.new-piece.ensures.items)
-    (begins told c.in_ok-desk.desk tells texts count refused c.in_ok-desk.ensures.stands)) in
-    on_err c.from_residual-in_err-run_lines.result (from_start (TakesPart told (g.W.Sink.taken c.run_lines.new.sink)) start _ c.args.lines.now c.run_lines.new.refused.items (ap opening_of c.in_ok-desk.ensures.plan ∙ c.in_ok-plan.ensures.opens) (c.in_err-run_lines.ensures.part told whole texts count refused begun).0)
-
-pub returns-in_err-run_lines-clause-backed : goal.returns-in_err-run_lines-clause-backed
-returns-in_err-run_lines-clause-backed g c =
-    let told = g.W.Sink.taken c.args.sink.now in
-    let start = opening_of c.in_ok-desk.desk.plan in
-    let tells = out_from start c.args.lines.now in
-    let texts = line_texts c.args.lines.now in
-    let count = g.B.Build.refusals c.args.build.now in
-    let refused = g.B.Build.refused c.args.build.now in
-    let whole : List Refused → List ℕ = λ rs. tells rs [] in
-    let begun : Plays told told c.in_ok-desk.desk c.args.refused.now.items c.new-piece.result.items tells whole texts texts count count refused refused =
-    subst (λ rs. Plays told told c.in_ok-desk.desk rs c.new-piece.result.items tells whole texts texts count count refused refused) (sym c.requires.none)
-    (subst (λ piece. Plays told told c.in_ok-desk.desk [] piece tells whole texts texts count count refused refused) (sym c.new-piece.ensures.items)
-    (begins told c.in_ok-desk.desk tells texts count refused c.in_ok-desk.ensures.stands)) in
-    (c.in_err-run_lines.ensures.part told whole texts count refused begun).1
-
-pub returns-in_err-write_all-clause-part : goal.returns-in_err-write_all-clause-part
-returns-in_err-write_all-clause-part g c =
-    let told = g.W.Sink.taken c.args.sink.now in
-    let start = opening_of c.in_ok-desk.desk.plan in
-    let tells = out_from start c.args.lines.now in
-    let texts = line_texts c.args.lines.now in
-    let count = g.B.Build.refusals c.args.build.now in
-    let refused = g.B.Build.refused c.args.build.now in
-    let whole : List Refused → List ℕ = λ rs. tells rs [] in
-    let begun : Plays told told c.in_ok-desk.desk c.args.refused.now.items c.new-piece.result.items tells whole texts texts count count refused refused =
-    subst (λ rs. Plays told told c.in_ok-desk.desk rs c.new-piece.result.items tells whole texts texts count count refused refused) (sym c.requires.none)
-    (subst (λ piece. Plays told told c.in_ok-desk.desk [] piece tells whole texts texts count count refused refused) (sym c.new-piece.ensures.items)
-    (begins told c.in_ok-desk.desk tells texts count refused c.in_ok-desk.ensures.stands)) in
-    on_err c.from_residual-in_err-write_all.result (from_start (TakesPart told (g.W.Sink.taken c.write_all.new.sink)) start _ c.args.lines.now c.run_lines.new.refused.items (ap opening_of c.in_ok-desk.ensures.plan ∙ c.in_ok-plan.ensures.opens) (fails told (g.W.Sink.taken c.run_lines.new.sink) (g.W.Sink.taken c.write_all.new.sink) c.run_lines.new.desk c.run_lines.new.refused.items c.run_lines.new.piece.items (out_from start []) whole texts [] count (g.B.Build.refusals c.run_lines.new.build) refused (g.B.Build.refused c.run_lines.new.build) (c.in_ok-run_lines.ensures.ok told whole texts count refused begun) (subst (TakesPart (g.W.Sink.taken c.run_lines.new.sink) (g.W.Sink.taken c.write_all.new.sink)) c.deref.ensures.value c.in_err-write_all.ensures.part)).0)
-
-pub returns-in_err-write_all-clause-backed : goal.returns-in_err-write_all-clause-backed
-returns-in_err-write_all-clause-backed g c =
-    let told = g.W.Sink.taken c.args.sink.now in
-    let start = opening_of c.in_ok-desk.desk.plan in
-    let tells = out_from start c.args.lines.now in
-    let texts = line_texts c.args.lines.now in
-    let count = g.B.Build.refusals c.args.build.now in
-    let refused = g.B.Build.refused c.args.build.now in
-    let whole : List Refused → List ℕ = λ rs. tells rs [] in
-    let begun : Plays told told c.in_ok-desk.desk c.args.refused.now.items c.new-piece.result.items tells whole texts texts count count refused refused =
-    subst (λ rs. Plays told told c.in_ok-desk.desk rs c.new-piece.result.items tells whole texts texts count count refused refused) (sym c.requires.none)
-    (subst (λ piece. Plays told told c.in_ok-desk.desk [] piece tells whole texts texts count count refused refused) (sym c.new-piece.ensures.items)
-    (begins told c.in_ok-desk.desk tells texts count refused c.in_ok-desk.ensures.stands)) in
-    (c.in_ok-run_lines.ensures.ok told whole texts count refused begun).backed.backed
 
 pub returns-clause-ok : goal.returns-clause-ok
 returns-clause-ok g c =
-    let told = g.W.Sink.taken c.args.sink.now in
-    let start = opening_of c.in_ok-desk.desk.plan in
-    let tells = out_from start c.args.lines.now in
-    let texts = line_texts c.args.lines.now in
-    let count = g.B.Build.refusals c.args.build.now in
-    let refused = g.B.Build.refused c.args.build.now in
-    let whole : List Refused → List ℕ = λ rs. tells rs [] in
-    let begun : Plays told told c.in_ok-desk.desk c.args.refused.now.items c.new-piece.result.items tells whole texts texts count count refused refused =
-    subst (λ rs. Plays told told c.in_ok-desk.desk rs c.new-piece.result.items tells whole texts texts count count refused refused) (sym c.requires.none)
-    (subst (λ piece. Plays told told c.in_ok-desk.desk [] piece tells whole texts texts count count refused refused) (sym c.new-piece.ensures.items)
-    (begins told c.in_ok-desk.desk tells texts count refused c.in_ok-desk.ensures.stands)) in
-    from_start (TakesAll told (g.W.Sink.taken c.write_all.new.sink)) start _ c.args.lines.now c.run_lines.new.refused.items (ap opening_of c.in_ok-desk.ensures.plan ∙ c.in_ok-plan.ensures.opens)
-    (ends told (g.W.Sink.taken c.run_lines.new.sink) (g.W.Sink.taken c.write_all.new.sink) c.run_lines.new.desk c.run_lines.new.refused.items c.run_lines.new.piece.items (out_from start []) whole (λ rs history. refl) (c.in_ok-run_lines.ensures.ok told whole texts count refused begun).runs (subst (TakesAll (g.W.Sink.taken c.run_lines.new.sink) (g.W.Sink.taken c.write_all.new.sink)) c.deref.ensures.value c.in_ok-write_all.ensures.ok))
+    from_start (λ whole. OnOk c.replay_on-end.result (TakesAll (g.W.Sink.taken c.args.sink.now) (g.W.Sink.taken c.replay_on-end.new.sink) whole))
+    _ _ c.args.lines.now c.replay_on-end.new.refused.items c.in_ok-desk.ensures.opens c.replay_on-end.ensures.ok
 
-pub returns-clause-backed : goal.returns-clause-backed
-returns-clause-backed g c =
-    let told = g.W.Sink.taken c.args.sink.now in
-    let start = opening_of c.in_ok-desk.desk.plan in
-    let tells = out_from start c.args.lines.now in
-    let texts = line_texts c.args.lines.now in
-    let count = g.B.Build.refusals c.args.build.now in
-    let refused = g.B.Build.refused c.args.build.now in
-    let whole : List Refused → List ℕ = λ rs. tells rs [] in
-    let begun : Plays told told c.in_ok-desk.desk c.args.refused.now.items c.new-piece.result.items tells whole texts texts count count refused refused =
-    subst (λ rs. Plays told told c.in_ok-desk.desk rs c.new-piece.result.items tells whole texts texts count count refused refused) (sym c.requires.none)
-    (subst (λ piece. Plays told told c.in_ok-desk.desk [] piece tells whole texts texts count count refused refused) (sym c.new-piece.ensures.items)
-    (begins told c.in_ok-desk.desk tells texts count refused c.in_ok-desk.ensures.stands)) in
-    (c.in_ok-run_lines.ensures.ok told whole texts count refused begun).backed.backed
-
--- it has stopped as its lines did
-pub returns-in_err-run_lines-clause-err : goal.returns-in_err-run_lines-clause-err
-returns-in_err-run_lines-clause-err g c = stopped_as _ _ c.in_err-run_lines.field-0.0 c.from_residual-in_err-run_lines.result c.in_err-run_lines.ensures.err c.from_residual-in_err-run_lines.ensures.1
+pub returns-clause-part : goal.returns-clause-part
+returns-clause-part g c =
+    from_start (λ whole. OnErr c.replay_on-end.result (TakesPart (g.W.Sink.taken c.args.sink.now) (g.W.Sink.taken c.replay_on-end.new.sink) whole))
+    _ _ c.args.lines.now c.replay_on-end.new.refused.items c.in_ok-desk.ensures.opens c.replay_on-end.ensures.part

@@ -2,22 +2,33 @@ use Rattle.std.proofs.Common.{◌≡◌, ◌+◌, ℕ, List, [], ◌∷◌, Opti
 use Rattle.std.specs.Option.{option_map}
 use Rattle.std.specs.Prelude.{OnOk}
 use Rattle.wm_core.specs.Act.{act_of}
-use Rattle.wm_core.specs.History.{opening_of}
-use Rattle.wm_tool.specs.Running.{Backs}
-use Rattle.wm_tool.specs.Output.{act_in, deed_step, line_step}
+use Rattle.wm_core.specs.History.{History, opening_of}
+use Rattle.wm_tool.specs.Running.{Backs, Grows, Leads}
+use Rattle.wm_tool.specs.Output.{act_in, after_effect, deed_step, Effect, effect_of, effect_text, line_step, run_entry, Takes}
 use Rattle.wm_tool.proofs.LineLemmas.{step_count, step_leads}
 use Rattle.wm_tool.proofs.RunLemmas.{ok_weaker, unchanged}
 use Rattle.wm_tool.proofs.replay.run_line.Goals as goal
 
-pub returns-in_err-answer-in-Run-clause-backs : goal.returns-in_err-answer-in-Run-clause-backs
-returns-in_err-answer-in-Run-clause-backs g c =
-    let Kept : List (Option (List ℕ)) → Type 0 = λ steps. Backs c.args.desk.now.steps steps c.args.refused.now.items c.run_text.new.refused.items (g.B.Build.refusals c.args.build.now) (g.B.Build.refusals c.run_text.new.build) (g.B.Build.refused c.args.build.now) (g.B.Build.refused c.run_text.new.build) in
-    subst (λ d. Kept (deed_step d)) (sym c.in-Run.is) (subst (λ t. Kept (Some t ∷ [])) c.as_str.ensures c.run_text.ensures.backs)
-
-pub returns-in_ok-answer-in-Run-clause-backs : goal.returns-in_ok-answer-in-Run-clause-backs
-returns-in_ok-answer-in-Run-clause-backs g c =
-    let Kept : List (Option (List ℕ)) → Type 0 = λ steps. Backs c.args.desk.now.steps steps c.args.refused.now.items c.run_text.new.refused.items (g.B.Build.refusals c.args.build.now) (g.B.Build.refusals c.run_text.new.build) (g.B.Build.refused c.args.build.now) (g.B.Build.refused c.run_text.new.build) in
-    subst (λ d. Kept (deed_step d)) (sym c.in-Run.is) (subst (λ t. Kept (Some t ∷ [])) c.as_str.ensures c.run_text.ensures.backs)
+pub returns-in-Run : goal.returns-in-Run
+returns-in-Run g c =
+    let line = c.args.line.now in
+    let desk = c.args.desk.now in
+    let start = opening_of desk.plan in
+    let next = c.run_and_tell.new.desk in
+    let before = c.args.refused.now.items in
+    let refused = c.run_and_tell.new.refused.items in
+    let Led : (History → Effect) → Type 0 = λ effect. OnOk c.run_and_tell.result (Leads desk next (λ h. after_effect (effect h) h) (λ h. effect_text start h (effect h)) c.args.piece.now.items c.run_and_tell.new.piece.items) in
+    let Grown : List (Option (List ℕ)) → Type 0 = λ steps. Grows desk.steps steps before refused in
+    let Kept : List (Option (List ℕ)) → Type 0 = λ steps. Backs desk.steps steps before refused (g.B.Build.refusals c.args.build.now) (g.B.Build.refusals c.run_and_tell.new.build) (g.B.Build.refused c.args.build.now) (g.B.Build.refused c.run_and_tell.new.build) in
+    record {
+      ok = λ none.
+          subst (λ d. Led (λ h. effect_of line.who refused h d)) (sym c.in-Run.is)
+          (subst (λ t. Led (λ h. Takes (run_entry line.who refused h t))) c.as_str.ensures (c.run_and_tell.ensures.ok none));
+      steps = subst (λ d. OnOk c.run_and_tell.result (next.steps ≡ desk.steps + length (deed_step d))) (sym c.in-Run.is) c.run_and_tell.ensures.steps;
+      plan = c.run_and_tell.ensures.plan;
+      grows = subst (λ d. Grown (deed_step d)) (sym c.in-Run.is) (subst (λ t. Grown (Some t ∷ [])) c.as_str.ensures c.run_and_tell.ensures.grows);
+      backs = subst (λ d. Kept (deed_step d)) (sym c.in-Run.is) (subst (λ t. Kept (Some t ∷ [])) c.as_str.ensures c.run_and_tell.ensures.backs);
+    }
 
 pub returns-in-Some : goal.returns-in-Some
 returns-in-Some g c =
