@@ -1,7 +1,13 @@
-//! What the programs of cases share: the bytes that a text of data stands for, and the line that shows bytes.
+//! What the programs of cases share: the words of a line, the bytes that a text of data stands for, the line that shows
+//! bytes, and why a line is not done.
 #![tactic(auto)]
 
+mod fault;
+mod words;
+
+pub use fault::Fault;
 use std::alloc::{AllocError, Global};
+pub use words::{Words, number_of};
 
 /// What the byte that follows is a part of.
 #[derive(Clone, Copy, Debug)]
@@ -31,6 +37,15 @@ pub fn bytes_of(alloc: Global, text: &str) -> Result<Vec<u8>, AllocError> {
         bytes.push(b'\\')?;
     }
     Ok(bytes)
+}
+
+/// The text that a text of data stands for.
+pub fn string_of(alloc: Global, data: &str) -> Result<String, Fault> {
+    let bytes = bytes_of(alloc, data)?;
+    match String::from_utf8(bytes) {
+        Ok(string) => Ok(string),
+        Err(_) => Err(Fault::BadLine),
+    }
 }
 
 /// Takes one byte of the text, and says what the next one is a part of.

@@ -4,10 +4,10 @@ ghost use Rattle.std.specs.Prelude.{◌≡◌, true};
 ghost use Rattle.wm_tree.specs.Place.{IsPlace};
 
 use crate::desk::{Desk, is_fit, plan};
-use crate::fault::Fault;
 use crate::news::{placeholder, props_words, window};
 use crate::telling::{tell_done, tell_id};
-use crate::words::Words;
+use case_data::{Fault, Words};
+use wm_base::ConId;
 use wm_tree::{NewCon, Place, Tree};
 
 /// Adds what the next word says.
@@ -16,35 +16,61 @@ pub fn add(desk: &mut Desk, words: &mut Words<'_>, out: &mut String) -> Result<(
     ensures { Holds desk.new }
 {
     match words.word() {
-        "window" => {
-            let at = place(&desk.tree, words)?;
-            attach(desk, at, window(words)?, out)
-        }
-        "placeholder" => {
-            let at = place(&desk.tree, words)?;
-            attach(desk, at, placeholder(words)?, out)
-        }
-        "split" => {
-            let layout = words.layout()?;
-            let at = place(&desk.tree, words)?;
-            attach(desk, at, NewCon::Split { layout }, out)
-        }
+        "window" => add_window(desk, words, out),
+        "placeholder" => add_placeholder(desk, words, out),
+        "split" => add_split(desk, words, out),
         "output" => add_output(desk, words, out),
         "workspace" => add_workspace(desk, words, out),
         _ => Err(Fault::BadLine),
     }
 }
 
+fn add_window(desk: &mut Desk, words: &mut Words<'_>, out: &mut String) -> Result<(), Fault>
+    requires { Holds desk.old }
+    ensures { Holds desk.new }
+{
+    let at = place(&desk.tree, words)?;
+    attach(desk, at, window(words)?, out)
+}
+
+fn add_placeholder(desk: &mut Desk, words: &mut Words<'_>, out: &mut String) -> Result<(), Fault>
+    requires { Holds desk.old }
+    ensures { Holds desk.new }
+{
+    let at = place(&desk.tree, words)?;
+    attach(desk, at, placeholder(words)?, out)
+}
+
+fn add_split(desk: &mut Desk, words: &mut Words<'_>, out: &mut String) -> Result<(), Fault>
+    requires { Holds desk.old }
+    ensures { Holds desk.new }
+{
+    let layout = words.layout()?;
+    let at = place(&desk.tree, words)?;
+    attach(desk, at, NewCon::Split { layout }, out)
+}
+
 /// A place like `after 6`, `float 4 10,20 300x400` or `new`, where a new window goes.
 fn place(tree: &Tree, words: &mut Words<'_>) -> Result<Place, Fault> {
     match words.word() {
-        "after" => Ok(Place::After(words.con()?)),
-        "before" => Ok(Place::Before(words.con()?)),
-        "first" => Ok(Place::First(words.con()?)),
-        "last" => Ok(Place::Last(words.con()?)),
-        "float" => Ok(Place::Float(words.con()?, words.rect()?)),
+        "float" => float_place(words),
         "scratchpad" => Ok(Place::Scratchpad(words.rect()?)),
         "new" => Ok(tree.newcomer_place()),
+        word => tiled_place(word, words.con()?),
+    }
+}
+
+fn float_place(words: &mut Words<'_>) -> Result<Place, Fault> {
+    let con = words.con()?;
+    Ok(Place::Float(con, words.rect()?))
+}
+
+fn tiled_place(word: &str, con: ConId) -> Result<Place, Fault> {
+    match word {
+        "after" => Ok(Place::After(con)),
+        "before" => Ok(Place::Before(con)),
+        "first" => Ok(Place::First(con)),
+        "last" => Ok(Place::Last(con)),
         _ => Err(Fault::BadLine),
     }
 }
@@ -169,5 +195,6 @@ pub fn fill(desk: &mut Desk, words: &mut Words<'_>, out: &mut String) -> Result<
     let natural = words.size()?;
     let props = props_words(words)?;
     let answer = desk.tree.fill(con, &props, owner, natural);
+    drop(props);
     tell_done(out, answer)
 }

@@ -1,11 +1,11 @@
 //! What the lines of a case act on: a tree, and what was kept of it and of its arrangement.
 ghost use Rattle.std.specs.Prelude.{◌≡◌, true, IfOk};
-ghost use Rattle.wm_tree.specs.Sound.{FitPlans, IsOutputRect};
+ghost use Rattle.wm_tree.specs.Sound.{FitPlans, IsOutputRect, IsSound};
 ghost use Rattle.cases_tree.specs.Desk.{Holds};
 
-use crate::fault::Fault;
-use crate::words::Words;
+use case_data::{Fault, Words};
 use std::alloc::Global;
+use std::mem;
 use wm_arrange::Arrangement;
 use wm_base::{Border, Edges, NoMemory, OutputPlan, Rect, Text};
 use wm_tree::Tree;
@@ -38,19 +38,39 @@ pub fn start(desk: &mut Desk, words: &mut Words<'_>) -> Result<(), Fault>
     requires { Holds desk.old }
     ensures { Holds desk.new }
 {
+    let opened = opened(words)?;
+    drop(mem::replace(desk, opened));
+    Ok(())
+}
+
+fn opened(words: &mut Words<'_>) -> Result<Desk, Fault>
+    ensures { IfOk result Holds }
+{
     let border = words.border()?;
     let (inner, outer) = (words.number()?, words.number()?);
     let plans = plans(words)?;
+    Ok(Desk {
+        tree: tree_of(words.alloc, &plans, border, inner, outer)?,
+        sound: are_fit(&plans),
+        kept: None,
+        held: None,
+    })
+}
+
+/// The opening tree of one to eight outputs.
+fn tree_of(
+    alloc: Global,
+    plans: &[OutputPlan],
+    border: Border,
+    inner: u32,
+    outer: u32,
+) -> Result<Tree, Fault>
+    ensures { FitPlans plans.now → IfOk result (λ tree. IsSound tree) }
+{
     if plans.is_empty() || plans.len() > 8 {
         return Err(Fault::BadLine);
     }
-    let sound = are_fit(&plans);
-    let tree = Tree::start(words.alloc, &plans, border, inner, outer)?;
-    desk.sound = sound;
-    desk.tree = tree;
-    desk.kept = None;
-    desk.held = None;
-    Ok(())
+    Ok(Tree::start(alloc, plans, border, inner, outer)?)
 }
 
 /// The outputs that a line names, up to nine.
@@ -73,8 +93,9 @@ pub fn plan(words: &mut Words<'_>) -> Result<OutputPlan, Fault> {
         bottom: 0,
         left: 0,
     };
+    let name = words.text()?;
     Ok(OutputPlan {
-        name: words.text()?,
+        name,
         rect: words.rect()?,
         reserved,
     })

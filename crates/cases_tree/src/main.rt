@@ -4,7 +4,7 @@
 
 mod changes;
 mod desk;
-mod fault;
+mod kinds;
 mod looks;
 mod marks;
 mod news;
@@ -14,11 +14,11 @@ mod sets;
 mod showing;
 mod telling;
 mod turns;
-mod words;
 
-use crate::fault::Fault;
 use crate::play::play;
 use crate::turns::play_turns;
+use case_data::Fault;
+use std::alloc::Global;
 use std::{env, fs};
 
 fn main(rt: HostRuntime) -> Result<(), Fault> {
@@ -32,11 +32,15 @@ fn main(rt: HostRuntime) -> Result<(), Fault> {
 fn play_file(rt: &HostRuntime, name: &str) -> Result<(), Fault> {
     let text = fs::read_to_string(rt, name)?;
     let mut out = String::new(rt.alloc());
-    if name == "transactions.cases" {
-        play_turns(rt.alloc(), text.as_str(), &mut out)?;
-    } else {
-        play(rt.alloc(), text.as_str(), &mut out)?;
-    }
+    play_text(rt.alloc(), name, text.as_str(), &mut out)?;
     print!(rt; "{out}")?;
     Ok(())
+}
+
+fn play_text(alloc: Global, name: &str, text: &str, out: &mut String) -> Result<(), Fault> {
+    if name == "transactions.cases" {
+        play_turns(alloc, text, out)
+    } else {
+        play(alloc, text, out)
+    }
 }

@@ -2,9 +2,8 @@
 ghost use Rattle.cases_tree.specs.Desk.{Holds};
 
 use crate::desk::Desk;
-use crate::fault::Fault;
 use crate::telling::{tell_done, tell_id};
-use crate::words::Words;
+use case_data::{Fault, Words};
 use std::alloc::Global;
 use wm_base::{ConId, Text};
 use wm_tree::{Tree, TreeRefusal};

@@ -1,13 +1,14 @@
 //! Arrangements and areas as lines.
 ghost use Rattle.std.specs.Prelude.{◌≡◌, ◌<◌, ◌≤◌, true, All, length};
 ghost use Rattle.cases_tree.specs.Desk.{Holds};
+ghost use Rattle.wm_tree.specs.Sound.{IsSound};
 
 use crate::desk::Desk;
-use crate::fault::Fault;
 use crate::telling::push_rect;
-use crate::words::Words;
-use std::alloc::AllocError;
+use case_data::{Fault, Words};
+use std::alloc::{AllocError, Global};
 use wm_arrange::{Arrangement, Placed, PlacedPart, area_of, arrange, cut};
+use wm_base::{ConId, Size};
 
 /// Why an arrangement is not asked for: a change of the tree is not known to keep it sound.
 const UNKNOWN: &str = "not asked";
@@ -32,12 +33,18 @@ pub fn compare(desk: &Desk, words: &Words<'_>, out: &mut String) -> Result<(), F
     requires { Holds desk.now }
 {
     if desk.sound {
-        let arrangement = arrange(words.alloc, &desk.tree)?;
-        let same = is_held(desk, &arrangement);
+        let same = is_same(words.alloc, desk)?;
         Ok(writeln!(out, "same {same}")?)
     } else {
         Ok(writeln!(out, "{UNKNOWN}")?)
     }
+}
+
+fn is_same(alloc: Global, desk: &Desk) -> Result<bool, Fault>
+    requires { IsSound desk.now.tree }
+{
+    let arrangement = arrange(alloc, &desk.tree)?;
+    Ok(is_held(desk, &arrangement))
 }
 
 fn is_held(desk: &Desk, arrangement: &Arrangement) -> bool {
@@ -63,13 +70,16 @@ pub fn area(desk: &Desk, words: &mut Words<'_>, out: &mut String) -> Result<(), 
 /// `size 6`: the size of a window's content in the arrangement that was kept.
 pub fn size(desk: &Desk, words: &mut Words<'_>, out: &mut String) -> Result<(), Fault> {
     let con = words.con()?;
-    let size = match &desk.held {
-        Some(held) => held.size(con),
-        None => None,
-    };
-    match size {
+    match held_size(desk, con) {
         Some(size) => Ok(writeln!(out, "{}x{}", size.w, size.h)?),
         None => Ok(writeln!(out, "none")?),
+    }
+}
+
+fn held_size(desk: &Desk, con: ConId) -> Option<Size> {
+    match &desk.held {
+        Some(held) => held.size(con),
+        None => None,
     }
 }
 
@@ -82,15 +92,19 @@ pub fn push_parts(out: &mut String, arrangement: &Arrangement) -> Result<(), All
 }
 
 fn push_placed(out: &mut String, placed: &Placed) -> Result<(), AllocError> {
-    let con = placed.con.0;
-    write!(out, "{} {con} ", part_word(&placed.part))?;
+    write!(out, "{} {} ", part_word(&placed.part), placed.con.0)?;
     push_rect(out, placed.rect)?;
-    match &placed.part {
-        PlacedPart::Title { ink, text } => write!(out, " {:06x} \"{}\"", ink.0, text.as_str())?,
-        PlacedPart::Border { ink } => write!(out, " {:06x}", ink.0)?,
-        PlacedPart::Back | PlacedPart::Area | PlacedPart::Content => {}
-    }
+    push_look(out, &placed.part)?;
     out.push('\n')
+}
+
+/// The ink of a part and the text of a title.
+fn push_look(out: &mut String, part: &PlacedPart) -> Result<(), AllocError> {
+    match part {
+        PlacedPart::Title { ink, text } => write!(out, " {:06x} \"{}\"", ink.0, text.as_str()),
+        PlacedPart::Border { ink } => write!(out, " {:06x}", ink.0),
+        PlacedPart::Back | PlacedPart::Area | PlacedPart::Content => Ok(()),
+    }
 }
 
 fn part_word(part: &PlacedPart) -> &'static str {

@@ -2,8 +2,7 @@
 ghost use Rattle.cases_tree.specs.Desk.{Holds};
 
 use crate::desk::Desk;
-use crate::fault::Fault;
-use crate::words::Words;
+use case_data::{Fault, Words};
 use wm_base::Text;
 use wm_tree::ConState;
 
@@ -14,16 +13,36 @@ pub fn set(desk: &mut Desk, words: &mut Words<'_>) -> Result<(), Fault>
 {
     match words.word() {
         "share" => set_share(desk, words),
-        "current" => set_current(desk, words),
-        "shown" => set_shown(desk, words),
         "layout" => set_layout(desk, words),
         "state" => set_state(desk, words),
         "title" => set_title(desk, words),
         "format" => set_format(desk, words),
+        word => set_space(word, desk, words),
+    }
+}
+
+/// The same, of workspaces and outputs.
+fn set_space(word: &str, desk: &mut Desk, words: &mut Words<'_>) -> Result<(), Fault>
+    requires { Holds desk.old }
+    ensures { Holds desk.new }
+{
+    match word {
+        "shown" => set_shown(desk, words),
         "name" => set_name(desk, words),
         "gaps" => set_gaps(desk, words),
-        "defaults" => set_defaults(desk, words),
         "reserved" => set_reserved(desk, words),
+        _ => set_tree(word, desk, words),
+    }
+}
+
+/// The same, of the whole tree.
+fn set_tree(word: &str, desk: &mut Desk, words: &mut Words<'_>) -> Result<(), Fault>
+    requires { Holds desk.old }
+    ensures { Holds desk.new }
+{
+    match word {
+        "current" => set_current(desk, words),
+        "defaults" => set_defaults(desk, words),
         "previous" => set_previous(desk, words),
         _ => Err(Fault::BadLine),
     }
@@ -90,16 +109,22 @@ fn state(words: &mut Words<'_>) -> Result<ConState, Fault> {
         rect: None,
     };
     for _ in 0..4 {
-        match words.word() {
-            "" => return Ok(state),
-            "sticky" => state.sticky = true,
-            "fullscreen" => state.fullscreen = true,
-            "flagged" => state.flagged = true,
-            "rect" => state.rect = Some(words.rect()?),
-            _ => return Err(Fault::BadLine),
-        }
+        take_part(&mut state, words)?;
     }
     Ok(state)
+}
+
+/// Sets what the next word says, and nothing where none is left.
+fn take_part(state: &mut ConState, words: &mut Words<'_>) -> Result<(), Fault> {
+    match words.word() {
+        "" => {}
+        "sticky" => state.sticky = true,
+        "fullscreen" => state.fullscreen = true,
+        "flagged" => state.flagged = true,
+        "rect" => state.rect = Some(words.rect()?),
+        _ => return Err(Fault::BadLine),
+    }
+    Ok(())
 }
 
 fn set_title(desk: &mut Desk, words: &mut Words<'_>) -> Result<(), Fault>

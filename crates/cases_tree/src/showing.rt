@@ -1,11 +1,9 @@
 //! A whole tree as lines, a line for each node and for each list.
-use crate::telling::{layout_word, push_border, push_con, push_rect};
+use crate::kinds::push_kind;
+use crate::telling::{layout_word, push_border, push_rect, push_text};
 use std::alloc::{AllocError, Global};
-use wm_base::{ConId, Edges, Props, Text};
-use wm_tree::{
-    ConKind, ConPart, ConState, Cursor, NodeKind, OutputPart, Part, SpacePart, Swallow, SwallowKey,
-    Tree,
-};
+use wm_base::{Edges, Text};
+use wm_tree::{ConPart, ConState, Cursor, NodeKind, OutputPart, Part, SpacePart, Tree};
 
 /// A row of nodes that is still to be shown: how deep it stands, and the word that stands before each node.
 #[derive(Drop)]
@@ -49,11 +47,24 @@ fn push_rung<'a>(
     let Some(part) = rung.row.part() else {
         return Ok(());
     };
+    push_start(out, rung)?;
+    push_part(out, part)?;
+    push_below(rungs, rung, part)
+}
+
+fn push_start(out: &mut String, rung: &Rung<'_>) -> Result<(), AllocError> {
     for _ in 0..rung.depth {
         out.push_str("  ")?;
     }
-    out.push_str(rung.word)?;
-    push_part(out, part)?;
+    out.push_str(rung.word)
+}
+
+/// Leaves the rest of a row and what is below its first node to be shown.
+fn push_below<'a>(
+    rungs: &mut Vec<Rung<'a>>,
+    rung: &Rung<'a>,
+    part: &Part,
+) -> Result<(), AllocError> {
     let depth = rung.depth.saturating_add(1);
     rungs.push(Rung {
         row: rung.row.rest(),
@@ -82,28 +93,41 @@ fn floats_word(part: &Part) -> &'static str {
 
 fn push_part(out: &mut String, part: &Part) -> Result<(), AllocError> {
     write!(out, "{} ", part.id.0)?;
-    match &part.kind {
-        NodeKind::Root { current } => write!(out, "root, current {}", current.0)?,
-        NodeKind::Output(output) => push_output(out, output)?,
-        NodeKind::Space(space) => push_space(out, space)?,
-        NodeKind::Con(con) => push_container(out, con)?,
+    push_node(out, &part.kind)?;
+    push_marks(out, part.marks.items())?;
+    out.push('\n')
+}
+
+fn push_node(out: &mut String, kind: &NodeKind) -> Result<(), AllocError> {
+    match kind {
+        NodeKind::Root { current } => write!(out, "root, current {}", current.0),
+        NodeKind::Output(output) => push_output(out, output),
+        NodeKind::Space(space) => push_space(out, space),
+        NodeKind::Con(con) => push_container(out, con),
     }
-    for mark in part.marks.items() {
+}
+
+fn push_marks(out: &mut String, marks: &[Text]) -> Result<(), AllocError> {
+    for mark in marks {
         write!(out, ", mark \"{}\"", mark.as_str())?;
     }
-    out.push('\n')
+    Ok(())
 }
 
 fn push_output(out: &mut String, output: &OutputPart) -> Result<(), AllocError> {
     write!(out, "output \"{}\" ", output.name.as_str())?;
     push_rect(out, output.rect)?;
     write!(out, ", shows {}", output.shown.0)?;
+    push_reserved(out, output.reserved)
+}
+
+fn push_reserved(out: &mut String, edges: Edges) -> Result<(), AllocError> {
     let Edges {
         top,
         right,
         bottom,
         left,
-    } = output.reserved;
+    } = edges;
     if top == 0 && right == 0 && bottom == 0 && left == 0 {
         return Ok(());
     }
@@ -148,68 +172,6 @@ fn push_state(out: &mut String, state: ConState) -> Result<(), AllocError> {
     Ok(())
 }
 
-fn push_kind(out: &mut String, kind: &ConKind) -> Result<(), AllocError> {
-    match kind {
-        ConKind::Split { layout, last_split } => {
-            let (layout, last) = (layout_word(*layout), layout_word(*last_split));
-            write!(out, "split {layout} last {last}")
-        }
-        ConKind::Window {
-            props,
-            owner,
-            natural,
-        } => {
-            let (w, h) = (natural.w, natural.h);
-            write!(out, "window of {owner} {w}x{h}")?;
-            push_props(out, props)
-        }
-        ConKind::Placeholder { props, swallows } => {
-            out.push_str("placeholder")?;
-            push_props(out, props)?;
-            push_swallows(out, swallows.items())
-        }
-    }
-}
-
-/// The properties: one text where all are equal.
-fn push_props(out: &mut String, props: &Props) -> Result<(), AllocError> {
-    let title = props.title.as_str();
-    let (class, instance) = (props.class.as_str(), props.instance.as_str());
-    let (role, kind) = (props.role.as_str(), props.kind.as_str());
-    let machine = props.machine.as_str();
-    if class == title && instance == title && role == title && kind == title && machine == title {
-        return write!(out, " \"{title}\"");
-    }
-    write!(
-        out,
-        " class \"{class}\" instance \"{instance}\" role \"{role}\""
-    )?;
-    write!(
-        out,
-        " kind \"{kind}\" machine \"{machine}\" title \"{title}\""
-    )
-}
-
-fn push_swallows(out: &mut String, swallows: &[Swallow]) -> Result<(), AllocError> {
-    for swallow in swallows {
-        out.push_str(" swallows")?;
-        for (key, text) in swallow.keys.items() {
-            write!(out, " {} \"{}\"", key_word(*key), text.as_str())?;
-        }
-    }
-    Ok(())
-}
-
-fn key_word(key: SwallowKey) -> &'static str {
-    match key {
-        SwallowKey::Class => "class",
-        SwallowKey::Instance => "instance",
-        SwallowKey::Role => "role",
-        SwallowKey::Title => "title",
-        SwallowKey::Machine => "machine",
-    }
-}
-
 fn push_recent(out: &mut String, tree: &Tree) -> Result<(), AllocError> {
     out.push_str("recent")?;
     for number in 0..u32::MAX {
@@ -235,10 +197,11 @@ fn push_urgent(out: &mut String, tree: &Tree) -> Result<(), AllocError> {
 /// The focused node, the name of the previous workspace, the next id, and what new nodes get.
 fn push_rest(out: &mut String, tree: &Tree) -> Result<(), AllocError> {
     write!(out, "focused {}, previous ", tree.focused().0)?;
-    match tree.previous() {
-        Some(name) => write!(out, "\"{}\"", name.as_str())?,
-        None => out.push_str("none")?,
-    }
+    push_text(out, tree.previous())?;
+    push_defaults(out, tree)
+}
+
+fn push_defaults(out: &mut String, tree: &Tree) -> Result<(), AllocError> {
     let (border, inner, outer) = tree.defaults();
     write!(out, ", next {}, defaults ", tree.next_id())?;
     push_border(out, border)?;

@@ -1,8 +1,13 @@
 //! The lines that say what was answered.
-use crate::fault::Fault;
+use case_data::{Fault, Words};
 use std::alloc::AllocError;
-use wm_base::{Border, ConId, Layout, Rect};
+use wm_base::{Border, ConId, Layout, Rect, Text};
 use wm_tree::TreeRefusal;
+
+/// The line that begins a case.
+pub fn tell_case(words: &mut Words<'_>, out: &mut String) -> Result<(), Fault> {
+    Ok(writeln!(out, "case {}", words.rest())?)
+}
 
 /// The line of a call that gives an id.
 pub fn tell_id(out: &mut String, answer: Result<ConId, TreeRefusal>) -> Result<(), Fault> {
@@ -36,11 +41,21 @@ pub fn push_con(out: &mut String, con: Option<ConId>) -> Result<(), AllocError> 
     }
 }
 
+/// A text between quotation marks, or `none`.
+pub fn push_text(out: &mut String, text: Option<&Text>) -> Result<(), AllocError> {
+    match text {
+        Some(text) => write!(out, "\"{}\"", text.as_str()),
+        None => out.push_str("none"),
+    }
+}
+
+/// A rectangle like `10,20 30x40`.
 pub fn push_rect(out: &mut String, rect: Rect) -> Result<(), AllocError> {
     let Rect { x, y, w, h } = rect;
     write!(out, "{x},{y} {w}x{h}")
 }
 
+/// A border like `pixel 2`.
 pub fn push_border(out: &mut String, border: Border) -> Result<(), AllocError> {
     match border {
         Border::Normal(width) => write!(out, "normal {width}"),
@@ -49,6 +64,7 @@ pub fn push_border(out: &mut String, border: Border) -> Result<(), AllocError> {
     }
 }
 
+/// The word of a layout.
 pub fn layout_word(layout: Layout) -> &'static str {
     match layout {
         Layout::SplitH => "splith",

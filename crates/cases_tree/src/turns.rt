@@ -2,10 +2,11 @@
 ghost use Rattle.std.specs.Prelude.{◌≡◌, ◌≤◌, ◌<◌, ◌+◌, ◌^◌, IfOk};
 ghost use Rattle.wm_txn.specs.Machine.{last_prefix};
 
-use crate::fault::Fault;
 use crate::placed::push_parts;
-use crate::words::Words;
+use crate::telling::tell_case;
+use case_data::{Fault, Words};
 use std::alloc::{AllocError, Global};
+use std::mem;
 use wm_arrange::{Arrangement, Placed, PlacedPart};
 use wm_base::{Buffer, ConId, List, NoMemory};
 use wm_txn::{AckRefusal, BufferRefusal, Txn};
@@ -33,12 +34,9 @@ struct News {
 /// Does what the lines of a text say, and appends what comes out.
 pub fn play_turns(alloc: Global, text: &str, out: &mut String) -> Result<(), Fault> {
     let mut turns = Turns::start(alloc)?;
-    for line in text.lines() {
-        if !line.is_empty() && !line.starts_with('#') {
-            turns.take_line(alloc, line, out)?;
-        }
-    }
-    Ok(())
+    let answer = turns.take_lines(alloc, text, out);
+    drop(turns);
+    answer
 }
 
 impl Turns {
@@ -51,6 +49,15 @@ impl Turns {
         Ok(Turns { txn, place: 0 })
     }
 
+    fn take_lines(&mut self, alloc: Global, text: &str, out: &mut String) -> Result<(), Fault> {
+        for line in text.lines() {
+            if !line.is_empty() && !line.starts_with('#') {
+                self.take_line(alloc, line, out)?;
+            }
+        }
+        Ok(())
+    }
+
     fn take_line(&mut self, alloc: Global, line: &str, out: &mut String) -> Result<(), Fault> {
         match self.run(&mut Words::of(alloc, line), out) {
             Err(Fault::BadLine) => Ok(writeln!(out, "bad line: {line}")?),
@@ -60,18 +67,29 @@ impl Turns {
 
     fn run(&mut self, words: &mut Words<'_>, out: &mut String) -> Result<(), Fault> {
         match words.word() {
-            "case" => {
-                *self = Turns::start(words.alloc)?;
-                Ok(writeln!(out, "case {}", words.rest())?)
-            }
+            "case" => self.begin(words, out),
             "admit" => self.admit(words),
+            "deadline" => self.deadline(words),
+            word => self.answer(word, words, out),
+        }
+    }
+
+    /// Does what a call says that answers.
+    fn answer(&mut self, word: &str, words: &mut Words<'_>, out: &mut String) -> Result<(), Fault> {
+        match word {
             "ack" => self.ack(words, out),
             "buffer" => self.buffer(words, out),
-            "deadline" => self.deadline(words),
             "tell" => self.tell(words, out),
             "current" => Ok(push_parts(out, self.txn.current())?),
             _ => Err(Fault::BadLine),
         }
+    }
+
+    /// Begins a case.
+    fn begin(&mut self, words: &mut Words<'_>, out: &mut String) -> Result<(), Fault> {
+        let turns = Turns::start(words.alloc)?;
+        drop(mem::replace(self, turns));
+        tell_case(words, out)
     }
 
     /// The number of earlier entries. Counts one more.
@@ -89,36 +107,27 @@ impl Turns {
 
     fn admit(&mut self, words: &mut Words<'_>) -> Result<(), Fault> {
         let News { parts, fresh, gone } = read_news(words)?;
+        let place = self.count()?;
         let newest = Arrangement {
             parts: List::of(parts),
         };
-        let place = self.count()?;
-        self.txn.admit(place, newest, fresh, &gone)?;
-        Ok(())
+        Ok(self.txn.admit(place, newest, fresh, &gone)?)
     }
 
     fn ack(&mut self, words: &mut Words<'_>, out: &mut String) -> Result<(), Fault> {
         let con = words.con()?;
         let serial = words.serial()?;
         let _place = self.count()?;
-        match self.txn.ack(con, serial) {
-            Ok(()) => Ok(writeln!(out, "done")?),
-            Err(AckRefusal::NoView) => Ok(writeln!(out, "no view")?),
-            Err(AckRefusal::BadSerial { asked, last }) => {
-                Ok(writeln!(out, "bad serial {asked} {last}")?)
-            }
-        }
+        let answer = self.txn.ack(con, serial);
+        Ok(push_acked(out, answer)?)
     }
 
     fn buffer(&mut self, words: &mut Words<'_>, out: &mut String) -> Result<(), Fault> {
         let con = words.con()?;
         let buffer = buffer(words)?;
         let place = self.count()?;
-        match self.txn.buffer(place, con, buffer) {
-            Ok(()) => Ok(writeln!(out, "done")?),
-            Err(BufferRefusal::NoView) => Ok(writeln!(out, "no view")?),
-            Err(BufferRefusal::Empty) => Ok(writeln!(out, "empty")?),
-        }
+        let answer = self.txn.buffer(place, con, buffer);
+        Ok(out.push_str(taken_line(answer))?)
     }
 
     fn deadline(&mut self, words: &mut Words<'_>) -> Result<(), Fault> {
@@ -138,6 +147,23 @@ impl Turns {
             push_window(out, &self.txn, words.con()?)?;
         }
         Ok(())
+    }
+}
+
+fn push_acked(out: &mut String, answer: Result<(), AckRefusal>) -> Result<(), AllocError> {
+    match answer {
+        Ok(()) => out.push_str("done\n"),
+        Err(AckRefusal::NoView) => out.push_str("no view\n"),
+        Err(AckRefusal::BadSerial { asked, last }) => writeln!(out, "bad serial {asked} {last}"),
+    }
+}
+
+/// The line that says whether a buffer was taken.
+fn taken_line(answer: Result<(), BufferRefusal>) -> &'static str {
+    match answer {
+        Ok(()) => "done\n",
+        Err(BufferRefusal::NoView) => "no view\n",
+        Err(BufferRefusal::Empty) => "empty\n",
     }
 }
 
@@ -200,20 +226,43 @@ fn read_news(words: &mut Words<'_>) -> Result<News, Fault> {
 
 fn take_news(news: &mut News, words: &mut Words<'_>) -> Result<(), Fault> {
     match words.word() {
-        "map" => news.fresh = Some((words.con()?, buffer(words)?)),
-        "gone" => news.gone.push(words.con()?)?,
-        "back" => news.parts.push(part(PlacedPart::Back, words)?)?,
-        "area" => news.parts.push(part(PlacedPart::Area, words)?)?,
-        "content" => news.parts.push(part(PlacedPart::Content, words)?)?,
-        _ => return Err(Fault::BadLine),
+        "map" => {
+            news.fresh = Some(fresh(words)?);
+            Ok(())
+        }
+        "gone" => take_gone(&mut news.gone, words),
+        word => take_part(&mut news.parts, word, words),
     }
-    Ok(())
 }
 
-fn part(part: PlacedPart, words: &mut Words<'_>) -> Result<Placed, Fault> {
-    Ok(Placed {
-        con: words.con()?,
-        part,
-        rect: words.rect()?,
-    })
+fn take_gone(gone: &mut Vec<ConId>, words: &mut Words<'_>) -> Result<(), Fault> {
+    let con = words.con()?;
+    Ok(gone.push(con)?)
+}
+
+fn take_part(parts: &mut Vec<Placed>, word: &str, words: &mut Words<'_>) -> Result<(), Fault> {
+    let part = part(word, words)?;
+    Ok(parts.push(part)?)
+}
+
+fn fresh(words: &mut Words<'_>) -> Result<(ConId, Buffer), Fault> {
+    let con = words.con()?;
+    Ok((con, buffer(words)?))
+}
+
+/// A part of an arrangement like `content 4 0,0 1000x800`, behind its word.
+fn part(word: &str, words: &mut Words<'_>) -> Result<Placed, Fault> {
+    let con = words.con()?;
+    let rect = words.rect()?;
+    let part = kind(word)?;
+    Ok(Placed { con, part, rect })
+}
+
+fn kind(word: &str) -> Result<PlacedPart, Fault> {
+    match word {
+        "back" => Ok(PlacedPart::Back),
+        "area" => Ok(PlacedPart::Area),
+        "content" => Ok(PlacedPart::Content),
+        _ => Err(Fault::BadLine),
+    }
 }

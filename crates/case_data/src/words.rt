@@ -11,17 +11,23 @@ pub struct Words<'a> {
 }
 
 impl<'a> Words<'a> {
+    /// The words of a line.
     pub fn of(alloc: Global, line: &'a str) -> Words<'a> {
         Words { alloc, rest: line }
     }
 
     /// The next word, empty where none is left.
     pub fn word(&mut self) -> &'a str {
+        self.until(" ")
+    }
+
+    /// What stands before the next mark of this kind, or all that is left where there is none.
+    pub fn until(&mut self, mark: &str) -> &'a str {
         let rest = self.rest;
-        match rest.split_once(' ') {
-            Some((word, after)) => {
+        match rest.split_once(mark) {
+            Some((part, after)) => {
                 self.rest = after;
-                word
+                part
             }
             None => {
                 self.rest = "";
@@ -37,14 +43,17 @@ impl<'a> Words<'a> {
         rest
     }
 
+    /// Whether nothing is left of the line.
     pub fn is_done(&self) -> bool {
         self.rest.is_empty()
     }
 
+    /// A number of one word.
     pub fn number(&mut self) -> Result<u32, Fault> {
-        number(self.word())
+        number_of(self.word())
     }
 
+    /// The id of a container.
     pub fn con(&mut self) -> Result<ConId, Fault> {
         Ok(ConId(self.number()?))
     }
@@ -70,8 +79,8 @@ impl<'a> Words<'a> {
             return Err(Fault::BadLine);
         };
         Ok(Size {
-            w: number(w)?,
-            h: number(h)?,
+            w: number_of(w)?,
+            h: number_of(h)?,
         })
     }
 
@@ -95,6 +104,7 @@ impl<'a> Words<'a> {
         })
     }
 
+    /// A layout: `splith`, `splitv`, `tabbed` or `stacked`.
     pub fn layout(&mut self) -> Result<Layout, Fault> {
         match self.word() {
             "splith" => Ok(Layout::SplitH),
@@ -124,7 +134,8 @@ impl<'a> Words<'a> {
     }
 }
 
-fn number(word: &str) -> Result<u32, Fault> {
+/// The number that a word is.
+pub fn number_of(word: &str) -> Result<u32, Fault> {
     match word.parse::<u32>() {
         Ok(number) => Ok(number),
         Err(_) => Err(Fault::BadLine),

@@ -4,18 +4,18 @@ use std::io;
 use wm_base::{NoMemory, TextRefusal};
 
 /// Why a line is not done.
-#[derive(Clone, Copy, Debug, PartialEq, Eq)]
+#[derive(Clone, Copy, Debug)]
 pub enum Fault {
     /// The line says nothing that is known here.
     BadLine,
     NoMemory,
     /// A file cannot be read, or what comes out cannot be written.
-    Io,
+    Files,
 }
 
 impl From<io::Error> for Fault {
     fn from(_error: io::Error) -> Fault {
-        Fault::Io
+        Fault::Files
     }
 }
 
