@@ -1,7 +1,6 @@
 //! Cases of frames: bytes in pieces, and the messages, the rest and the faults that come of them.
-use crate::fault::{Fault, tell_bad_line};
-use crate::words::{number, push_bytes};
-use case_data::{bytes_of, push_shown};
+use crate::fields::push_bytes;
+use case_data::{Fault, Words, bytes_of, number_of, push_shown};
 use std::alloc::Global;
 use wm_base::List;
 use wm_frames::{Decoder, Message, encode};
@@ -17,13 +16,17 @@ fn sent<T: Send>(value: T) -> T {
 
 /// Feeds a decoder one piece, and writes what is there then.
 fn feed(decoder: &mut Decoder, piece: &[u8], out: &mut String) -> Result<(), Fault> {
-    match decoder.feed(piece) {
-        Ok(()) => write!(out, "  {} bytes", piece.len())?,
-        Err(fault) => write!(out, "  {} bytes, {fault}", piece.len())?,
-    }
+    push_fed(decoder, piece, out)?;
     push_messages(decoder, out)?;
-    write!(out, ", rest {}\n", decoder.rest())?;
-    Ok(())
+    Ok(write!(out, ", rest {}\n", decoder.rest())?)
+}
+
+fn push_fed(decoder: &mut Decoder, piece: &[u8], out: &mut String) -> Result<(), Fault> {
+    write!(out, "  {} bytes", piece.len())?;
+    match decoder.feed(piece) {
+        Ok(()) => Ok(()),
+        Err(fault) => Ok(write!(out, ", {fault}")?),
+    }
 }
 
 /// Takes all messages that are queued, and writes them.
@@ -44,52 +47,85 @@ fn push_message(message: &Message, out: &mut String) -> Result<(), Fault> {
 }
 
 /// Pieces with ` | ` between them, fed one after another.
-pub fn tell_feeds(alloc: Global, data: &str, out: &mut String) -> Result<(), Fault> {
-    let mut decoder = decoder(alloc);
-    for piece in data.split(" | ") {
-        let bytes = bytes_of(alloc, piece)?;
-        feed(&mut decoder, &bytes, out)?;
+pub fn tell_feeds(words: &mut Words<'_>, out: &mut String) -> Result<(), Fault> {
+    let mut decoder = decoder(words.alloc);
+    let answer = feed_all(words, &mut decoder, out);
+    drop(decoder);
+    answer
+}
+
+fn feed_all(words: &mut Words<'_>, decoder: &mut Decoder, out: &mut String) -> Result<(), Fault> {
+    for piece in words.rest().split(" | ") {
+        feed_data(words.alloc, decoder, piece, out)?;
     }
     Ok(())
 }
 
+fn feed_data(
+    alloc: Global,
+    decoder: &mut Decoder,
+    piece: &str,
+    out: &mut String,
+) -> Result<(), Fault> {
+    let bytes = bytes_of(alloc, piece)?;
+    feed(decoder, &bytes, out)
+}
+
 /// Bytes that are fed one at a time.
-pub fn tell_single(alloc: Global, data: &str, out: &mut String) -> Result<(), Fault> {
-    let bytes = bytes_of(alloc, data)?;
-    let mut decoder = decoder(alloc);
-    for byte in bytes.iter() {
-        feed(&mut decoder, &[*byte], out)?;
+pub fn tell_single(words: &mut Words<'_>, out: &mut String) -> Result<(), Fault> {
+    let bytes = bytes_of(words.alloc, words.rest())?;
+    feed_each(&mut decoder(words.alloc), &bytes, out)
+}
+
+fn feed_each(decoder: &mut Decoder, bytes: &[u8], out: &mut String) -> Result<(), Fault> {
+    for byte in bytes {
+        feed(decoder, &[*byte], out)?;
     }
     Ok(())
 }
 
 /// Bytes that are cut in two, at each place in turn.
-pub fn tell_cuts(alloc: Global, data: &str, out: &mut String) -> Result<(), Fault> {
-    let bytes = bytes_of(alloc, data)?;
+pub fn tell_cuts(words: &mut Words<'_>, out: &mut String) -> Result<(), Fault> {
+    let bytes = bytes_of(words.alloc, words.rest())?;
     for at in 0..=bytes.len() {
         let (front, after) = bytes.split_at(at);
-        let mut decoder = decoder(alloc);
-        feed(&mut decoder, front, out)?;
-        feed(&mut decoder, after, out)?;
+        feed_both(&mut decoder(words.alloc), front, after, out)?;
     }
     Ok(())
 }
 
+fn feed_both(
+    decoder: &mut Decoder,
+    front: &[u8],
+    after: &[u8],
+    out: &mut String,
+) -> Result<(), Fault> {
+    feed(decoder, front, out)?;
+    feed(decoder, after, out)
+}
+
 /// Messages `KIND PAYLOAD` with ` | ` between them, their frames one behind another, and what those read as.
-pub fn tell_encoded(alloc: Global, data: &str, out: &mut String) -> Result<(), Fault> {
-    let mut bytes = Vec::new(alloc);
-    for part in data.split(" | ") {
-        let (kind, payload) = part.split_once(" ").unwrap_or((part, ""));
-        let payload = bytes_of(alloc, payload)?;
-        if payload.len() >= 1 << 32 {
-            return tell_bad_line(out);
-        }
-        let message = Message {
-            kind: number(kind),
-            payload: List::of(payload),
-        };
-        encode(&message, &mut bytes)?;
-    }
+pub fn tell_encoded(words: &mut Words<'_>, out: &mut String) -> Result<(), Fault> {
+    let bytes = frames_of(words)?;
     push_bytes(out, &bytes)?;
-    feed(&mut decoder(alloc), &bytes, out)
+    feed(&mut decoder(words.alloc), &bytes, out)
+}
+
+fn frames_of(words: &mut Words<'_>) -> Result<Vec<u8>, Fault> {
+    let mut bytes = Vec::new(words.alloc);
+    for part in words.rest().split(" | ") {
+        push_frame(&mut Words::of(words.alloc, part), &mut bytes)?;
+    }
+    Ok(bytes)
+}
+
+/// Appends the frame of a message.
+fn push_frame(words: &mut Words<'_>, bytes: &mut Vec<u8>) -> Result<(), Fault> {
+    let kind = number_of(words.word())?;
+    let payload = bytes_of(words.alloc, words.rest())?;
+    if payload.len() >= 1 << 32 {
+        return Err(Fault::BadLine);
+    }
+    let payload = List::of(payload);
+    Ok(encode(&Message { kind, payload }, bytes)?)
 }

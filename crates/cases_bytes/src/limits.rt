@@ -1,5 +1,5 @@
 //! Cases of words and texts: each limit with its word, and each error with its text.
-use crate::fault::Fault;
+use case_data::Fault;
 use wm_base::{ErrorText, Limit};
 
 /// Each error that a reply can give.

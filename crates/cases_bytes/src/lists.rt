@@ -1,6 +1,6 @@
 //! Cases of texts at their limit, and of lists, which may hold themselves.
-use crate::fault::{Fault, tell_bad_line};
-use crate::words::{numbers, push_bytes, string_of};
+use crate::fields::push_bytes;
+use case_data::{Fault, Words, number_of, string_of};
 use std::alloc::Global;
 use wm_base::{ConId, List, Str, Text, TextRefusal};
 
@@ -12,15 +12,13 @@ struct Nest {
 }
 
 /// A text and its clone, or why it is refused.
-pub fn tell_text(alloc: Global, data: &str, out: &mut String) -> Result<(), Fault> {
-    match string_of(alloc, data)? {
-        Some(string) => tell_made(alloc, string.as_str(), out),
-        None => tell_bad_line(out),
-    }
+pub fn tell_text(words: &mut Words<'_>, out: &mut String) -> Result<(), Fault> {
+    let string = string_of(words.alloc, words.rest())?;
+    tell_made(Text::new(words.alloc, string.as_str()), out)
 }
 
-fn tell_made(alloc: Global, string: &str, out: &mut String) -> Result<(), Fault> {
-    match Text::new(alloc, string) {
+fn tell_made(made: Result<Text, TextRefusal>, out: &mut String) -> Result<(), Fault> {
+    match made {
         Ok(text) => push_with_clone(&text, out),
         Err(TextRefusal::TooLong { len }) => Ok(write!(out, "  too long: {len} bytes\n")?),
         Err(TextRefusal::NoMemory) => Err(Fault::NoMemory),
@@ -28,22 +26,30 @@ fn tell_made(alloc: Global, string: &str, out: &mut String) -> Result<(), Fault>
 }
 
 fn push_with_clone(text: &Text, out: &mut String) -> Result<(), Fault> {
-    let copy = text.clone()?;
     write!(out, "  {} bytes\n", text.as_str().len())?;
     push_bytes(out, text.as_str().as_bytes())?;
+    let copy = text.clone()?;
     push_bytes(out, copy.as_str().as_bytes())
 }
 
 /// A list of strings with ` | ` between them, seen in the list and taken out of it.
-pub fn tell_list(alloc: Global, data: &str, out: &mut String) -> Result<(), Fault> {
-    let mut strings = Vec::new(alloc);
-    for part in data.split(" | ") {
-        let string = String::from_str(alloc, part)?;
-        strings.push(Str::of(string))?;
-    }
-    let list = List::of(strings);
+pub fn tell_list(words: &mut Words<'_>, out: &mut String) -> Result<(), Fault> {
+    let list = List::of(strings_of(words)?);
     push_strings(list.items(), out)?;
     push_strings(&list.into_vec(), out)
+}
+
+fn strings_of(words: &mut Words<'_>) -> Result<Vec<Str>, Fault> {
+    let mut strings = Vec::new(words.alloc);
+    for part in words.rest().split(" | ") {
+        push_string(&mut strings, words.alloc, part)?;
+    }
+    Ok(strings)
+}
+
+fn push_string(strings: &mut Vec<Str>, alloc: Global, part: &str) -> Result<(), Fault> {
+    let string = String::from_str(alloc, part)?;
+    Ok(strings.push(Str::of(string))?)
 }
 
 fn push_strings(strings: &[Str], out: &mut String) -> Result<(), Fault> {
@@ -55,34 +61,33 @@ fn push_strings(strings: &[Str], out: &mut String) -> Result<(), Fault> {
 }
 
 /// A container of the first number that holds containers of the others.
-pub fn tell_nested(alloc: Global, data: &str, out: &mut String) -> Result<(), Fault> {
-    let ids = numbers(alloc, data)?;
-    let [first, others @ ..] = ids.as_slice() else {
-        return tell_bad_line(out);
-    };
-    let root = holding(alloc, *first, others)?;
-    write!(out, "  {root:?}\n")?;
-    Ok(())
+pub fn tell_nested(words: &mut Words<'_>, out: &mut String) -> Result<(), Fault> {
+    let root = nest_of(words)?;
+    Ok(write!(out, "  {root:?}\n")?)
 }
 
-fn holding(alloc: Global, id: u64, others: &[u64]) -> Result<Nest, Fault> {
-    let mut inside = Vec::new(alloc);
-    for other in others {
-        inside.push(empty_nest(alloc, *other))?;
+fn nest_of(words: &mut Words<'_>) -> Result<Nest, Fault> {
+    let id = words.con()?;
+    let inside = List::of(nests(words)?);
+    Ok(Nest { id, inside })
+}
+
+fn nests(words: &mut Words<'_>) -> Result<Vec<Nest>, Fault> {
+    let mut nests = Vec::new(words.alloc);
+    for word in words.rest().split_whitespace() {
+        push_nest(&mut nests, words.alloc, word)?;
     }
-    Ok(Nest {
-        id: con(id),
-        inside: List::of(inside),
-    })
+    Ok(nests)
 }
 
-fn empty_nest(alloc: Global, id: u64) -> Nest {
+fn push_nest(nests: &mut Vec<Nest>, alloc: Global, word: &str) -> Result<(), Fault> {
+    let id = ConId(number_of(word)?);
+    Ok(nests.push(empty_nest(alloc, id))?)
+}
+
+fn empty_nest(alloc: Global, id: ConId) -> Nest {
     Nest {
-        id: con(id),
+        id,
         inside: List::of(Vec::new(alloc)),
     }
-}
-
-fn con(id: u64) -> ConId {
-    ConId(u32::try_from(id).unwrap_or(0))
 }

@@ -2,7 +2,7 @@
 //! cases.
 #![tactic(auto)]
 
-mod fault;
+mod fields;
 mod frames;
 mod limits;
 mod lists;
@@ -14,19 +14,21 @@ mod rects;
 mod replies;
 mod streams;
 mod whole;
-mod words;
 
-use fault::{Fault, tell_bad_line};
-use std::alloc::Global;
+use case_data::{Fault, Words};
 use std::{env, fs};
 
 fn main(rt: HostRuntime) -> Result<(), Fault> {
-    let args = env::args(&rt)?;
-    for name in args.skip(1) {
-        let text = fs::read_to_string(&rt, name.as_str())?;
-        tell_lines(&rt, text.as_str())?;
+    for name in env::args(&rt)?.skip(1) {
+        tell_file(&rt, name.as_str())?;
     }
     Ok(())
+}
+
+/// Tells the cases of a file.
+fn tell_file(rt: &HostRuntime, name: &str) -> Result<(), Fault> {
+    let text = fs::read_to_string(rt, name)?;
+    tell_lines(rt, text.as_str())
 }
 
 /// Tells each line of a file, but for empty ones and those that begin with `#`.
@@ -42,48 +44,75 @@ fn tell_lines(rt: &HostRuntime, text: &str) -> Result<(), Fault> {
 /// Prints a line and what came of it.
 fn tell_line(rt: &HostRuntime, line: &str) -> Result<(), Fault> {
     let mut out = String::new(rt.alloc());
-    tell(rt.alloc(), line, &mut out)?;
-    println!(rt; "{line}")?;
-    print!(rt; "{out}")?;
+    tell_case(&mut Words::of(rt.alloc(), line), &mut out)?;
+    print!(rt; "{line}\n{out}")?;
     Ok(())
 }
 
-/// Writes what comes of the case of a line. Its first word says what is called.
-fn tell(alloc: Global, line: &str, out: &mut String) -> Result<(), Fault> {
-    let (word, rest) = line.split_once(" ").unwrap_or((line, ""));
-    match word {
-        "case" => Ok(()),
-        "feeds" => frames::tell_feeds(alloc, rest, out),
-        "single" => frames::tell_single(alloc, rest, out),
-        "cuts" => frames::tell_cuts(alloc, rest, out),
-        "encodes" => frames::tell_encoded(alloc, rest, out),
-        "replies" => replies::tell_replies(alloc, rest, out),
-        "success" => replies::tell_success(alloc, rest, out),
-        "version" => replies::tell_version(alloc, out),
-        "texts" => replies::tell_texts(alloc, rest, out),
-        "errors" => limits::tell_errors(out),
-        "limits" => limits::tell_limits(out),
-        "text" => lists::tell_text(alloc, rest, out),
-        "list" => lists::tell_list(alloc, rest, out),
-        "nested" => lists::tell_nested(alloc, rest, out),
-        _ => tell_other(alloc, word, rest, out),
+/// Writes what comes of the case of a line, or that the line is none.
+fn tell_case(words: &mut Words<'_>, out: &mut String) -> Result<(), Fault> {
+    match tell(words, out) {
+        Err(Fault::BadLine) => Ok(out.push_str("  bad line\n")?),
+        answer => answer,
     }
 }
 
-/// The same, of rectangles, ports, pictures and maps.
-fn tell_other(alloc: Global, word: &str, rest: &str, out: &mut String) -> Result<(), Fault> {
+/// Writes what comes of the case of a line. Its first word says what is called.
+fn tell(words: &mut Words<'_>, out: &mut String) -> Result<(), Fault> {
+    match words.word() {
+        "case" => Ok(()),
+        "feeds" => frames::tell_feeds(words, out),
+        "single" => frames::tell_single(words, out),
+        "cuts" => frames::tell_cuts(words, out),
+        "encodes" => frames::tell_encoded(words, out),
+        word => tell_picture(word, words, out),
+    }
+}
+
+/// The same, of pictures, maps and rectangles.
+fn tell_picture(word: &str, words: &mut Words<'_>, out: &mut String) -> Result<(), Fault> {
     match word {
-        "inset" => rects::tell_inset(alloc, rest, out),
-        "overlap" => rects::tell_overlap(alloc, rest, out),
-        "source" => memory::tell_source(alloc, rest, out),
-        "sink" => memory::tell_sink(alloc, rest, out),
-        "limit" => whole::tell_limit(alloc, rest, out),
-        "whole" => whole::tell_whole(alloc, rest, out),
-        "reader" => streams::tell_reader(alloc, rest, out),
-        "writer" => streams::tell_writer(alloc, rest, out),
-        "frame" => pictures::tell_frame(alloc, rest, out),
-        "canvas" => pictures::tell_canvas(alloc, rest, out),
-        "map" => maps::tell_map(alloc, rest, out),
-        _ => tell_bad_line(out),
+        "frame" => pictures::tell_frame(words, out),
+        "canvas" => pictures::tell_canvas(words, out),
+        "map" => maps::tell_map(words, out),
+        "inset" => rects::tell_inset(words, out),
+        "overlap" => rects::tell_overlap(words, out),
+        _ => tell_text(word, words, out),
+    }
+}
+
+/// The same, of texts, lists and the words of limits and errors.
+fn tell_text(word: &str, words: &mut Words<'_>, out: &mut String) -> Result<(), Fault> {
+    match word {
+        "errors" => limits::tell_errors(out),
+        "limits" => limits::tell_limits(out),
+        "text" => lists::tell_text(words, out),
+        "list" => lists::tell_list(words, out),
+        "nested" => lists::tell_nested(words, out),
+        _ => tell_reply(word, words, out),
+    }
+}
+
+/// The same, of replies.
+fn tell_reply(word: &str, words: &mut Words<'_>, out: &mut String) -> Result<(), Fault> {
+    match word {
+        "replies" => replies::tell_replies(words, out),
+        "success" => replies::tell_success(words, out),
+        "version" => replies::tell_version(words, out),
+        "texts" => replies::tell_texts(words, out),
+        _ => tell_port(word, words, out),
+    }
+}
+
+/// The same, of sources and sinks.
+fn tell_port(word: &str, words: &mut Words<'_>, out: &mut String) -> Result<(), Fault> {
+    match word {
+        "source" => memory::tell_source(words, out),
+        "sink" => memory::tell_sink(words, out),
+        "limit" => whole::tell_limit(words, out),
+        "whole" => whole::tell_whole(words, out),
+        "reader" => streams::tell_reader(words, out),
+        "writer" => streams::tell_writer(words, out),
+        _ => Err(Fault::BadLine),
     }
 }

@@ -1,46 +1,55 @@
 //! Cases of maps by id: operations one after another.
-use crate::fault::{Fault, tell_bad_line};
-use crate::words::number;
-use std::alloc::Global;
+use case_data::{Fault, Words};
 use wm_ids::IdMap;
 
 /// Operations with `, ` between them on a map that is empty at first.
-pub fn tell_map(alloc: Global, data: &str, out: &mut String) -> Result<(), Fault> {
-    let mut map = IdMap::new(alloc);
-    for part in data.split(", ") {
-        operate(&mut map, part, out)?;
+pub fn tell_map(words: &mut Words<'_>, out: &mut String) -> Result<(), Fault> {
+    let mut map = IdMap::new(words.alloc);
+    let answer = operate_all(&mut map, words, out);
+    drop(map);
+    answer
+}
+
+fn operate_all(map: &mut IdMap<u32>, words: &mut Words<'_>, out: &mut String) -> Result<(), Fault> {
+    for part in words.rest().split(", ") {
+        operate(map, &mut Words::of(words.alloc, part), out)?;
     }
     Ok(())
 }
 
 /// One operation: `insert ID VALUE`, `set ID VALUE`, `get ID`, `remove ID`, or `churn N`.
-fn operate(map: &mut IdMap<u32>, part: &str, out: &mut String) -> Result<(), Fault> {
-    let mut words = part.splitn(3, " ");
-    let word = words.next().unwrap_or("");
-    let id = number(words.next().unwrap_or(""));
-    let value = number(words.next().unwrap_or(""));
+fn operate(map: &mut IdMap<u32>, words: &mut Words<'_>, out: &mut String) -> Result<(), Fault> {
+    let word = words.word();
+    let id = words.number()?;
     match word {
-        "insert" => Ok(map.insert(id, value)?),
-        "set" => {
-            map.set(id, value);
-            Ok(())
-        }
+        "insert" => insert(map, id, words),
+        "set" => set(map, id, words),
         "remove" => {
             map.remove(id);
             Ok(())
         }
         "get" => push_value(out, id, map.get(id).copied()),
         "churn" => churn(map, id),
-        _ => tell_bad_line(out),
+        _ => Err(Fault::BadLine),
     }
+}
+
+fn insert(map: &mut IdMap<u32>, id: u32, words: &mut Words<'_>) -> Result<(), Fault> {
+    let value = words.number()?;
+    Ok(map.insert(id, value)?)
+}
+
+fn set(map: &mut IdMap<u32>, id: u32, words: &mut Words<'_>) -> Result<(), Fault> {
+    let value = words.number()?;
+    map.set(id, value);
+    Ok(())
 }
 
 fn push_value(out: &mut String, id: u32, value: Option<u32>) -> Result<(), Fault> {
     match value {
-        Some(value) => write!(out, "  {id} has {value}\n")?,
-        None => write!(out, "  {id} has none\n")?,
+        Some(value) => Ok(write!(out, "  {id} has {value}\n")?),
+        None => Ok(write!(out, "  {id} has none\n")?),
     }
-    Ok(())
 }
 
 /// Gives each id from 1 to before this one the value id + 7 and then twice the id, and takes the id before away.

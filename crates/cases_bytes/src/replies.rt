@@ -1,59 +1,68 @@
 //! Cases of replies: the bytes of their JSON.
-use crate::fault::{Fault, tell_bad_line};
+use crate::fields::{push_bytes, text_of};
 use crate::limits::ERRORS;
-use crate::words::{push_bytes, text_of};
+use case_data::{Fault, Words, number_of};
 use serde_json::Value;
 use std::alloc::Global;
+use wm_base::Text;
 use wm_json::{Reply, compact, replies_json, success_value, texts_json, version_value};
 
 /// Replies with `, ` between them: `ok`, `error TEXT`, `parse N` or `pattern N`.
-pub fn tell_replies(alloc: Global, data: &str, out: &mut String) -> Result<(), Fault> {
-    let mut replies = Vec::new(alloc);
-    if !data.is_empty() {
-        for part in data.split(", ") {
-            let Some(reply) = reply_of(part) else {
-                return tell_bad_line(out);
-            };
-            replies.push(reply)?;
-        }
-    }
-    let bytes = replies_json(alloc, &replies)?;
+pub fn tell_replies(words: &mut Words<'_>, out: &mut String) -> Result<(), Fault> {
+    let replies = replies_of(words)?;
+    let bytes = replies_json(words.alloc, &replies)?;
     push_bytes(out, &bytes)
 }
 
-fn reply_of(part: &str) -> Option<Reply> {
-    if part == "ok" {
-        return Some(Reply::Ok);
+fn replies_of(words: &mut Words<'_>) -> Result<Vec<Reply>, Fault> {
+    let mut replies = Vec::new(words.alloc);
+    for _ in 0..u64::MAX {
+        if words.is_done() {
+            break;
+        }
+        replies.push(reply_of(words.until(", "))?)?;
     }
-    let (word, rest) = part.split_once(" ")?;
+    Ok(replies)
+}
+
+fn reply_of(part: &str) -> Result<Reply, Fault> {
+    let (word, rest) = part.split_once(" ").unwrap_or((part, ""));
     match word {
+        "ok" => Ok(Reply::Ok),
         "error" => error_of(rest),
-        "parse" => Some(Reply::Parse(rest.parse::<usize>().ok()?)),
-        "pattern" => Some(Reply::Pattern(rest.parse::<u32>().ok()?)),
-        _ => None,
+        "parse" => parse_of(rest),
+        "pattern" => Ok(Reply::Pattern(number_of(rest)?)),
+        _ => Err(Fault::BadLine),
+    }
+}
+
+fn parse_of(text: &str) -> Result<Reply, Fault> {
+    match text.parse::<usize>() {
+        Ok(place) => Ok(Reply::Parse(place)),
+        Err(_) => Err(Fault::BadLine),
     }
 }
 
 /// The reply whose error has this text.
-fn error_of(text: &str) -> Option<Reply> {
+fn error_of(text: &str) -> Result<Reply, Fault> {
     for error in ERRORS {
         if error.text() == text {
-            return Some(Reply::Error(error));
+            return Ok(Reply::Error(error));
         }
     }
-    None
+    Err(Fault::BadLine)
 }
 
 /// Whether something was done: `true` or `false`.
-pub fn tell_success(alloc: Global, data: &str, out: &mut String) -> Result<(), Fault> {
-    let value = success_value(alloc, data == "true")?;
-    push_value(alloc, &value, out)
+pub fn tell_success(words: &mut Words<'_>, out: &mut String) -> Result<(), Fault> {
+    let value = success_value(words.alloc, words.word() == "true")?;
+    push_value(words.alloc, &value, out)
 }
 
 /// The version.
-pub fn tell_version(alloc: Global, out: &mut String) -> Result<(), Fault> {
-    let value = version_value(alloc)?;
-    push_value(alloc, &value, out)
+pub fn tell_version(words: &mut Words<'_>, out: &mut String) -> Result<(), Fault> {
+    let value = version_value(words.alloc)?;
+    push_value(words.alloc, &value, out)
 }
 
 fn push_value(alloc: Global, value: &Value, out: &mut String) -> Result<(), Fault> {
@@ -62,14 +71,24 @@ fn push_value(alloc: Global, value: &Value, out: &mut String) -> Result<(), Faul
 }
 
 /// The array of texts with ` | ` between them.
-pub fn tell_texts(alloc: Global, data: &str, out: &mut String) -> Result<(), Fault> {
-    let mut texts = Vec::new(alloc);
-    if !data.is_empty() {
-        for part in data.split(" | ") {
-            let text = text_of(alloc, part)?;
-            texts.push(text)?;
-        }
-    }
-    let bytes = texts_json(alloc, &texts)?;
+pub fn tell_texts(words: &mut Words<'_>, out: &mut String) -> Result<(), Fault> {
+    let texts = texts_of(words)?;
+    let bytes = texts_json(words.alloc, &texts)?;
     push_bytes(out, &bytes)
+}
+
+fn texts_of(words: &mut Words<'_>) -> Result<Vec<Text>, Fault> {
+    let mut texts = Vec::new(words.alloc);
+    if words.is_done() {
+        return Ok(texts);
+    }
+    for part in words.rest().split(" | ") {
+        push_text(&mut texts, words.alloc, part)?;
+    }
+    Ok(texts)
+}
+
+fn push_text(texts: &mut Vec<Text>, alloc: Global, data: &str) -> Result<(), Fault> {
+    let text = text_of(alloc, data)?;
+    Ok(texts.push(text)?)
 }

@@ -1,9 +1,7 @@
 //! Cases of a source over a reader and of a sink over a writer, which are interrupted and fail where a case says.
-use crate::fault::{Fault, tell_bad_line};
+use crate::fields::{bytes, number, numbers, push_bytes};
 use crate::memory::{dots, push_readings, push_writings};
-use crate::words::{number, numbers, push_bytes};
-use case_data::bytes_of;
-use std::alloc::Global;
+use case_data::{Fault, Words};
 use std::io::{self, ErrorKind, Read, Write};
 use wm_ports::{StdSink, StdSource};
 
@@ -16,12 +14,15 @@ struct Shaking {
 }
 
 impl Shaking {
-    fn new(interrupted: Vec<u64>, failing: Vec<u64>) -> Shaking {
-        Shaking {
+    /// From `INTERRUPTED|FAILING`, before the first call.
+    fn of(fields: &mut Words<'_>) -> Result<Shaking, Fault> {
+        let interrupted = numbers(fields)?;
+        let failing = numbers(fields)?;
+        Ok(Shaking {
             interrupted,
             failing,
             calls: 0,
-        }
+        })
     }
 
     fn shake(&mut self) -> io::Result<()> {
@@ -69,34 +70,33 @@ impl Write for ShakyWriter<'_> {
 }
 
 /// From `BYTES|INTERRUPTED|FAILING|ROOM|TIMES`, what a source over a reader answers.
-pub fn tell_reader(alloc: Global, data: &str, out: &mut String) -> Result<(), Fault> {
-    let parts: Vec<&str> = data.split("|").collect(alloc)?;
-    let [bytes, interrupted, failing, room, times] = parts.as_slice() else {
-        return tell_bad_line(out);
-    };
-    let bytes = bytes_of(alloc, bytes)?;
-    let interrupted = numbers(alloc, interrupted)?;
-    let shaking = Shaking::new(interrupted, numbers(alloc, failing)?);
+pub fn tell_reader(fields: &mut Words<'_>, out: &mut String) -> Result<(), Fault> {
+    let bytes = bytes(fields)?;
+    let shaking = Shaking::of(fields)?;
     let mut source = StdSource::new(ShakyReader {
         bytes: &bytes,
         shaking,
     });
-    let mut room = dots(alloc, number(room))?;
-    push_readings(&mut source, &mut room, number(times), out)
+    push_readings(&mut source, fields, out)
 }
 
 /// From `BYTES|INTERRUPTED|FAILING|ROOM|TIMES`, what a sink over a writer answers, which has so much room, and the room
 /// then.
-pub fn tell_writer(alloc: Global, data: &str, out: &mut String) -> Result<(), Fault> {
-    let parts: Vec<&str> = data.split("|").collect(alloc)?;
-    let [bytes, interrupted, failing, room, times] = parts.as_slice() else {
-        return tell_bad_line(out);
-    };
-    let bytes = bytes_of(alloc, bytes)?;
-    let interrupted = numbers(alloc, interrupted)?;
-    let shaking = Shaking::new(interrupted, numbers(alloc, failing)?);
-    let mut room = dots(alloc, number(room))?;
-    push_shaky(&mut room, shaking, &bytes, number(times), out)?;
+pub fn tell_writer(fields: &mut Words<'_>, out: &mut String) -> Result<(), Fault> {
+    let bytes = bytes(fields)?;
+    let shaking = Shaking::of(fields)?;
+    push_room(shaking, &bytes, fields, out)
+}
+
+fn push_room(
+    shaking: Shaking,
+    bytes: &[u8],
+    fields: &mut Words<'_>,
+    out: &mut String,
+) -> Result<(), Fault> {
+    let size = number(fields)?;
+    let mut room = dots(fields.alloc, size)?;
+    push_shaky(&mut room, shaking, bytes, fields, out)?;
     push_bytes(out, &room)
 }
 
@@ -104,9 +104,9 @@ fn push_shaky(
     room: &mut [u8],
     shaking: Shaking,
     bytes: &[u8],
-    times: u32,
+    fields: &mut Words<'_>,
     out: &mut String,
 ) -> Result<(), Fault> {
     let mut sink = StdSink::new(ShakyWriter { room, shaking });
-    push_writings(&mut sink, bytes, times, out)
+    push_writings(&mut sink, bytes, fields, out)
 }

@@ -1,36 +1,46 @@
 //! Cases of reading a source to its end and of writing all of some bytes.
-use crate::fault::{Fault, tell_bad_line};
-use crate::words::{number, numbers, push_bytes};
-use case_data::bytes_of;
-use std::alloc::Global;
-use wm_ports::{Failed, MemSink, MemSource, ReadFault, read_to_limit, write_all};
+use crate::fields::{bytes, last_number, push_bytes};
+use crate::memory::{sink_of, source_of};
+use case_data::{Fault, Words};
+use wm_ports::{Failed, MemSource, ReadFault, read_to_limit, write_all};
 
 /// From `BYTES|FAILS|LIMIT`, all that a source gives, or why it is not read to its end.
-pub fn tell_limit(alloc: Global, data: &str, out: &mut String) -> Result<(), Fault> {
-    let parts: Vec<&str> = data.split("|").collect(alloc)?;
-    let [bytes, fails, limit] = parts.as_slice() else {
-        return tell_bad_line(out);
-    };
-    let bytes = bytes_of(alloc, bytes)?;
-    let mut source = MemSource::new(bytes, numbers(alloc, fails)?);
-    match read_to_limit(alloc, &mut source, number(limit) as usize) {
+pub fn tell_limit(fields: &mut Words<'_>, out: &mut String) -> Result<(), Fault> {
+    let mut source = source_of(fields)?;
+    let answer = push_read(&mut source, fields, out);
+    drop(source);
+    answer
+}
+
+fn push_read(
+    source: &mut MemSource,
+    fields: &mut Words<'_>,
+    out: &mut String,
+) -> Result<(), Fault> {
+    let limit = last_number(fields)?;
+    match read_to_limit(fields.alloc, source, limit as usize) {
         Ok(all) => push_bytes(out, &all),
-        Err(ReadFault::Failed) => Ok(out.push_str("  failed\n")?),
-        Err(ReadFault::TooLarge { read }) => Ok(write!(out, "  too large, {read} read\n")?),
-        Err(ReadFault::NoMemory) => Err(Fault::NoMemory),
+        Err(fault) => tell_fault(fault, out),
+    }
+}
+
+fn tell_fault(fault: ReadFault, out: &mut String) -> Result<(), Fault> {
+    match fault {
+        ReadFault::Failed => Ok(out.push_str("  failed\n")?),
+        ReadFault::TooLarge { read } => Ok(write!(out, "  too large, {read} read\n")?),
+        ReadFault::NoMemory => Err(Fault::NoMemory),
     }
 }
 
 /// From `BYTES|FAILS|ROOM`, whether all of the bytes are written, and what the sink took.
-pub fn tell_whole(alloc: Global, data: &str, out: &mut String) -> Result<(), Fault> {
-    let parts: Vec<&str> = data.split("|").collect(alloc)?;
-    let [bytes, fails, room] = parts.as_slice() else {
-        return tell_bad_line(out);
-    };
-    let bytes = bytes_of(alloc, bytes)?;
-    let fails = numbers(alloc, fails)?;
-    let mut sink = MemSink::new(alloc, number(room) as usize, fails)?;
-    out.push_str(match write_all(&mut sink, &bytes) {
+pub fn tell_whole(fields: &mut Words<'_>, out: &mut String) -> Result<(), Fault> {
+    let bytes = bytes(fields)?;
+    push_written(&bytes, fields, out)
+}
+
+fn push_written(bytes: &[u8], fields: &mut Words<'_>, out: &mut String) -> Result<(), Fault> {
+    let mut sink = sink_of(fields)?;
+    out.push_str(match write_all(&mut sink, bytes) {
         Ok(()) => "  written\n",
         Err(Failed) => "  failed\n",
     })?;
