@@ -8,7 +8,7 @@ use case_data::{Fault, Words};
 use std::alloc::{AllocError, Global};
 use std::mem;
 use wm_arrange::{Arrangement, Placed, PlacedPart};
-use wm_base::{Buffer, ConId, List, NoMemory};
+use wm_base::{Buffer, ConId, List, NoMemory, Size};
 use wm_txn::{AckRefusal, BufferRefusal, Txn};
 
 /// How many lines of a case are taken.
@@ -185,18 +185,21 @@ fn push_state(out: &mut String, txn: &Txn) -> Result<(), AllocError> {
 
 fn push_window(out: &mut String, txn: &Txn, con: ConId) -> Result<(), AllocError> {
     write!(out, "{} shows ", con.0)?;
-    match txn.shown(con) {
-        Some(buffer) => write!(
-            out,
-            "{:06x} {}x{}",
-            buffer.ink.0, buffer.size.w, buffer.size.h
-        )?,
-        None => out.push_str("none")?,
+    push_shown(out, txn.shown(con))?;
+    push_asked(out, txn.asked(con))
+}
+
+fn push_shown(out: &mut String, shown: Option<Buffer>) -> Result<(), AllocError> {
+    match shown {
+        Some(Buffer { ink, size }) => write!(out, "{:06x} {}x{}", ink.0, size.w, size.h),
+        None => out.push_str("none"),
     }
-    out.push_str(", asked ")?;
-    match txn.asked(con) {
-        Some((serial, size)) => writeln!(out, "{serial} {}x{}", size.w, size.h),
-        None => writeln!(out, "none"),
+}
+
+fn push_asked(out: &mut String, asked: Option<(u64, Size)>) -> Result<(), AllocError> {
+    match asked {
+        Some((serial, size)) => writeln!(out, ", asked {serial} {}x{}", size.w, size.h),
+        None => writeln!(out, ", asked none"),
     }
 }
 
