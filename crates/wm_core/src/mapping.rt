@@ -38,9 +38,15 @@ impl Desk {
         };
         let id = match tree.attach(tree.newcomer_place(), window) {
             Ok(id) => id,
-            Err(TreeRefusal::Full { limit }) => return Ok(self.stay(Answer::Full(limit))),
+            Err(TreeRefusal::Full { limit }) => {
+                drop(tree);
+                return Ok(self.stay(Answer::Full(limit)));
+            }
             Err(TreeRefusal::Missing(_)) => unreachable!(),
-            Err(TreeRefusal::NoMemory) => return Err(NoMemory),
+            Err(TreeRefusal::NoMemory) => {
+                drop(tree);
+                return Err(NoMemory);
+            }
         };
         raise_newcomer(&mut tree, id);
         tree.settle();

@@ -33,8 +33,14 @@ impl Desk {
         let mut tree = self.tree.copy()?;
         match output_added(self.alloc, &mut tree, plan) {
             Ok(()) => self.finish(tree),
-            Err(Refusal::Full { limit }) => Ok(self.stay(Answer::Full(limit))),
-            Err(Refusal::NoMemory) => Err(NoMemory),
+            Err(Refusal::Full { limit }) => {
+                drop(tree);
+                Ok(self.stay(Answer::Full(limit)))
+            }
+            Err(Refusal::NoMemory) => {
+                drop(tree);
+                Err(NoMemory)
+            }
             Err(Refusal::NameTaken) => unreachable!(),
             Err(Refusal::NoTarget(_)) => unreachable!(),
         }
@@ -53,8 +59,14 @@ impl Desk {
         let mut tree = self.tree.copy()?;
         match output_removed(&mut tree, name) {
             Ok(()) => self.finish(tree),
-            Err(Refusal::NoTarget(_)) => Ok(self.stay(Answer::NoTarget)),
-            Err(Refusal::NoMemory) => Err(NoMemory),
+            Err(Refusal::NoTarget(_)) => {
+                drop(tree);
+                Ok(self.stay(Answer::NoTarget))
+            }
+            Err(Refusal::NoMemory) => {
+                drop(tree);
+                Err(NoMemory)
+            }
             Err(Refusal::NameTaken | Refusal::Full { .. }) => unreachable!(),
         }
     }

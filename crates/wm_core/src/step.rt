@@ -5,7 +5,7 @@ use wm_criteria::Prepared;
 use wm_json::Reply;
 
 /// One step of a caller. Texts of commands are prepared before they are handed in.
-#[derive(Debug, Drop)]
+#[derive(Drop)]
 pub enum Step {
     /// Runs the commands of a text.
     Run(Prepared),
@@ -58,7 +58,7 @@ pub enum Step {
 }
 
 /// What a key does in a mode.
-#[derive(Debug, Drop)]
+#[derive(Drop)]
 pub struct Choice {
     pub mode: Text,
     pub prepared: Prepared,
