@@ -1,8 +1,8 @@
 //! The small desktop that criteria are tried on.
-use crate::fault::Fault;
+use case_data::Fault;
 use std::alloc::Global;
 use wm_base::{Border, ConId, Edges, Layout, OutputPlan, Props, Rect, Size, Text};
-use wm_tree::{NewCon, Place, Tree};
+use wm_tree::{NewCon, Place, Tree, TreeRefusal};
 
 const SCREEN: Rect = Rect {
     x: 0,
@@ -11,7 +11,8 @@ const SCREEN: Rect = Rect {
     h: 800,
 };
 
-const NO_EDGES: Edges = Edges {
+/// No widths along any side.
+pub const NO_EDGES: Edges = Edges {
     top: 0,
     right: 0,
     bottom: 0,
@@ -24,42 +25,41 @@ const SPACE: ConId = ConId(3);
 /// Workspace 3 with the windows 4 and 5, the split 6 that holds 5, the floating window 7, and 8 in the scratchpad.
 /// Window 4 is the focused one; 7, 5 and 8 are urgent, in this order.
 pub fn desk(alloc: Global) -> Result<Tree, Fault> {
-    let plans = [plan(alloc)?];
-    let mut tree = Tree::start(alloc, &plans, Border::Bare, 0, 0)?;
-    open(alloc, &mut tree, Place::Last(SPACE), "term", "normal")?;
-    open(alloc, &mut tree, Place::Last(SPACE), "web", "normal")?;
-    tree.wrap(ConId(5), Layout::Tabbed)?;
-    open(
-        alloc,
-        &mut tree,
-        Place::Float(SPACE, SCREEN),
-        "term",
-        "dialog",
-    )?;
-    open(alloc, &mut tree, Place::Scratchpad(SCREEN), "web", "dialog")?;
-    mark(alloc, &mut tree, ConId(6), "__focused__")?;
-    mark(alloc, &mut tree, ConId(4), "a")?;
-    mark(alloc, &mut tree, ConId(4), "b")?;
+    let mut tree = one_space(alloc)?;
+    open_windows(alloc, &mut tree)?;
+    mark_some(alloc, &mut tree)?;
     for con in [ConId(7), ConId(5), ConId(8)] {
-        tree.add_urgent(con)?;
+        done(tree.add_urgent(con).err())?;
     }
     tree.raise(ConId(4));
     Ok(tree)
 }
 
-fn plan(alloc: Global) -> Result<OutputPlan, Fault> {
-    let name = text(alloc, "A")?;
-    Ok(OutputPlan {
-        name,
+fn one_space(alloc: Global) -> Result<Tree, Fault> {
+    let plans = [OutputPlan {
+        name: Text::new(alloc, "A")?,
         rect: SCREEN,
         reserved: NO_EDGES,
-    })
+    }];
+    Ok(Tree::start(alloc, &plans, Border::Bare, 0, 0)?)
 }
 
-fn mark(alloc: Global, tree: &mut Tree, con: ConId, name: &str) -> Result<(), Fault> {
-    let name = text(alloc, name)?;
-    tree.add_mark(con, &name)?;
-    Ok(())
+/// The desktop is made only where no change is refused.
+fn done(refusal: Option<TreeRefusal>) -> Result<(), Fault> {
+    match refusal {
+        None => Ok(()),
+        Some(TreeRefusal::NoMemory) => Err(Fault::NoMemory),
+        Some(_) => Err(Fault::BadLine),
+    }
+}
+
+fn open_windows(alloc: Global, tree: &mut Tree) -> Result<(), Fault> {
+    open(alloc, tree, Place::Last(SPACE), "term", "normal")?;
+    open(alloc, tree, Place::Last(SPACE), "web", "normal")?;
+    done(tree.wrap(ConId(5), Layout::Tabbed).err())?;
+    let floating = Place::Float(SPACE, SCREEN);
+    open(alloc, tree, floating, "term", "dialog")?;
+    open(alloc, tree, Place::Scratchpad(SCREEN), "web", "dialog")
 }
 
 /// Opens a window at a place.
@@ -70,37 +70,48 @@ fn open(
     class: &str,
     kind: &str,
 ) -> Result<(), Fault> {
-    let props = props(alloc, class, kind)?;
     let new = NewCon::Window {
-        props,
+        props: props(alloc, class, kind)?,
         owner: 9,
         natural: Size { w: 30, h: 20 },
     };
-    tree.attach(place, new)?;
-    Ok(())
+    done(tree.attach(place, new).err())
 }
 
 /// The properties of a window: each but class and kind is the class with an ending of its own.
 fn props(alloc: Global, class: &str, kind: &str) -> Result<Props, Fault> {
+    let (instance, role) = ended_pair(alloc, class, "-i", "-r")?;
+    let (machine, title) = ended_pair(alloc, class, "-m", "-t")?;
+    let kind = Text::new(alloc, kind)?;
     Ok(Props {
-        class: text(alloc, class)?,
-        instance: ended(alloc, class, "-i")?,
-        role: ended(alloc, class, "-r")?,
-        kind: text(alloc, kind)?,
-        machine: ended(alloc, class, "-m")?,
-        title: ended(alloc, class, "-t")?,
+        class: Text::new(alloc, class)?,
+        instance,
+        role,
+        kind,
+        machine,
+        title,
     })
+}
+
+fn ended_pair(
+    alloc: Global,
+    class: &str,
+    first: &str,
+    second: &str,
+) -> Result<(Text, Text), Fault> {
+    let first = ended(alloc, class, first)?;
+    Ok((first, ended(alloc, class, second)?))
 }
 
 fn ended(alloc: Global, class: &str, end: &str) -> Result<Text, Fault> {
     let whole = format!(in alloc; "{class}{end}")?;
-    text(alloc, whole.as_str())
+    Ok(Text::new(alloc, whole.as_str())?)
 }
 
-/// A short text.
-pub fn text(alloc: Global, text: &str) -> Result<Text, Fault> {
-    match Text::new(alloc, text) {
-        Ok(text) => Ok(text),
-        Err(_) => Err(Fault::Desk),
+fn mark_some(alloc: Global, tree: &mut Tree) -> Result<(), Fault> {
+    for (con, name) in [(6, "__focused__"), (4, "a"), (4, "b")] {
+        let name = Text::new(alloc, name)?;
+        done(tree.add_mark(ConId(con), &name).err())?;
     }
+    Ok(())
 }

@@ -3,7 +3,6 @@
 #![tactic(auto)]
 
 mod desk;
-mod fault;
 mod form;
 mod matched;
 mod patterns;
@@ -11,17 +10,20 @@ mod plans;
 mod prepared;
 mod reads;
 
-use fault::Fault;
-use std::alloc::Global;
+use case_data::{Fault, Words};
 use std::{env, fs};
 
 fn main(rt: HostRuntime) -> Result<(), Fault> {
-    let args = env::args(&rt)?;
-    for name in args.skip(1) {
-        let text = fs::read_to_string(&rt, name.as_str())?;
-        tell_lines(&rt, text.as_str())?;
+    for name in env::args(&rt)?.skip(1) {
+        tell_file(&rt, name.as_str())?;
     }
     Ok(())
+}
+
+/// Tells the cases of a file.
+fn tell_file(rt: &HostRuntime, name: &str) -> Result<(), Fault> {
+    let text = fs::read_to_string(rt, name)?;
+    tell_lines(rt, text.as_str())
 }
 
 /// Tells each line of a file, but for empty ones and those that begin with `#`.
@@ -37,26 +39,32 @@ fn tell_lines(rt: &HostRuntime, text: &str) -> Result<(), Fault> {
 /// Prints a line and what came of it.
 fn tell_line(rt: &HostRuntime, line: &str) -> Result<(), Fault> {
     let mut out = String::new(rt.alloc());
-    tell(rt.alloc(), line, &mut out)?;
-    println!(rt; "{line}")?;
-    print!(rt; "{out}")?;
+    tell_case(&mut Words::of(rt.alloc(), line), &mut out)?;
+    print!(rt; "{line}\n{out}")?;
     Ok(())
 }
 
+/// Writes what comes of the case of a line, or that the line is none.
+fn tell_case(words: &mut Words<'_>, out: &mut String) -> Result<(), Fault> {
+    match tell(words, out) {
+        Err(Fault::BadLine) => Ok(out.push_str("  bad line\n")?),
+        answer => answer,
+    }
+}
+
 /// Writes what comes of the case of a line. Its first word says what is called.
-fn tell(alloc: Global, line: &str, out: &mut String) -> Result<(), Fault> {
-    let (word, rest) = line.split_once(" ").unwrap_or((line, ""));
-    match word {
+fn tell(words: &mut Words<'_>, out: &mut String) -> Result<(), Fault> {
+    match words.word() {
         "case" => Ok(()),
-        "reads" => reads::tell_one(alloc, rest, out),
-        "both" => reads::tell_both(alloc, rest, out),
-        "long" => reads::tell_long(alloc, rest, out),
-        "plain" => patterns::tell_plain(alloc, rest, out),
-        "prepares" => prepared::tell_prepared(alloc, rest, out),
-        "prepares_long" => prepared::tell_long(alloc, rest, out),
-        "plan" => plans::tell_plan(alloc, rest, out),
-        "rect" => plans::tell_fit(alloc, rest, out),
-        "matches" => matched::tell_matches(alloc, rest, out),
-        _ => fault::tell_bad_line(out),
+        "reads" => reads::tell_one(words, out),
+        "both" => reads::tell_both(words, out),
+        "long" => reads::tell_long(words, out),
+        "plain" => patterns::tell_plain(words, out),
+        "prepares" => prepared::tell_prepared(words, out),
+        "prepares_long" => prepared::tell_long(words, out),
+        "plan" => plans::tell_plan(words, out),
+        "rect" => plans::tell_fit(words, out),
+        "matches" => matched::tell_matches(words, out),
+        _ => Err(Fault::BadLine),
     }
 }

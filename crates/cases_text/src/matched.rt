@@ -1,36 +1,34 @@
 //! Cases of matching: which containers of the small desktop criteria match, all at once and one by one.
-ghost use Rattle.std.specs.Prelude.{IfOk, IsTrue, IfSome};
+ghost use Rattle.std.specs.Prelude.{IfOk, IsTrue};
 ghost use Rattle.wm_criteria.specs.Prepared.{is_built};
 
 use crate::desk::desk;
-use crate::fault::{Fault, tell_bad_line};
-use crate::reads::text_of;
+use case_data::{Fault, Words, string_of};
 use std::alloc::Global;
 use wm_base::ConId;
 use wm_criteria::{Prepared, RegexBuild, matches, matching, prepare};
 use wm_tree::Tree;
 
 /// Which containers the criteria match.
-pub fn tell_matches(alloc: Global, data: &str, out: &mut String) -> Result<(), Fault> {
-    match criteria_of(alloc, data)? {
-        Some(prepared) => tell_on_desk(alloc, &prepared, out),
-        None => tell_bad_line(out),
-    }
+pub fn tell_matches(words: &mut Words<'_>, out: &mut String) -> Result<(), Fault> {
+    let prepared = criteria_of(words)?;
+    tell_on_desk(words.alloc, &prepared, out)
 }
 
 /// The prepared text of a group of these criteria.
-fn criteria_of(alloc: Global, data: &str) -> Result<Option<Prepared>, Fault>
-    ensures { IfOk result (λ found. IfSome found (λ p. IsTrue (is_built p))) }
+fn criteria_of(words: &mut Words<'_>) -> Result<Prepared, Fault>
+    ensures { IfOk result (λ prepared. IsTrue (is_built prepared)) }
 {
-    let Some(criteria) = text_of(alloc, data)? else {
-        return Ok(None);
-    };
-    let text = format!(in alloc; "[{criteria}] nop")?;
+    let text = group_of(words)?;
     if text.len() >= 1 << 32 {
-        return Ok(None);
+        return Err(Fault::BadLine);
     }
-    let prepared = prepare(alloc, text.as_str(), &mut RegexBuild::new())?;
-    Ok(Some(prepared))
+    Ok(prepare(words.alloc, text.as_str(), &mut RegexBuild::new())?)
+}
+
+fn group_of(words: &mut Words<'_>) -> Result<String, Fault> {
+    let criteria = string_of(words.alloc, words.rest())?;
+    Ok(format!(in words.alloc; "[{criteria}] nop")?)
 }
 
 fn tell_on_desk(alloc: Global, prepared: &Prepared, out: &mut String) -> Result<(), Fault>

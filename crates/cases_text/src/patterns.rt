@@ -1,22 +1,15 @@
 //! Cases of plain patterns: whether a pattern is plain, and whether it is found in a text.
-use crate::fault::{Fault, tell_bad_line};
-use crate::reads::text_of;
-use std::alloc::Global;
+use case_data::{Fault, Words, string_of};
 use wm_criteria::{is_plain, plain_search};
 
 /// From `PATTERN => TEXT`, whether the pattern is plain and found in the text.
-pub fn tell_plain(alloc: Global, data: &str, out: &mut String) -> Result<(), Fault> {
-    let Some((pattern, text)) = data.split_once(" =>") else {
-        return tell_bad_line(out);
+pub fn tell_plain(words: &mut Words<'_>, out: &mut String) -> Result<(), Fault> {
+    let Some((pattern, text)) = words.rest().split_once(" =>") else {
+        return Err(Fault::BadLine);
     };
-    let Some(pattern) = text_of(alloc, pattern)? else {
-        return tell_bad_line(out);
-    };
-    let Some(text) = text_of(alloc, text.strip_prefix(" ").unwrap_or(text))? else {
-        return tell_bad_line(out);
-    };
-    out.push_str(found(pattern.as_str(), text.as_str()))?;
-    Ok(())
+    let pattern = string_of(words.alloc, pattern)?;
+    let text = string_of(words.alloc, text.strip_prefix(" ").unwrap_or(text))?;
+    Ok(out.push_str(found(pattern.as_str(), text.as_str()))?)
 }
 
 /// What comes of searching for a pattern in a text.

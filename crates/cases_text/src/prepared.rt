@@ -1,8 +1,8 @@
 //! Cases of preparing: the verdict on a text, and which of its patterns are built, by two builds.
 ghost use Rattle.std.specs.Prelude.{◌<◌, ◌^◌, length};
 
-use crate::fault::{Fault, tell_bad_line};
-use crate::reads::{long_text, text_of};
+use crate::reads::long_text;
+use case_data::{Fault, Words, string_of};
 use regex::Regex;
 use std::alloc::{AllocError, Global};
 use wm_criteria::{
@@ -34,27 +34,22 @@ impl<B: Build> Build for Told<B> {
 }
 
 /// The verdict on a text by a build that refuses listed patterns, by one that reads what it can, and by none.
-pub fn tell_prepared(alloc: Global, data: &str, out: &mut String) -> Result<(), Fault> {
-    match text_of(alloc, data)? {
-        Some(text) => tell_text(alloc, text.as_str(), out),
-        None => tell_bad_line(out),
-    }
+pub fn tell_prepared(words: &mut Words<'_>, out: &mut String) -> Result<(), Fault> {
+    let text = string_of(words.alloc, words.rest())?;
+    tell_text(words.alloc, text.as_str(), out)
 }
 
 /// The same of a long text.
-pub fn tell_long(alloc: Global, data: &str, out: &mut String) -> Result<(), Fault> {
-    match long_text(alloc, data)? {
-        Some(text) => tell_text(alloc, text.as_str(), out),
-        None => tell_bad_line(out),
-    }
+pub fn tell_long(words: &mut Words<'_>, out: &mut String) -> Result<(), Fault> {
+    let text = long_text(words)?;
+    tell_text(words.alloc, text.as_str(), out)
 }
 
 fn tell_text(alloc: Global, text: &str, out: &mut String) -> Result<(), Fault> {
     if text.len() >= 1 << 32 {
-        return tell_bad_line(out);
+        return Err(Fault::BadLine);
     }
-    let listed = listed(alloc)?;
-    let by_list = ListBuild::new(listed);
+    let by_list = ListBuild::new(listed(alloc)?);
     tell_by(alloc, text, "list", by_list, out)?;
     tell_by(alloc, text, "regex", RegexBuild::new(), out)?;
     tell_alone(alloc, text, out)

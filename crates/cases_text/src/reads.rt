@@ -1,71 +1,76 @@
 //! Cases of reading: the batch of a text, and that its printed text reads as the same batch.
 ghost use Rattle.wm_grammar.specs.Readable.{IsReadable};
 
-use crate::fault::{Fault, place_of, tell_bad_line};
 use crate::form::form_of;
-use case_data::{bytes_of, push_shown};
+use case_data::{Fault, Words, push_shown, string_of};
 use std::alloc::Global;
-use wm_grammar::{Batch, print, read};
+use wm_grammar::{Batch, ReadRefusal, print, read};
 
 /// How many bytes of a printed text are shown.
 const SHOWN: usize = 4096;
 
-/// The text that a text of data stands for, if it is one.
-pub fn text_of(alloc: Global, data: &str) -> Result<Option<String>, Fault> {
-    let bytes = bytes_of(alloc, data)?;
-    Ok(String::from_utf8(bytes).ok())
-}
-
-/// What one text reads as.
-pub fn tell_one(alloc: Global, data: &str, out: &mut String) -> Result<(), Fault> {
-    match text_of(alloc, data)? {
-        Some(text) => tell_text(alloc, text.as_str(), out),
-        None => tell_bad_line(out),
+/// The place at which a text stops reading; want of memory ends the program.
+fn place_of(refusal: ReadRefusal) -> Result<usize, Fault> {
+    match refusal {
+        ReadRefusal::Bad { at } => Ok(at),
+        ReadRefusal::NoMemory => Err(Fault::NoMemory),
     }
 }
 
+/// What one text reads as.
+pub fn tell_one(words: &mut Words<'_>, out: &mut String) -> Result<(), Fault> {
+    let text = string_of(words.alloc, words.rest())?;
+    tell_text(words.alloc, text.as_str(), out)
+}
+
 /// What two texts read as, with ` || ` between them: told once where it is the same.
-pub fn tell_both(alloc: Global, data: &str, out: &mut String) -> Result<(), Fault> {
-    let Some((first, second)) = data.split_once(" || ") else {
-        return tell_bad_line(out);
+pub fn tell_both(words: &mut Words<'_>, out: &mut String) -> Result<(), Fault> {
+    let Some((first, second)) = words.rest().split_once(" || ") else {
+        return Err(Fault::BadLine);
     };
-    let mut one = String::new(alloc);
-    tell_one(alloc, first, &mut one)?;
-    let mut other = String::new(alloc);
-    tell_one(alloc, second, &mut other)?;
-    out.push_str(one.as_str())?;
-    if one.as_str() != other.as_str() {
+    let one = told(words.alloc, first)?;
+    let other = told(words.alloc, second)?;
+    push_both(one.as_str(), other.as_str(), out)
+}
+
+fn told(alloc: Global, data: &str) -> Result<String, Fault> {
+    let mut out = String::new(alloc);
+    tell_one(&mut Words::of(alloc, data), &mut out)?;
+    Ok(out)
+}
+
+fn push_both(one: &str, other: &str, out: &mut String) -> Result<(), Fault> {
+    out.push_str(one)?;
+    if one != other {
         out.push_str("  and the second is\n")?;
-        out.push_str(other.as_str())?;
+        out.push_str(other)?;
     }
     Ok(())
 }
 
 /// What a long text reads as: from `N A|B|C|D` it has A this often, B, C this often, and D.
-pub fn tell_long(alloc: Global, data: &str, out: &mut String) -> Result<(), Fault> {
-    match long_text(alloc, data)? {
-        Some(text) => tell_text(alloc, text.as_str(), out),
-        None => tell_bad_line(out),
-    }
+pub fn tell_long(words: &mut Words<'_>, out: &mut String) -> Result<(), Fault> {
+    let text = long_text(words)?;
+    tell_text(words.alloc, text.as_str(), out)
 }
 
 /// The long text that a line stands for.
-pub fn long_text(alloc: Global, data: &str) -> Result<Option<String>, Fault> {
-    let (number, parts) = data.split_once(" ").unwrap_or((data, ""));
-    let Ok(count) = number.parse::<u32>() else {
-        return Ok(None);
-    };
-    let mut text = String::new(alloc);
-    for (at, part) in parts.split("|").enumerate() {
-        let Some(part) = text_of(alloc, part)? else {
-            return Ok(None);
-        };
+pub fn long_text(words: &mut Words<'_>) -> Result<String, Fault> {
+    let count = words.number()?;
+    let mut text = String::new(words.alloc);
+    for (at, part) in words.rest().split("|").enumerate() {
         let times = if at % 2 == 0 && at < 3 { count } else { 1 };
-        for _ in 0..times {
-            text.push_str(part.as_str())?;
-        }
+        push_times(words.alloc, part, times, &mut text)?;
     }
-    Ok(Some(text))
+    Ok(text)
+}
+
+fn push_times(alloc: Global, data: &str, times: u32, text: &mut String) -> Result<(), Fault> {
+    let part = string_of(alloc, data)?;
+    for _ in 0..times {
+        text.push_str(part.as_str())?;
+    }
+    Ok(())
 }
 
 /// What a text reads as, or where it stops reading.
@@ -86,20 +91,24 @@ fn tell_batch(alloc: Global, batch: &Batch, out: &mut String) -> Result<(), Faul
     let form = form_of(alloc, batch)?;
     out.push_str(form.as_str())?;
     let printed = print(alloc, batch)?;
-    push_printed(out, printed.as_str())?;
-    let again = form_again(alloc, printed.as_str())?;
-    out.push_str(if again.as_str() == form.as_str() {
+    tell_printed(alloc, printed.as_str(), form.as_str(), out)
+}
+
+/// A printed text, and whether it reads as a batch of this plain form.
+fn tell_printed(alloc: Global, printed: &str, form: &str, out: &mut String) -> Result<(), Fault> {
+    push_printed(out, printed)?;
+    let again = form_again(alloc, printed)?;
+    Ok(out.push_str(if again.as_str() == form {
         ", the same again\n"
     } else {
         ", and that reads otherwise\n"
-    })?;
-    Ok(())
+    })?)
 }
 
 /// The plain form of what a printed text reads as, empty where it does not read.
 fn form_again(alloc: Global, printed: &str) -> Result<String, Fault> {
     match read(alloc, printed) {
-        Ok(batch) => form_of(alloc, &batch),
+        Ok(batch) => Ok(form_of(alloc, &batch)?),
         Err(refusal) => {
             let at = place_of(refusal)?;
             Ok(format!(in alloc; "bad at {at}")?)
