@@ -10,7 +10,7 @@ use wm_criteria::Prepared;
 use wm_tree::copy_props;
 
 /// A step that was taken, without built patterns, and the number of its caller.
-#[derive(Debug, Drop)]
+#[derive(Drop)]
 pub struct Entry {
     pub who: u32,
     pub step: Step,
