@@ -64,18 +64,24 @@ fn is_window_of(tree: &Tree, con: ConId) -> bool
 }
 
 /// The windows that were closed by a step that opened this window, if any: where the new tree has as many as it may, none.
+/// The old tree has so many windows `before`, and the new one `after`.
 pub fn closed(
     alloc: Global,
     old: &Tree,
+    before: u32,
     new: &Tree,
+    after: u32,
     opened: Option<(ConId, Buffer)>,
 ) -> Result<Vec<ConId>, AllocError>
     requires old { IsSound old.now }
+    requires before { before ≡ window_count old.now }
     requires new { IsSound new.now }
+    requires after { after ≡ window_count new.now }
+    requires few { before ≤ 4096 }
     ensures { Follows old.now new.now opened → IfOk result (λ gone. gone.items ≡ closed old.now new.now opened) }
 {
-    let most = window_count(old) + one_if_some(opened);
-    if window_count(new) == most {
+    let most = before + one_if_some(opened);
+    if after == most {
         return Ok(Vec::new(alloc));
     }
     missing(alloc, old, new, opened)

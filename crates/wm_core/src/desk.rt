@@ -13,7 +13,7 @@ ghost use Rattle.wm_tree.specs.Words.{settled};
 ghost use Rattle.wm_txn.specs.History as commits;
 
 use crate::by_window::{forget, renew};
-use crate::counting::closed;
+use crate::counting::{closed, window_count};
 use crate::frame::painted;
 use crate::kills::noted;
 use crate::owners::{disown, forget_owners, own};
@@ -41,12 +41,15 @@ pub struct Desk {
     pub(crate) kills: BTreeMap<u32, u64>,
     /// By the id of each open window, the number of its caller.
     pub(crate) owners: IdMap<u32>,
+    /// How many windows the tree has.
+    pub(crate) windows: u32,
 }
 
 impl Model for Desk {
-    ghost use Rattle.std.specs.Prelude.{◌≤◌};
+    ghost use Rattle.std.specs.Prelude.{◌≡◌, ◌≤◌};
     ghost use Rattle.wm_tree.specs.Sound as trees;
     ghost use Rattle.wm_core.specs.DeskValue.{AreOwners, DeskValue, desk_code};
+    ghost use Rattle.wm_core.specs.Windows.{window_count};
     ghost use Rattle.wm_txn.specs.Machine.{last_prefix};
 
     ghost Value = { DeskValue };
@@ -55,7 +58,7 @@ impl Model for Desk {
 
     ghost view = { λ d. record { plan = d.plan; steps = d.steps; tree = d.tree; txn = d.txn; stopped = d.stopped; kills = d.kills.entries } };
 
-    ghost invariant = { λ d. ((last_prefix d.txn ≤ d.steps) × AreOwners d.owners d.tree) × trees.IsSound d.tree };
+    ghost invariant = { λ d. (((last_prefix d.txn ≤ d.steps) × (d.windows ≡ window_count d.tree)) × AreOwners d.owners d.tree) × trees.IsSound d.tree };
 }
 
 impl Desk {
@@ -69,6 +72,7 @@ impl Desk {
         let tree = Tree::start(alloc, outputs, plan.border, plan.inner, plan.outer)?;
         let first = arrange(alloc, &tree)?;
         let txn = Txn::start(alloc, first)?;
+        let windows = window_count(&tree);
         Ok(Desk {
             alloc,
             plan,
@@ -78,6 +82,7 @@ impl Desk {
             stopped: false,
             kills: BTreeMap::new(alloc),
             owners: IdMap::new(alloc),
+            windows,
         })
     }
 
@@ -189,7 +194,15 @@ impl Desk {
     {
         let noted = noted(&self.kills, asked, self.steps + 1)?;
         let newest = arrange(self.alloc, &tree)?;
-        let gone = closed(self.alloc, &self.tree, &tree, opened)?;
+        let windows = window_count(&tree);
+        let gone = closed(
+            self.alloc,
+            &self.tree,
+            self.windows,
+            &tree,
+            windows,
+            opened,
+        )?;
         own(&mut self.owners, &tree, opened)?;
         if let Err(error) = self.txn.admit(self.steps, newest, opened, &gone) {
             disown(&mut self.owners, opened);
@@ -197,6 +210,7 @@ impl Desk {
         }
         self.steps += 1;
         self.tree = tree;
+        self.windows = windows;
         self.stopped = either(self.stopped, stops);
         renew(&mut self.kills, noted);
         forget(&mut self.kills, &gone);

@@ -4,8 +4,8 @@ use Rattle.wm_core.specs.Windows.{window_count}
 use Rattle.wm_core.proofs.FollowLemmas.{none_closed}
 use Rattle.wm_core.proofs.counting.closed.Goals as goal
 
-pub returns-then-window_count-most : goal.returns-then-window_count-most
-returns-then-window_count-most c = λ follows.
+pub returns-then-after-most : goal.returns-then-after-most
+returns-then-after-most c = λ follows.
     let most : window_count c.args.new.now ≡ window_count c.args.old.now + one_if_some c.args.opened =
-    sym c.window_count-2.ensures.value ∙ (c.if-window_count-most.true ∙ ap₂ (λ a b. a + b) c.window_count.ensures.value c.one_if_some.ensures.value) in
+    sym c.requires.after ∙ (c.if-after-most.true ∙ ap₂ (λ a b. a + b) c.requires.before c.one_if_some.ensures.value) in
     c.new.ensures.items ∙ sym (none_closed c.args.old.now c.args.new.now c.args.opened c.requires.old c.requires.new follows most)

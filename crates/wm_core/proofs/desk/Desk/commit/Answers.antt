@@ -10,6 +10,7 @@ use Rattle.wm_core.specs.DeskValue.{AreOwners, DeskValue, Follows, Stands, kill_
 use Rattle.wm_core.specs.History.{closed, entries, first, opening_of}
 use Rattle.wm_core.proofs.OwnerLemmas.{owners_after, owners_again}
 use Rattle.wm_core.proofs.StandsLemmas.{fits, not_gone, place, stands_left}
+use Rattle.wm_core.proofs.OpenLemmas.{window_con}
 use Rattle.wm_core.proofs.desk.Desk.commit.Goals as goal
 
 -- the arrangement of the tree is admitted
@@ -46,7 +47,7 @@ invariant_of-self-2 c =
     let owners : AreOwners c.forget_owners.new.owners c.args.tree =
     owners_after t c.args.tree c.args.opened c.self.invariant.1 c.requires.sound f c.self.inside.owners c.own.new.owners c.forget_owners.new.owners c.deref-3.result.now
     (c.deref-3.ensures.value ∙ c.in_ok-gone.ensures f) c.self.invariant.0.1 c.in_ok-own.ensures.ok c.forget_owners.ensures in
-    ((omega (arith, c.in_default.ensures.prefix), owners), c.requires.sound)
+    (((omega (arith, c.in_default.ensures.prefix), c.window_count-windows.ensures.value), owners), c.requires.sound)
 
 -- where there was no memory the callers are those of the old tree
 pub invariant_of-self-in-Err : goal.invariant_of-self-in-Err
@@ -56,3 +57,7 @@ invariant_of-self-in-Err c =
     let owners : AreOwners c.disown.new.owners t =
     owners_again t c.args.tree c.args.opened c.self.invariant.1 f c.self.inside.owners c.own.new.owners c.disown.new.owners c.self.invariant.0.1 c.in_ok-own.ensures.ok c.disown.ensures in
     ((rw c.in-Err.ensures.err c.self.invariant.0.0, owners), c.self.invariant.1)
+
+-- a tree has at most 4,096 windows
+pub closed-requires-clause-few : goal.closed-requires-clause-few
+closed-requires-clause-few c = omega (arith, c.self.invariant.0.0.1, window_con c.self.inside.tree.nodes, c.self.invariant.1.few)

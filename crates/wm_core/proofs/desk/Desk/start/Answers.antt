@@ -18,7 +18,7 @@ invariant_of-result c =
     let fit = fit_plans c.args.plan.outputs c.items-outputs.result.now c.items-outputs.ensures c.requires.fit in
     let sound : IsSound c.in_ok-tree.tree = c.in_ok-tree.ensures.sound (rw c.items-outputs.ensures c.requires.some) fit in
     let owners = no_owners c.in_ok-tree.tree c.new-2.result (opens_no_window c.args.plan c.in_ok-tree.tree (rw c.items-outputs.ensures at c.in_ok-tree.ensures.tree) sound) c.new-2.ensures.empty in
-    ((omega (arith, c.in_ok-txn.ensures.prefix), owners), sound)
+    (((omega (arith, c.in_ok-txn.ensures.prefix), c.window_count-windows.ensures.value), owners), sound)
 
 pub returns-clause-stands : goal.returns-clause-stands
 returns-clause-stands c =
