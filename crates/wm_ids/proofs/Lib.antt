@@ -1,2 +1,2 @@
 pub mod EntryLemmas
-pub mod IndexLemmas
+pub mod MapLemmas

@@ -1,5 +1,8 @@
-use Rattle.wm_ids.proofs.IndexLemmas.{ordered}
+use Rattle.wm_ids.proofs.MapLemmas.{none_at_all, ordered}
 use Rattle.wm_ids.proofs.map.IdMap.new.Goals as goal
 
+pub returns-clause-empty : goal.returns-clause-empty
+returns-clause-empty g c = none_at_all c.new.result c.new.ensures.empty
+
 pub returns-clause-ordered : goal.returns-clause-ordered
-returns-clause-ordered g c = ordered c.new-2.result c.new.result.items
+returns-clause-ordered g c = ordered c.new.result
