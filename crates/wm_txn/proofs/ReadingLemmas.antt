@@ -6,13 +6,16 @@ use Rattle.wm_base.specs.declared.geometry.Size.{Size}
 use Rattle.wm_base.specs.declared.ids.Buffer.{Buffer}
 use Rattle.wm_base.specs.declared.ids.ConId.{ConId}
 use Rattle.wm_arrange.specs.declared.parts.Placed.{Placed}
+use Rattle.wm_arrange.proofs.SameLemmas.{parts-decide}
+use Rattle.wm_arrange.specs.Same.{same_parts}
 use Rattle.wm_arrange.specs.Sizes.{is_content}
+use Rattle.wm_arrange.specs.declared.parts.Arrangement.{Arrangement}
 use Rattle.wm_txn.specs.Commits.{asked, begun_turns, current, done, least, lesser, prefix, prefix_of, shown, started, waiting, waiting_for}
-use Rattle.wm_txn.specs.History.{Opening, Entry, buffer_up_to, gave, last}
-use Rattle.wm_txn.specs.Machine.{TxnValue, asked_of, shown_of, shown_or, waiting_in}
+use Rattle.wm_txn.specs.History.{Opening, Entry, arrangement, buffer_up_to, gave, last}
+use Rattle.wm_txn.specs.Machine.{TxnValue, asked_of, newest_of, newest_or, shown_of, shown_or, waiting_in}
 use Rattle.wm_txn.specs.Windows.{Windows, find, has_acked, is_left, least_left, left_of}
 use Rattle.wm_txn.specs.Schedule.{Turn, answered, configures, contents, last_parts}
-use Rattle.wm_txn.specs.Stands.{IsHeld, IsKept, StandsFor}
+use Rattle.wm_txn.specs.Stands.{IsHeld, IsKept, IsNewest, IsScheduled, StandsFor}
 use Rattle.wm_txn.specs.declared.answers.Waiting.{Waiting}
 use Rattle.wm_txn.specs.declared.held.Held.{Held}
 use Rattle.wm_txn.specs.declared.held.Pending.{Pending}
@@ -37,6 +40,18 @@ module _ (o : Opening) (history : List Entry) (d : TxnValue) (s : StandsFor o hi
 
   pub current_is : d.current.parts ≡ current o history
   current_is = seen.keeps.current_is ∙ ap (last_parts o) (sym seen.numbers.ended_are)
+
+  same : (xs ys : List Placed) → same_parts xs ys ≡ true → xs ≡ ys
+  same xs ys h = (parts-decide xs ys).0 h
+
+  newest_by : (newest : Option Arrangement) (waits : Option Pending) → IsNewest (arrangement o history) (last_parts o s.begun) newest → IsScheduled o history s.turns s.begun waits d → (newest_or newest waits d.current).parts ≡ arrangement o history
+  newest_by (Some a) waits n sch = n
+  newest_by None (Some p) n sch = sch.parts_are ∙ (ap (last_parts o) (sym sch.begun_are) ∙ sym (same (arrangement o history) (last_parts o s.begun) n))
+  newest_by None None n sch = s.keeps.current_is ∙ (ap (last_parts o) (sym sch.begun_are) ∙ sym (same (arrangement o history) (last_parts o s.begun) n))
+
+  -- the newest arrangement is that after the history
+  pub newest_is : (newest_of d).parts ≡ arrangement o history
+  newest_is = newest_by d.newest d.waiting s.newest_is s.schedule
 
   -- ---- what a window shows
 

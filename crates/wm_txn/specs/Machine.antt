@@ -178,6 +178,15 @@ waiting_in n windows None = None
 waiting_in n windows (Some p) =
     option_map (λ v. record { number = n; least = v; acked = has_acked n (find v windows) }) (least_left n windows p.arrangement.parts)
 
+-- the arrangement after the history: the newest one, or that of the transaction that waits, or what is done
+abbrev pub newest_or : Option Arrangement → Option Pending → Arrangement → Arrangement
+newest_or (Some newest) waiting current = newest
+newest_or None (Some p) current = p.arrangement
+newest_or None None current = current
+
+abbrev pub newest_of : TxnValue → Arrangement
+newest_of d = newest_or d.newest d.waiting d.current
+
 -- ---- how the logic stores it
 
 abbrev pub txn_code : Coded TxnValue

@@ -2,9 +2,9 @@
 ghost use Rattle.std.specs.Prelude.{◌≡◌, ◌+◌, List};
 ghost use Rattle.wm_txn.specs.Commits.{asked, current, done, prefix, shown, waiting};
 ghost use Rattle.wm_txn.specs.Heard.{heard};
-ghost use Rattle.wm_txn.specs.History.{Opening, Entry};
+ghost use Rattle.wm_txn.specs.History.{arrangement, Opening, Entry};
 ghost use Rattle.wm_txn.specs.Stands.{Stands};
-ghost use Rattle.wm_txn.specs.Machine.{asked_of, shown_of, waiting_in};
+ghost use Rattle.wm_txn.specs.Machine.{asked_of, newest_of, shown_of, waiting_in};
 ghost use Rattle.wm_txn.specs.Windows.{find, has_acked};
 
 use crate::answers::Waiting;
@@ -46,6 +46,14 @@ impl Txn {
         &self.current
     }
 
+    /// The arrangement after the history, which nothing may have begun yet.
+    pub fn newest(&self) -> &Arrangement
+        ensures value { result.now ≡ newest_of self.now }
+        ensures history { (o : Opening) → (history : List Entry) → Stands o history self.now → result.now.parts ≡ arrangement o (heard o history) }
+    {
+        self.newest_of()
+    }
+
     /// The serial and the size of the latest configure of a window. `None` exactly where it is not open, or no
     /// transaction has configured it.
     pub fn asked(&self, view: ConId) -> Option<(u64, Size)>
@@ -69,6 +77,18 @@ impl Txn {
         match self.windows.get(view.0) {
             Some(held) => Some(held.shown_by(self.number)),
             None => self.gone.get(&view.0).copied(),
+        }
+    }
+
+    fn newest_of(&self) -> &Arrangement
+        ensures { result.now ≡ newest_of self.now }
+    {
+        if let Some(newest) = &self.newest {
+            return newest;
+        }
+        match &self.waiting {
+            Some(pending) => &pending.arrangement,
+            None => &self.current,
         }
     }
 
