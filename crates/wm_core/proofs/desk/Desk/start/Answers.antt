@@ -9,6 +9,10 @@ pub arrange-requires : goal.arrange-requires
 arrange-requires c =
     c.in_ok-tree.ensures.sound (rw c.items-outputs.ensures c.requires.some) (fit_plans c.args.plan.outputs c.items-outputs.result.now c.items-outputs.ensures c.requires.fit)
 
+pub window_count-windows-requires : goal.window_count-windows-requires
+window_count-windows-requires c =
+    c.in_ok-tree.ensures.sound (rw c.items-outputs.ensures c.requires.some) (fit_plans c.args.plan.outputs c.items-outputs.result.now c.items-outputs.ensures c.requires.fit)
+
 -- the opening has no windows
 pub start-requires-2 : goal.start-requires-2
 start-requires-2 c = no_content c.args.plan c.in_ok-tree.tree c.in_ok-first.first.parts (rw c.items-outputs.ensures at c.in_ok-tree.ensures.tree) c.in_ok-first.ensures.parts
