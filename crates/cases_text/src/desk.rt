@@ -26,13 +26,23 @@ const SPACE: ConId = ConId(3);
 /// Window 4 is the focused one; 7, 5 and 8 are urgent, in this order.
 pub fn desk(alloc: Global) -> Result<Tree, Fault> {
     let mut tree = one_space(alloc)?;
-    open_windows(alloc, &mut tree)?;
-    mark_some(alloc, &mut tree)?;
+    match furnish(alloc, &mut tree) {
+        Ok(()) => Ok(tree),
+        Err(fault) => {
+            drop(tree);
+            Err(fault)
+        }
+    }
+}
+
+fn furnish(alloc: Global, tree: &mut Tree) -> Result<(), Fault> {
+    open_windows(alloc, tree)?;
+    mark_some(alloc, tree)?;
     for con in [ConId(7), ConId(5), ConId(8)] {
         done(tree.add_urgent(con).err())?;
     }
     tree.raise(ConId(4));
-    Ok(tree)
+    Ok(())
 }
 
 fn one_space(alloc: Global) -> Result<Tree, Fault> {

@@ -78,8 +78,22 @@ fn tell_by<B: Build + Drop>(
         build,
         log: String::new(alloc),
     };
+    let done = tell_asked(alloc, text, name, &mut told, out);
+    drop(told);
+    done
+}
+
+fn tell_asked<B: Build>(
+    alloc: Global,
+    text: &str,
+    name: &str,
+    told: &mut Told<B>,
+    out: &mut String,
+) -> Result<(), Fault>
+    requires { length text.now < 2 ^ 32 }
+{
     write!(out, "  {name}: ")?;
-    tell_with(alloc, text, &mut told, out)?;
+    tell_with(alloc, text, told, out)?;
     write!(out, "; asked for{}\n", told.log)?;
     Ok(())
 }
@@ -93,25 +107,38 @@ fn tell_with<B: Build>(
     requires { length text.now < 2 ^ 32 }
 {
     let prepared = prepare(alloc, text, build)?;
-    push_verdict(out, &prepared)?;
+    let done = tell_with_copy(alloc, &prepared, out);
+    drop(prepared);
+    done
+}
+
+/// What is told of a text, and of a bare copy.
+fn tell_with_copy(alloc: Global, prepared: &Prepared, out: &mut String) -> Result<(), Fault> {
+    push_verdict(out, prepared)?;
     out.push_str("; copied ")?;
-    tell_copy(alloc, &prepared, out)
+    tell_copy(alloc, prepared, out)
 }
 
 /// What is told of a bare copy.
 fn tell_copy(alloc: Global, prepared: &Prepared, out: &mut String) -> Result<(), Fault> {
     let copy = prepared.bare(alloc)?;
-    push_verdict(out, &copy)?;
-    Ok(())
+    let done = push_verdict(out, &copy);
+    drop(copy);
+    Ok(done?)
 }
 
 /// What is told of a text that was read alone.
 fn tell_alone(alloc: Global, text: &str, out: &mut String) -> Result<(), Fault> {
     let alone = prepare_bare(alloc, text)?;
+    let done = push_alone(out, &alone);
+    drop(alone);
+    Ok(done?)
+}
+
+fn push_alone(out: &mut String, alone: &Prepared) -> Result<(), AllocError> {
     out.push_str("  alone: ")?;
-    push_verdict(out, &alone)?;
-    out.push_str("\n")?;
-    Ok(())
+    push_verdict(out, alone)?;
+    out.push_str("\n")
 }
 
 /// The verdict in words, and whether all that has to be built is.
