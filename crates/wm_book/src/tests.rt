@@ -39,10 +39,7 @@ fn shared<T: Sync>(value: &T) -> &T
 }
 
 /// A book of a recorded desk and its seat may go to other threads.
-fn sent_together(
-    book: Book<Recorded>,
-    seat: Seat<Recorded>,
-) -> (Book<Recorded>, Seat<Recorded>)
+fn sent_together(book: Book<Recorded>, seat: Seat<Recorded>) -> (Book<Recorded>, Seat<Recorded>)
     ensures { result ≡ (book, seat) }
 {
     let book = sent(book);

@@ -195,14 +195,7 @@ impl Desk {
         let noted = noted(&self.kills, asked, self.steps + 1)?;
         let newest = arrange(self.alloc, &tree)?;
         let windows = window_count(&tree);
-        let gone = closed(
-            self.alloc,
-            &self.tree,
-            self.windows,
-            &tree,
-            windows,
-            opened,
-        )?;
+        let gone = closed(self.alloc, &self.tree, self.windows, &tree, windows, opened)?;
         own(&mut self.owners, &tree, opened)?;
         if let Err(error) = self.txn.admit(self.steps, newest, opened, &gone) {
             disown(&mut self.owners, opened);
