@@ -5,8 +5,6 @@ mod book;
 mod entry;
 mod kept;
 mod recorded;
-#[cfg(test)]
-mod tests;
 
 pub use book::Book;
 pub use entry::Entry;
