@@ -1,7 +1,7 @@
 //! The calls that add, move and remove nodes.
 ghost use Rattle.cases_tree.specs.Desk.{Holds};
 ghost use Rattle.std.specs.Prelude.{◌≡◌, true};
-ghost use Rattle.wm_tree.specs.Place.{IsPlace};
+ghost use Rattle.wm_forest.specs.Place.{IsPlace};
 
 use crate::desk::{Desk, is_fit, plan};
 use crate::news::{placeholder, props_words, window};

@@ -1,6 +1,7 @@
 //! What the lines of a case act on: a tree, and what was kept of it and of its arrangement.
 ghost use Rattle.std.specs.Prelude.{◌≡◌, true, IfOk};
-ghost use Rattle.wm_tree.specs.Sound.{FitPlans, IsOutputRect, IsSound};
+ghost use Rattle.wm_tree.specs.Sound.{FitPlans, IsSound};
+ghost use Rattle.wm_forest.specs.SoundRow.{IsOutputRect};
 ghost use Rattle.cases_tree.specs.Desk.{Holds};
 
 use case_data::{Fault, Words};

@@ -20,27 +20,30 @@ use Rattle.wm_shared.specs.Rects.{rect_of}
 use Rattle.wm_shared.specs.Refusing.{full_error}
 use Rattle.wm_shared.specs.Showing.{followed, focusing, remembering, showing, showing_some, shown_on, shown_there, space_name, with_current}
 use Rattle.wm_shared.specs.Subject.{IsSubject, is_hidden}
-use Rattle.wm_tree.proofs.CountLemmas.{found_counted, there}
+use Rattle.wm_forest.proofs.CountLemmas.{found_counted, there}
 use Rattle.wm_tree.proofs.FocusLemmas.{current_there, outputs_of}
-use Rattle.wm_tree.proofs.LookLemmas.{seen-without}
+use Rattle.wm_forest.proofs.LookLemmas.{seen-without}
 use Rattle.wm_tree.proofs.MoveLemmas.{count-arriving, sound-moved}
-use Rattle.wm_tree.proofs.RecencyLemmas.{same_self}
-use Rattle.wm_tree.specs.Along.{gone_along, loosened, nowhere, sticky}
-use Rattle.wm_tree.specs.Change.{arriving, at, nobody, shown_of, unfull, without}
-use Rattle.wm_tree.specs.declared.kind.KindEdit.TheVariants as edits
-use Rattle.wm_tree.specs.declared.part.NodeKind.{NodeKind}
-use Rattle.wm_tree.specs.declared.part.NodeKind.TheVariants.{Root, Output, Space, Con}
-use Rattle.wm_tree.specs.declared.place.Place.TheVariants.{Float}
-use Rattle.wm_tree.specs.declared.spot.Spot.{Spot}
-use Rattle.wm_tree.specs.Forest.{Forest, end, con}
-use Rattle.wm_tree.specs.Look.{first_floats, first_kids, first_part, has, in_row, kind_by, kind_of, node_in, only, output_kind, same}
+use Rattle.wm_forest.proofs.RecencyLemmas.{same_self}
+use Rattle.wm_tree.specs.Along.{gone_along, nowhere}
+use Rattle.wm_forest.specs.Sticky.{loosened, sticky}
+use Rattle.wm_forest.specs.Change.{arriving, at, nobody, shown_of, unfull, without}
+use Rattle.wm_forest.specs.declared.kind.KindEdit.TheVariants as edits
+use Rattle.wm_forest.specs.declared.part.NodeKind.{NodeKind}
+use Rattle.wm_forest.specs.declared.part.NodeKind.TheVariants.{Root, Output, Space, Con}
+use Rattle.wm_forest.specs.declared.place.Place.TheVariants.{Float}
+use Rattle.wm_forest.specs.declared.spot.Spot.{Spot}
+use Rattle.wm_forest.specs.Forest.{Forest, end, con}
+use Rattle.wm_forest.specs.Look.{first_floats, first_kids, first_part, has, in_row, kind_by, kind_of, node_in, only, output_kind, same}
 use Rattle.wm_tree.specs.Move.{apart, moved, moved_share, passed_by_move}
-use Rattle.wm_tree.specs.Place.{put_word}
-use Rattle.wm_tree.specs.Recency.{lists}
+use Rattle.wm_forest.specs.Place.{put_word}
+use Rattle.wm_forest.specs.Recency.{lists}
 use Rattle.wm_tree.specs.Sets.{shown_by, with_shown}
-use Rattle.wm_tree.specs.Sound.{IsNode, IsSound, IsSoundRow, one_of, outputs, roots, spaces}
-use Rattle.wm_tree.specs.Spot.{room_below, space_at, space_by, spot_below, spot_in, spot_of, top}
-use Rattle.wm_tree.specs.TreeValue.{TreeValue, current, focused, or_id, parent, root, shown, workspace_of}
+use Rattle.wm_forest.specs.SoundRow.{IsNode, IsSoundRow, one_of, outputs, roots, spaces}
+use Rattle.wm_tree.specs.Sound.{IsSound}
+use Rattle.wm_forest.specs.Spot.{room_below, space_at, space_by, spot_below, spot_in, spot_of, top}
+use Rattle.wm_tree.specs.TreeValue.{TreeValue, current, focused, or_id, parent, shown, workspace_of}
+use Rattle.wm_forest.specs.RootId.{root}
 use Rattle.wm_tree.specs.Words.{with_raised}
 
 -- ---- a workspace is shown, and what is below it stays there

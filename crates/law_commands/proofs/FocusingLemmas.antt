@@ -23,18 +23,20 @@ use Rattle.wm_shared.specs.Subject.{is_space}
 use Rattle.wm_focus.specs.declared.rungs.Aim.{Aim}
 use Rattle.wm_focus.specs.declared.rungs.Aim.TheVariants.{Around, Beside, Out}
 use Rattle.wm_tree.proofs.AttachLemmas.{has_row}
-use Rattle.wm_tree.proofs.RecencyLemmas.{same_is, same_self}
-use Rattle.wm_tree.specs.Change.{is_end}
-use Rattle.wm_tree.specs.declared.part.NodeKind.{NodeKind}
-use Rattle.wm_tree.specs.declared.part.NodeKind.TheVariants.{Root, Output, Space, Con}
-use Rattle.wm_tree.specs.declared.part.Part.{Part}
-use Rattle.wm_tree.specs.Forest.{Forest, end, con}
-use Rattle.wm_tree.specs.Look.{first_kids, has, in_row, only, rest_of, same}
-use Rattle.wm_tree.specs.Recency.{first_held}
-use Rattle.wm_tree.specs.Sound.{IsSound, roots}
-use Rattle.wm_tree.specs.Spot.{top}
+use Rattle.wm_forest.proofs.RecencyLemmas.{same_is, same_self}
+use Rattle.wm_forest.specs.Change.{is_end}
+use Rattle.wm_forest.specs.declared.part.NodeKind.{NodeKind}
+use Rattle.wm_forest.specs.declared.part.NodeKind.TheVariants.{Root, Output, Space, Con}
+use Rattle.wm_forest.specs.declared.part.Part.{Part}
+use Rattle.wm_forest.specs.Forest.{Forest, end, con}
+use Rattle.wm_forest.specs.Look.{first_kids, has, in_row, only, rest_of, same}
+use Rattle.wm_forest.specs.Recency.{first_held}
+use Rattle.wm_tree.specs.Sound.{IsSound}
+use Rattle.wm_forest.specs.SoundRow.{roots}
+use Rattle.wm_forest.specs.Spot.{top}
 use Rattle.wm_tree.specs.Words.{with_raised}
-use Rattle.wm_tree.specs.TreeValue.{TreeValue, focused_child, follow, leaf, leaf_at, leaf_of, is_tiled_con, or_id, parent, row_holder, tiled_by, tiled_kids, workspace_of}
+use Rattle.wm_tree.specs.TreeValue.{TreeValue, focused_child, leaf, is_tiled_con, or_id, parent, workspace_of}
+use Rattle.wm_forest.specs.Focus.{follow, leaf_at, leaf_of, row_holder, tiled_by, tiled_kids}
 
 -- ---- tiled nodes
 

@@ -8,14 +8,17 @@ use Rattle.wm_base.specs.declared.ids.ConId.{ConId}
 use Rattle.wm_floats.specs.Rounds.{shift_tree, shifted_x, shifted_y}
 use Rattle.wm_floats.specs.Windows.{rect_set, restated, state_of}
 use Rattle.wm_grammar.specs.declared.arguments.SwapArg.{SwapArg}
-use Rattle.wm_tree.specs.Look.{same}
-use Rattle.wm_tree.specs.declared.part.ConState.{ConState}
-use Rattle.wm_tree.specs.declared.place.Place.TheVariants.{After}
-use Rattle.wm_tree.specs.declared.kind.KindEdit.TheVariants as edits
+use Rattle.wm_forest.specs.Look.{same}
+use Rattle.wm_forest.specs.declared.part.ConState.{ConState}
+use Rattle.wm_forest.specs.declared.place.Place.TheVariants.{After}
+use Rattle.wm_forest.specs.declared.kind.KindEdit.TheVariants as edits
 use Rattle.wm_tree.specs.Move.{apart, moved}
-use Rattle.wm_tree.specs.Outputs.{heir, left_to}
-use Rattle.wm_tree.specs.Sound.{IsSound, ranked, times}
-use Rattle.wm_tree.specs.TreeValue.{TreeValue, current, is_tiled_con, root, shown, workspace_of}
+use Rattle.wm_forest.specs.Taking.{heir}
+use Rattle.wm_tree.specs.Outputs.{left_to}
+use Rattle.wm_tree.specs.Sound.{IsSound}
+use Rattle.wm_forest.specs.SoundRow.{ranked, times}
+use Rattle.wm_tree.specs.TreeValue.{TreeValue, current, is_tiled_con, shown, workspace_of}
+use Rattle.wm_forest.specs.RootId.{root}
 use Rattle.wm_tree.specs.Words.{edited}
 use Rattle.wm_focus.specs.Moves.{beside, entry, held_out, is_split_con, move_dir_tree, near_end, out_tree, over_tree, space_over, step_tree, turned}
 use Rattle.wm_shared.specs.Outputs.{output_of}

@@ -8,17 +8,18 @@ use Rattle.law_commands.specs.Focusing.{DifferInFocus}
 use Rattle.wm_shared.specs.Subject.{is_space}
 use Rattle.wm_tree.proofs.AttachLemmas.{has_row}
 use Rattle.wm_tree.proofs.RaiseLemmas.{in_row-unfull}
-use Rattle.wm_tree.specs.Change.{at, nobody, raised_in, to_end, unfull, unfull_kind, without}
-use Rattle.wm_tree.specs.declared.part.NodeKind.{NodeKind}
-use Rattle.wm_tree.specs.declared.part.NodeKind.TheVariants.{Root, Output, Space, Con}
-use Rattle.wm_tree.specs.declared.part.Part.{Part}
-use Rattle.wm_tree.specs.Forest.{Forest, end, con}
-use Rattle.wm_tree.specs.Look.{con_kind, first_floats, first_part, has, in_row, kind_by, only, same, space_kind}
-use Rattle.wm_tree.specs.Recency.{raised, without_id}
-use Rattle.wm_tree.specs.Sound.{IsSound, IsSoundRow, Level, below, containers, roots, tally}
-use Rattle.wm_tree.specs.Spot.{room_below}
+use Rattle.wm_forest.specs.Change.{at, nobody, raised_in, to_end, unfull, unfull_kind, without, raised_at}
+use Rattle.wm_forest.specs.declared.part.NodeKind.{NodeKind}
+use Rattle.wm_forest.specs.declared.part.NodeKind.TheVariants.{Root, Output, Space, Con}
+use Rattle.wm_forest.specs.declared.part.Part.{Part}
+use Rattle.wm_forest.specs.Forest.{Forest, end, con}
+use Rattle.wm_forest.specs.Look.{con_kind, first_floats, first_part, has, in_row, kind_by, only, same, space_kind}
+use Rattle.wm_forest.specs.Recency.{raised, without_id}
+use Rattle.wm_tree.specs.Sound.{IsSound}
+use Rattle.wm_forest.specs.SoundRow.{IsSoundRow, Level, below, containers, roots, tally}
+use Rattle.wm_forest.specs.Spot.{room_below}
 use Rattle.wm_tree.specs.TreeValue.{TreeValue, workspace_of}
-use Rattle.wm_tree.specs.Words.{raised_at, with_raised}
+use Rattle.wm_tree.specs.Words.{with_raised}
 
 -- ---- what raising changes
 

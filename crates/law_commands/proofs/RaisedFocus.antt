@@ -9,19 +9,20 @@ use Rattle.wm_shared.proofs.SpaceOfLemmas.{IsLow, LowKind}
 use Rattle.wm_shared.proofs.StandingLemmas.{of_output, stands_has, stands_space}
 use Rattle.wm_shared.specs.Subject.{IsSubject, is_subject_kind}
 use Rattle.wm_tree.proofs.AttachLemmas.{has_row}
-use Rattle.wm_tree.proofs.OnceLemmas.{only_kids, only_rest}
+use Rattle.wm_forest.proofs.OnceLemmas.{only_kids, only_rest}
 use Rattle.wm_tree.proofs.OutputRows.{by_row}
 use Rattle.wm_tree.proofs.RaiseLemmas.{sound-raised}
-use Rattle.wm_tree.specs.Change.{at, raised_in}
-use Rattle.wm_tree.specs.declared.part.NodeKind.{NodeKind}
-use Rattle.wm_tree.specs.declared.part.NodeKind.TheVariants.{Root, Output, Space, Con}
-use Rattle.wm_tree.specs.declared.part.Part.{Part}
-use Rattle.wm_tree.specs.Forest.{Forest, end, con}
-use Rattle.wm_tree.specs.Look.{con_kind, first_alone, first_kids, first_part, has, in_row, kind_by, node_in, only, same, space_kind}
-use Rattle.wm_tree.specs.Recency.{first_held, lists, raised}
-use Rattle.wm_tree.specs.Sound.{IsSound, rank_of, ranked, ranks, tally, times}
+use Rattle.wm_forest.specs.Change.{at, raised_in, raised_at}
+use Rattle.wm_forest.specs.declared.part.NodeKind.{NodeKind}
+use Rattle.wm_forest.specs.declared.part.NodeKind.TheVariants.{Root, Output, Space, Con}
+use Rattle.wm_forest.specs.declared.part.Part.{Part}
+use Rattle.wm_forest.specs.Forest.{Forest, end, con}
+use Rattle.wm_forest.specs.Look.{con_kind, first_alone, first_kids, first_part, has, in_row, kind_by, node_in, only, same, space_kind}
+use Rattle.wm_forest.specs.Recency.{first_held, lists, raised}
+use Rattle.wm_tree.specs.Sound.{IsSound}
+use Rattle.wm_forest.specs.SoundRow.{rank_of, ranked, ranks, tally, times}
 use Rattle.wm_tree.specs.TreeValue.{TreeValue, current, focused, or_id, shown, shown_space}
-use Rattle.wm_tree.specs.Words.{raised_at, with_raised}
+use Rattle.wm_tree.specs.Words.{with_raised}
 
 -- ---- what stands in the workspace that is shown
 

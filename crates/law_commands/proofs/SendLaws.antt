@@ -12,23 +12,24 @@ use Rattle.wm_shared.specs.Subject.{is_container, is_space}
 use Rattle.wm_spaces.proofs.SendLemmas.{Ready, ready}
 use Rattle.wm_shared.proofs.KidLemmas.{con_there}
 use Rattle.wm_spaces.specs.Sending.{sent, sent_place, sent_refusal}
-use Rattle.wm_tree.proofs.CountLemmas.{count-without}
-use Rattle.wm_tree.proofs.LookLemmas.{seen-without}
+use Rattle.wm_forest.proofs.CountLemmas.{count-without}
+use Rattle.wm_forest.proofs.LookLemmas.{seen-without}
 use Rattle.wm_tree.proofs.MoveLemmas.{sound-moved}
 use Rattle.wm_tree.proofs.SoundLemmas.{gone-detached}
 use Rattle.wm_tree.specs.Along.{nowhere}
-use Rattle.wm_tree.specs.Change.{append, arriving, nobody, placed, unfull, unfull_kind, without}
-use Rattle.wm_tree.specs.declared.part.NodeKind.{NodeKind}
-use Rattle.wm_tree.specs.declared.part.NodeKind.TheVariants.{Root, Output, Space, Con}
-use Rattle.wm_tree.specs.declared.part.Part.{Part}
-use Rattle.wm_tree.specs.declared.place.Place.{Place}
-use Rattle.wm_tree.specs.declared.place.Place.TheVariants.{After, Before, First, Last, Float, Scratchpad}
-use Rattle.wm_tree.specs.Forest.{Forest, end, con}
-use Rattle.wm_tree.specs.Look.{con_kind, first_part, has, kind_by, kind_of, only, same}
+use Rattle.wm_forest.specs.Change.{append, arriving, nobody, placed, unfull, unfull_kind, without}
+use Rattle.wm_forest.specs.declared.part.NodeKind.{NodeKind}
+use Rattle.wm_forest.specs.declared.part.NodeKind.TheVariants.{Root, Output, Space, Con}
+use Rattle.wm_forest.specs.declared.part.Part.{Part}
+use Rattle.wm_forest.specs.declared.place.Place.{Place}
+use Rattle.wm_forest.specs.declared.place.Place.TheVariants.{After, Before, First, Last, Float, Scratchpad}
+use Rattle.wm_forest.specs.Forest.{Forest, end, con}
+use Rattle.wm_forest.specs.Look.{con_kind, first_part, has, kind_by, kind_of, only, same}
 use Rattle.wm_tree.specs.Move.{apart, moved, moved_share, passed_by_move}
-use Rattle.wm_tree.specs.Place.{named, put, put_word, rect_at}
-use Rattle.wm_tree.specs.Sound.{IsSound, one_of, tally}
-use Rattle.wm_tree.specs.Spot.{top}
+use Rattle.wm_forest.specs.Place.{named, put, put_word, rect_at}
+use Rattle.wm_tree.specs.Sound.{IsSound}
+use Rattle.wm_forest.specs.SoundRow.{one_of, tally}
+use Rattle.wm_forest.specs.Spot.{top}
 use Rattle.wm_tree.specs.TreeValue.{TreeValue}
 
 -- ---- a node that is put somewhere is found there

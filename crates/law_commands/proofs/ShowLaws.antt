@@ -9,20 +9,21 @@ use Rattle.wm_shared.specs.Showing.{followed, remembering, showing, shown_on, sh
 use Rattle.wm_spaces.proofs.AsideLemmas.{found_only}
 use Rattle.wm_spaces.proofs.MoveLemmas.{on_held}
 use Rattle.wm_tree.proofs.FocusLemmas.{root_first}
-use Rattle.wm_tree.proofs.RecencyLemmas.{same_self}
+use Rattle.wm_forest.proofs.RecencyLemmas.{same_self}
 use Rattle.wm_tree.specs.Along.{gone_along}
-use Rattle.wm_tree.specs.Change.{at, shown_of}
-use Rattle.wm_tree.specs.declared.kind.KindEdit.{KindEdit}
-use Rattle.wm_tree.specs.declared.kind.KindEdit.TheVariants as edits
-use Rattle.wm_tree.specs.declared.part.NodeKind.{NodeKind}
-use Rattle.wm_tree.specs.declared.part.NodeKind.TheVariants.{Root, Output, Space, Con}
-use Rattle.wm_tree.specs.declared.part.Part.{Part}
-use Rattle.wm_tree.specs.Forest.{Forest, end, con}
-use Rattle.wm_tree.specs.Kinds.{changed, kind_changed}
-use Rattle.wm_tree.specs.Look.{first_alone, first_part, has, kind_by, only, same}
+use Rattle.wm_forest.specs.Change.{at, shown_of}
+use Rattle.wm_forest.specs.declared.kind.KindEdit.{KindEdit}
+use Rattle.wm_forest.specs.declared.kind.KindEdit.TheVariants as edits
+use Rattle.wm_forest.specs.declared.part.NodeKind.{NodeKind}
+use Rattle.wm_forest.specs.declared.part.NodeKind.TheVariants.{Root, Output, Space, Con}
+use Rattle.wm_forest.specs.declared.part.Part.{Part}
+use Rattle.wm_forest.specs.Forest.{Forest, end, con}
+use Rattle.wm_forest.specs.Kinds.{changed, kind_changed}
+use Rattle.wm_forest.specs.Look.{first_alone, first_part, has, kind_by, only, same}
 use Rattle.wm_tree.specs.Sets.{shown_by, with_shown}
 use Rattle.wm_tree.specs.Sound.{IsSound}
-use Rattle.wm_tree.specs.TreeValue.{TreeValue, current_in, current_of, parent, root, shown}
+use Rattle.wm_tree.specs.TreeValue.{TreeValue, current_in, parent, shown}
+use Rattle.wm_forest.specs.RootId.{current_of, root}
 
 -- ---- edits that change nothing
 

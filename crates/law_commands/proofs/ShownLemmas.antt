@@ -8,24 +8,27 @@ use Rattle.wm_spaces.proofs.AsideLemmas.{aside}
 use Rattle.wm_spaces.proofs.MoveLemmas.{held_on, on_held}
 use Rattle.wm_tree.proofs.AttachLemmas.{has_row}
 use Rattle.wm_tree.proofs.FocusLemmas.{outputs_of}
-use Rattle.wm_tree.proofs.OnceLemmas.{at_kids}
+use Rattle.wm_forest.proofs.OnceLemmas.{at_kids}
 use Rattle.wm_tree.proofs.OutputLemmas.{yields}
 use Rattle.wm_tree.proofs.OutputRows.{by_row}
-use Rattle.wm_tree.specs.Along.{gone_along, loosened, nowhere, sticky}
-use Rattle.wm_tree.specs.Change.{at, nobody, raised_in, shown_of, unfull, unfull_kind}
-use Rattle.wm_tree.specs.declared.kind.KindEdit.TheVariants as edits
-use Rattle.wm_tree.specs.declared.part.NodeKind.{NodeKind}
-use Rattle.wm_tree.specs.declared.part.NodeKind.TheVariants.{Root, Output, Space, Con}
-use Rattle.wm_tree.specs.declared.part.Part.{Part}
-use Rattle.wm_tree.specs.declared.place.Place.TheVariants.{Float}
-use Rattle.wm_tree.specs.Forest.{Forest, end, con}
-use Rattle.wm_tree.specs.Kinds.{changed, kind_changed}
-use Rattle.wm_tree.specs.Look.{first_floats, first_kids, first_part, has, in_row, kind_by, node_in, only, same}
+use Rattle.wm_tree.specs.Along.{gone_along, nowhere}
+use Rattle.wm_forest.specs.Sticky.{loosened, sticky}
+use Rattle.wm_forest.specs.Change.{at, nobody, raised_in, shown_of, unfull, unfull_kind}
+use Rattle.wm_forest.specs.declared.kind.KindEdit.TheVariants as edits
+use Rattle.wm_forest.specs.declared.part.NodeKind.{NodeKind}
+use Rattle.wm_forest.specs.declared.part.NodeKind.TheVariants.{Root, Output, Space, Con}
+use Rattle.wm_forest.specs.declared.part.Part.{Part}
+use Rattle.wm_forest.specs.declared.place.Place.TheVariants.{Float}
+use Rattle.wm_forest.specs.Forest.{Forest, end, con}
+use Rattle.wm_forest.specs.Kinds.{changed, kind_changed}
+use Rattle.wm_forest.specs.Look.{first_floats, first_kids, first_part, has, in_row, kind_by, node_in, only, same}
 use Rattle.wm_tree.specs.Outputs.{IsOutput}
-use Rattle.wm_tree.specs.Place.{put_word}
+use Rattle.wm_forest.specs.Place.{put_word}
 use Rattle.wm_tree.specs.Sets.{shown_by, with_shown}
-use Rattle.wm_tree.specs.Sound.{IsNode, IsSound, IsSoundRow, outputs, roots, tally}
-use Rattle.wm_tree.specs.TreeValue.{TreeValue, current_in, current_of, parent}
+use Rattle.wm_forest.specs.SoundRow.{IsNode, IsSoundRow, outputs, roots, tally}
+use Rattle.wm_tree.specs.Sound.{IsSound}
+use Rattle.wm_tree.specs.TreeValue.{TreeValue, current_in, parent}
+use Rattle.wm_forest.specs.RootId.{current_of}
 use Rattle.wm_tree.specs.Words.{edited}
 
 -- ---- what is left of a tree without floating windows and fullscreen

@@ -5,21 +5,21 @@ use Rattle.wm_shared.proofs.DownLemmas.{Once, down_floats, down_kids, down_rest,
 use Rattle.wm_focus.proofs.OnlyLemmas.{found_there}
 use Rattle.law_commands.proofs.PartMaps.{Light, count-mapped, mapped, mapped-mapped, mapped_alike, mapped_all, only_mapped, put, put_back, replaced_leaf}
 use Rattle.wm_focus.proofs.TurnLemmas.{heads, heads_only}
-use Rattle.wm_tree.proofs.CountLemmas.{tally-absent}
+use Rattle.wm_forest.proofs.CountLemmas.{tally-absent}
 use Rattle.wm_tree.proofs.ExchangeSound.{Apart, Steps, count_filled, other_than_nobody, steps, zero_has}
 use Rattle.wm_tree.proofs.MoveLemmas.{count-arriving}
-use Rattle.wm_tree.proofs.RecencyLemmas.{same_is, same_self}
-use Rattle.wm_tree.specs.Change.{arriving, hole, nobody, placed, replaced, unfull_kind}
-use Rattle.wm_tree.specs.Counts.{row_length, share_of}
-use Rattle.wm_tree.specs.declared.kind.KindEdit.TheVariants as edits
-use Rattle.wm_tree.specs.declared.part.NodeKind.{NodeKind}
-use Rattle.wm_tree.specs.declared.part.NodeKind.TheVariants.{Root, Output, Space, Con}
-use Rattle.wm_tree.specs.declared.part.Part.{Part}
-use Rattle.wm_tree.specs.Forest.{Forest, end, con}
-use Rattle.wm_tree.specs.Kinds.{changed}
-use Rattle.wm_tree.specs.Look.{con_kind, first_part, has, only, same}
-use Rattle.wm_tree.specs.Move.{exchanged_nodes, holed}
-use Rattle.wm_tree.specs.Sound.{one_of, tally}
+use Rattle.wm_forest.proofs.RecencyLemmas.{same_is, same_self}
+use Rattle.wm_forest.specs.Change.{arriving, hole, nobody, placed, replaced, unfull_kind}
+use Rattle.wm_forest.specs.Counts.{row_length, share_of}
+use Rattle.wm_forest.specs.declared.kind.KindEdit.TheVariants as edits
+use Rattle.wm_forest.specs.declared.part.NodeKind.{NodeKind}
+use Rattle.wm_forest.specs.declared.part.NodeKind.TheVariants.{Root, Output, Space, Con}
+use Rattle.wm_forest.specs.declared.part.Part.{Part}
+use Rattle.wm_forest.specs.Forest.{Forest, end, con}
+use Rattle.wm_forest.specs.Kinds.{changed}
+use Rattle.wm_forest.specs.Look.{con_kind, first_part, has, only, same}
+use Rattle.wm_forest.specs.Exchange.{exchanged_nodes, holed}
+use Rattle.wm_forest.specs.SoundRow.{one_of, tally}
 use Rattle.wm_tree.specs.TreeValue.{is_con_kind}
 use Rattle.law_commands.specs.Turning.{is_full_part}
 

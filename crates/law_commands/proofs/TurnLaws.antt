@@ -22,26 +22,28 @@ use Rattle.wm_focus.proofs.TurnLemmas.{heads, heads_only}
 use Rattle.law_commands.proofs.TradeLemmas.{Leaves, came, came_back, came_con, came_share, first_id as first_own, leaves_traded, light, not_other, same_sym, second_id as second_own, share_kept, trade, trade_back, traded, was_a, was_b, was_same}
 use Rattle.law_commands.specs.Turning.{MovesBack, SwapsBack, opposite}
 use Rattle.wm_tree.proofs.AttachLemmas.{has_row}
-use Rattle.wm_tree.proofs.ForestLemmas.{only_absent}
-use Rattle.wm_tree.proofs.RecencyLemmas.{same_is, same_self}
-use Rattle.wm_tree.specs.Change.{at, is_id}
-use Rattle.wm_tree.specs.declared.kind.KindEdit.TheVariants as edits
-use Rattle.wm_tree.specs.declared.part.ConKind.{ConKind}
-use Rattle.wm_tree.specs.declared.part.ConKind.TheVariants.{Split, Window, Placeholder}
-use Rattle.wm_tree.specs.declared.part.ConPart.{ConPart}
-use Rattle.wm_tree.specs.declared.part.NodeKind.{NodeKind}
-use Rattle.wm_tree.specs.declared.part.NodeKind.TheVariants.{Root, Output, Space, Con}
-use Rattle.wm_tree.specs.declared.part.Part.{Part}
-use Rattle.wm_tree.specs.declared.spot.Spot.{Spot}
-use Rattle.wm_tree.specs.Counts.{share_of}
-use Rattle.wm_tree.specs.Forest.{Forest, end, con}
-use Rattle.wm_tree.specs.Kinds.{changed, kind_changed}
-use Rattle.wm_tree.specs.Look.{con_kind, first_floats, first_kids, first_part, has, in_row, kind_by, kind_of, only, rest_of, same}
-use Rattle.wm_tree.specs.Move.{apart as are_apart, exchanged, exchanged_nodes, same_space, share_by, share_in}
-use Rattle.wm_tree.specs.Sound.{IsNode, IsSoundRow, Level, below, containers, one_of, roots, tally}
-use Rattle.wm_tree.specs.Place.{is_tiled}
-use Rattle.wm_tree.specs.Spot.{room_below, spot_below, spot_in, spot_of, top}
-use Rattle.wm_tree.specs.TreeValue.{TreeValue, is_con, is_con_kind, is_tiled_con, is_tiled_spot, parent, tiled_by, tiled_kids, workspace_of}
+use Rattle.wm_forest.proofs.ForestLemmas.{only_absent}
+use Rattle.wm_forest.proofs.RecencyLemmas.{same_is, same_self}
+use Rattle.wm_forest.specs.Change.{at, is_id}
+use Rattle.wm_forest.specs.declared.kind.KindEdit.TheVariants as edits
+use Rattle.wm_forest.specs.declared.part.ConKind.{ConKind}
+use Rattle.wm_forest.specs.declared.part.ConKind.TheVariants.{Split, Window, Placeholder}
+use Rattle.wm_forest.specs.declared.part.ConPart.{ConPart}
+use Rattle.wm_forest.specs.declared.part.NodeKind.{NodeKind}
+use Rattle.wm_forest.specs.declared.part.NodeKind.TheVariants.{Root, Output, Space, Con}
+use Rattle.wm_forest.specs.declared.part.Part.{Part}
+use Rattle.wm_forest.specs.declared.spot.Spot.{Spot}
+use Rattle.wm_forest.specs.Counts.{share_of}
+use Rattle.wm_forest.specs.Forest.{Forest, end, con}
+use Rattle.wm_forest.specs.Kinds.{changed, kind_changed}
+use Rattle.wm_forest.specs.Look.{con_kind, first_floats, first_kids, first_part, has, in_row, kind_by, kind_of, only, rest_of, same}
+use Rattle.wm_tree.specs.Move.{apart as are_apart, exchanged, same_space, share_by, share_in}
+use Rattle.wm_forest.specs.Exchange.{exchanged_nodes}
+use Rattle.wm_forest.specs.SoundRow.{IsNode, IsSoundRow, Level, below, containers, one_of, roots, tally}
+use Rattle.wm_forest.specs.Place.{is_tiled}
+use Rattle.wm_forest.specs.Spot.{room_below, spot_below, spot_in, spot_of, top}
+use Rattle.wm_tree.specs.TreeValue.{TreeValue, is_con, is_con_kind, is_tiled_con, is_tiled_spot, parent, workspace_of}
+use Rattle.wm_forest.specs.Focus.{tiled_by, tiled_kids}
 
 -- ---- two children of a node stand alike
 

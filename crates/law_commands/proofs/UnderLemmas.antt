@@ -6,28 +6,28 @@ use Rattle.wm_base.specs.declared.ids.ConId.{ConId}
 use Rattle.wm_shared.proofs.SpaceLemmas.{IsSpaceIn}
 use Rattle.wm_shared.proofs.SpaceOfLemmas.{IsLow, LowKind, below_space}
 use Rattle.wm_tree.proofs.AlongLemmas.{has_loose}
-use Rattle.wm_tree.proofs.ChangeLemmas.{by_change}
-use Rattle.wm_tree.proofs.CountLemmas.{counted, there}
-use Rattle.wm_tree.proofs.LookLemmas.{none_of_four}
-use Rattle.wm_tree.proofs.OnceLemmas.{in_floats, in_kids, in_rest, only_floats, only_kids, only_rest}
+use Rattle.wm_forest.proofs.ChangeLemmas.{by_change}
+use Rattle.wm_forest.proofs.CountLemmas.{counted, there}
+use Rattle.wm_forest.proofs.LookLemmas.{none_of_four}
+use Rattle.wm_forest.proofs.OnceLemmas.{in_floats, in_kids, in_rest, only_floats, only_kids, only_rest}
 use Rattle.wm_tree.proofs.RaiseLemmas.{count-raised}
-use Rattle.wm_tree.proofs.RecencyLemmas.{same_is, same_self}
-use Rattle.wm_tree.specs.Along.{loose, loosened}
-use Rattle.wm_tree.specs.Change.{append, at, raised_in, to_end, unfull}
-use Rattle.wm_tree.specs.declared.kind.KindEdit.{KindEdit}
-use Rattle.wm_tree.specs.declared.part.NodeKind.{NodeKind}
-use Rattle.wm_tree.specs.declared.part.NodeKind.TheVariants.{Root, Output, Space, Con}
-use Rattle.wm_tree.specs.declared.part.Part.{Part}
-use Rattle.wm_tree.specs.declared.place.Place.TheVariants.{Float}
-use Rattle.wm_tree.specs.declared.spot.Spot.{Spot}
-use Rattle.wm_tree.specs.Forest.{Forest, end, con}
-use Rattle.wm_tree.specs.Kinds.{kind_changed}
-use Rattle.wm_tree.specs.Look.{first_part, has, kind_by, only, same, space_kind}
-use Rattle.wm_tree.specs.Place.{put_word}
-use Rattle.wm_tree.specs.Sound.{IsSound, one_of, tally}
-use Rattle.wm_tree.specs.Spot.{space_at, space_by, spot_below, spot_in, spot_of, top}
+use Rattle.wm_forest.proofs.RecencyLemmas.{same_is, same_self}
+use Rattle.wm_forest.specs.Sticky.{loose, loosened}
+use Rattle.wm_forest.specs.Change.{append, at, raised_in, to_end, unfull, raised_at}
+use Rattle.wm_forest.specs.declared.kind.KindEdit.{KindEdit}
+use Rattle.wm_forest.specs.declared.part.NodeKind.{NodeKind}
+use Rattle.wm_forest.specs.declared.part.NodeKind.TheVariants.{Root, Output, Space, Con}
+use Rattle.wm_forest.specs.declared.part.Part.{Part}
+use Rattle.wm_forest.specs.declared.place.Place.TheVariants.{Float}
+use Rattle.wm_forest.specs.declared.spot.Spot.{Spot}
+use Rattle.wm_forest.specs.Forest.{Forest, end, con}
+use Rattle.wm_forest.specs.Kinds.{kind_changed}
+use Rattle.wm_forest.specs.Look.{first_part, has, kind_by, only, same, space_kind}
+use Rattle.wm_forest.specs.Place.{put_word}
+use Rattle.wm_tree.specs.Sound.{IsSound}
+use Rattle.wm_forest.specs.SoundRow.{one_of, tally}
+use Rattle.wm_forest.specs.Spot.{space_at, space_by, spot_below, spot_in, spot_of, top}
 use Rattle.wm_tree.specs.TreeValue.{TreeValue, workspace_of}
-use Rattle.wm_tree.specs.Words.{raised_at}
 
 -- the node w is there, and c is below it, or is it
 pub record IsUnder (c w : ConId) (f : Forest) : Type 0 where

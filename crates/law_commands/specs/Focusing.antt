@@ -9,7 +9,7 @@ use Rattle.wm_focus.specs.Direction.{focus_dir_tree, goal_of}
 use Rattle.wm_focus.specs.Parents.{focus_child_tree, focus_parent_tree}
 use Rattle.wm_shared.specs.Showing.{showing_some}
 use Rattle.wm_shared.specs.Subject.{is_space}
-use Rattle.wm_tree.specs.Change.{nobody, unfull, without}
+use Rattle.wm_forest.specs.Change.{nobody, unfull, without}
 use Rattle.wm_tree.specs.Sound.{IsSound}
 use Rattle.wm_tree.specs.TreeValue.{TreeValue, focused_child, is_tiled_con, leaf, parent, workspace_of}
 

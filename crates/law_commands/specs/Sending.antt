@@ -4,9 +4,9 @@ use Rattle.wm_base.specs.declared.ids.ConId.{ConId}
 use Rattle.wm_shared.specs.Subject.{is_container, is_space}
 use Rattle.wm_spaces.specs.Sending.{sent, sent_refusal}
 use Rattle.wm_tree.specs.Along.{nowhere}
-use Rattle.wm_tree.specs.Change.{nobody, placed, unfull, unfull_kind}
-use Rattle.wm_tree.specs.Forest.{Forest, end, con}
-use Rattle.wm_tree.specs.Look.{only}
+use Rattle.wm_forest.specs.Change.{nobody, placed, unfull, unfull_kind}
+use Rattle.wm_forest.specs.Forest.{Forest, end, con}
+use Rattle.wm_forest.specs.Look.{only}
 use Rattle.wm_tree.specs.Sound.{IsSound}
 use Rattle.wm_tree.specs.TreeValue.{TreeValue}
 

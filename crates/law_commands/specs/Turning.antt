@@ -7,9 +7,9 @@ use Rattle.wm_focus.specs.Moves.{beside, is_split_con, move_dir_tree}
 use Rattle.wm_shared.specs.Subject.{is_container}
 use Rattle.wm_focus.specs.Swaps.{swap_tree}
 use Rattle.wm_grammar.specs.declared.arguments.SwapArg.TheVariants as swaps
-use Rattle.wm_tree.specs.declared.part.ConPart.{ConPart}
-use Rattle.wm_tree.specs.Forest.{end}
-use Rattle.wm_tree.specs.Look.{con_kind, first_floats, first_kids, kind_of, only, same}
+use Rattle.wm_forest.specs.declared.part.ConPart.{ConPart}
+use Rattle.wm_forest.specs.Forest.{end}
+use Rattle.wm_forest.specs.Look.{con_kind, first_floats, first_kids, kind_of, only, same}
 use Rattle.wm_tree.specs.Sound.{IsSound}
 use Rattle.wm_tree.specs.TreeValue.{TreeValue, is_tiled_con}
 

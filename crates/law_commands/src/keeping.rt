@@ -3,7 +3,8 @@ ghost use Rattle.std.specs.Prelude.{◌≡◌};
 ghost use Rattle.wm_base.specs.declared.ids.ConId.{ConId};
 ghost use Rattle.wm_shared.specs.Subject.{IsSubject};
 ghost use Rattle.wm_tree.specs.Outputs.{IsOutput};
-ghost use Rattle.wm_tree.specs.Sound.{IsSound, ranked};
+ghost use Rattle.wm_tree.specs.Sound.{IsSound};
+ghost use Rattle.wm_forest.specs.SoundRow.{ranked};
 
 use wm_base::{ConId, Dir, Refusal, Text};
 use wm_focus::{move_dir, move_to_mark, swap};

@@ -27,17 +27,18 @@ use Rattle.wm_layouts.specs.declared.plan.Plan.{Plan}
 use Rattle.wm_layouts.specs.Plan.{IsSound as IsSoundPlan, is_fit_rect}
 use Rattle.wm_spaces.specs.Coming.{free_name, output_added_tree}
 use Rattle.wm_spaces.specs.Names.{output_named}
-use Rattle.wm_tree.proofs.ForestLemmas.{at_absent, only_absent, outside_end}
+use Rattle.wm_forest.proofs.ForestLemmas.{at_absent, only_absent, outside_end}
 use Rattle.wm_tree.proofs.OutputLemmas.{sound-with_output}
 use Rattle.wm_tree.proofs.StartLemmas.{sound-opening}
-use Rattle.wm_tree.specs.declared.place.NewCon.TheVariants as new
-use Rattle.wm_tree.specs.Change.{without}
-use Rattle.wm_tree.specs.Forest.{end}
-use Rattle.wm_tree.specs.Look.{con_kind, has, kind_of, only}
+use Rattle.wm_forest.specs.declared.place.NewCon.TheVariants as new
+use Rattle.wm_forest.specs.Change.{without}
+use Rattle.wm_forest.specs.Forest.{end}
+use Rattle.wm_forest.specs.Look.{con_kind, has, kind_of, only}
 use Rattle.wm_tree.specs.Outputs.{passed_by_output}
-use Rattle.wm_tree.specs.Recency.{lists, outside, without_id}
+use Rattle.wm_forest.specs.Recency.{lists, outside, without_id}
 use Rattle.wm_tree.specs.Sound.{IsSound}
-use Rattle.wm_tree.specs.TreeValue.{TreeValue, id, newcomer_place, workspace_of}
+use Rattle.wm_tree.specs.TreeValue.{TreeValue, newcomer_place, workspace_of}
+use Rattle.wm_forest.specs.RootId.{id}
 use Rattle.wm_tree.specs.Words.{attached, detached, settled}
 
 -- ---- nodes that are not there

@@ -13,25 +13,26 @@ use Rattle.law_fullscreen.proofs.WithinLemmas.{cond_most, space_in, within-most}
 use Rattle.law_fullscreen.proofs.WordLemmas.{space_changed}
 use Rattle.law_fullscreen.specs.Fullscreen.{full_count, full_of, within}
 use Rattle.law_fullscreen.specs.Laws.{FillingFillsAlone}
-use Rattle.wm_tree.proofs.CountLemmas.{count-same, count-without, counted, tally-absent}
-use Rattle.wm_tree.proofs.ForestLemmas.{only_absent}
+use Rattle.wm_forest.proofs.CountLemmas.{count-same, count-without, counted, tally-absent}
+use Rattle.wm_forest.proofs.ForestLemmas.{only_absent}
 use Rattle.wm_tree.proofs.RaiseLemmas.{count-unfull, unfull_one}
-use Rattle.wm_tree.proofs.RecencyLemmas.{same_self}
-use Rattle.wm_tree.specs.Change.{at, is_id, unfull, unfull_kind, without}
-use Rattle.wm_tree.specs.Counts.{count, one_con}
-use Rattle.wm_tree.specs.declared.kind.KindEdit.TheVariants as edits
-use Rattle.wm_tree.specs.declared.part.ConPart.{ConPart}
-use Rattle.wm_tree.specs.declared.part.ConState.{ConState}
-use Rattle.wm_tree.specs.declared.part.NodeKind.{NodeKind}
-use Rattle.wm_tree.specs.declared.part.NodeKind.TheVariants.{Root, Output, Space, Con}
-use Rattle.wm_tree.specs.declared.part.Part.{Part}
-use Rattle.wm_tree.specs.declared.part.SpacePart.{SpacePart}
-use Rattle.wm_tree.specs.declared.spot.Spot.{Spot}
-use Rattle.wm_tree.specs.Forest.{Forest, end, con}
-use Rattle.wm_tree.specs.Kinds.{changed, kind_changed}
-use Rattle.wm_tree.specs.Look.{con_kind, first_part, has, kind_by, kind_of, only, same, space_kind}
-use Rattle.wm_tree.specs.Sound.{IsSound, one_of, tally}
-use Rattle.wm_tree.specs.Spot.{space_at, spot_below, spot_in, spot_of, top}
+use Rattle.wm_forest.proofs.RecencyLemmas.{same_self}
+use Rattle.wm_forest.specs.Change.{at, is_id, unfull, unfull_kind, without}
+use Rattle.wm_forest.specs.Counts.{count, one_con}
+use Rattle.wm_forest.specs.declared.kind.KindEdit.TheVariants as edits
+use Rattle.wm_forest.specs.declared.part.ConPart.{ConPart}
+use Rattle.wm_forest.specs.declared.part.ConState.{ConState}
+use Rattle.wm_forest.specs.declared.part.NodeKind.{NodeKind}
+use Rattle.wm_forest.specs.declared.part.NodeKind.TheVariants.{Root, Output, Space, Con}
+use Rattle.wm_forest.specs.declared.part.Part.{Part}
+use Rattle.wm_forest.specs.declared.part.SpacePart.{SpacePart}
+use Rattle.wm_forest.specs.declared.spot.Spot.{Spot}
+use Rattle.wm_forest.specs.Forest.{Forest, end, con}
+use Rattle.wm_forest.specs.Kinds.{changed, kind_changed}
+use Rattle.wm_forest.specs.Look.{con_kind, first_part, has, kind_by, kind_of, only, same, space_kind}
+use Rattle.wm_tree.specs.Sound.{IsSound}
+use Rattle.wm_forest.specs.SoundRow.{one_of, tally}
+use Rattle.wm_forest.specs.Spot.{space_at, spot_below, spot_in, spot_of, top}
 use Rattle.wm_tree.specs.TreeValue.{TreeValue, workspace_of}
 
 -- ---- what a change leaves counts

@@ -6,21 +6,23 @@ use Rattle.law_fullscreen.proofs.RowLemmas.{within-arriving, within-away}
 use Rattle.law_fullscreen.proofs.WithinLemmas.{space_free, space_in, within-most, within_swap}
 use Rattle.law_fullscreen.proofs.WordLemmas.{single}
 use Rattle.law_fullscreen.specs.Fullscreen.{IsSingle, full_of, within}
-use Rattle.wm_tree.proofs.ChangeLemmas.{by_place}
-use Rattle.wm_tree.proofs.CountLemmas.{count-without}
+use Rattle.wm_forest.proofs.ChangeLemmas.{by_place}
+use Rattle.wm_forest.proofs.CountLemmas.{count-without}
 use Rattle.wm_tree.proofs.ExchangeSound.{Apart, Steps, found_one, steps, zero_has}
-use Rattle.wm_tree.proofs.LookLemmas.{none_of_four}
+use Rattle.wm_forest.proofs.LookLemmas.{none_of_four}
 use Rattle.wm_tree.proofs.MoveLemmas.{found_alone, row_length-arriving}
-use Rattle.wm_tree.proofs.StandLemmas.{HasSpot, has_spot}
-use Rattle.wm_tree.specs.Change.{arriving, hole, in_place, nobody, replaced}
-use Rattle.wm_tree.specs.Counts.{row_length}
-use Rattle.wm_tree.specs.declared.part.Part.{Part}
-use Rattle.wm_tree.specs.declared.spot.Spot.{Spot}
-use Rattle.wm_tree.specs.Forest.{Forest, end, con}
-use Rattle.wm_tree.specs.Look.{first_part, has, kind_by, only, same, space_kind}
-use Rattle.wm_tree.specs.Move.{IsExchange, apart, exchanged, exchanged_nodes, holed, share_in}
-use Rattle.wm_tree.specs.Sound.{IsSound, Level, containers, one_of, tally}
-use Rattle.wm_tree.specs.Spot.{space_at, spot_in, top}
+use Rattle.wm_forest.proofs.StandLemmas.{HasSpot, has_spot}
+use Rattle.wm_forest.specs.Change.{arriving, hole, in_place, nobody, replaced}
+use Rattle.wm_forest.specs.Counts.{row_length}
+use Rattle.wm_forest.specs.declared.part.Part.{Part}
+use Rattle.wm_forest.specs.declared.spot.Spot.{Spot}
+use Rattle.wm_forest.specs.Forest.{Forest, end, con}
+use Rattle.wm_forest.specs.Look.{first_part, has, kind_by, only, same, space_kind}
+use Rattle.wm_tree.specs.Move.{IsExchange, apart, exchanged, share_in}
+use Rattle.wm_forest.specs.Exchange.{exchanged_nodes, holed}
+use Rattle.wm_tree.specs.Sound.{IsSound}
+use Rattle.wm_forest.specs.SoundRow.{Level, containers, one_of, tally}
+use Rattle.wm_forest.specs.Spot.{space_at, spot_in, top}
 use Rattle.wm_tree.specs.TreeValue.{TreeValue, workspace_of}
 
 -- ---- a node in the place of another

@@ -9,16 +9,17 @@ use Rattle.law_fullscreen.proofs.RowLemmas.{full_but, unfull_none, within-split,
 use Rattle.law_fullscreen.proofs.WithinLemmas.{cond_most, within-most, within_at}
 use Rattle.law_fullscreen.proofs.WordLemmas.{changed_most, one_full_set_off}
 use Rattle.law_fullscreen.specs.Fullscreen.{IsSingle, full_of, within}
-use Rattle.wm_tree.proofs.RecencyLemmas.{same_is}
-use Rattle.wm_tree.specs.Change.{at, is_id, unfull_kind}
-use Rattle.wm_tree.specs.declared.kind.KindEdit.TheVariants as edits
-use Rattle.wm_tree.specs.declared.part.ConState.{ConState}
-use Rattle.wm_tree.specs.declared.part.Part.{Part}
-use Rattle.wm_tree.specs.Forest.{Forest, end, con}
-use Rattle.wm_tree.specs.Kinds.{changed, kind_changed}
-use Rattle.wm_tree.specs.Look.{same}
-use Rattle.wm_tree.specs.Sound.{IsSound, one_of}
-use Rattle.wm_tree.specs.Spot.{space_at, top}
+use Rattle.wm_forest.proofs.RecencyLemmas.{same_is}
+use Rattle.wm_forest.specs.Change.{at, is_id, unfull_kind}
+use Rattle.wm_forest.specs.declared.kind.KindEdit.TheVariants as edits
+use Rattle.wm_forest.specs.declared.part.ConState.{ConState}
+use Rattle.wm_forest.specs.declared.part.Part.{Part}
+use Rattle.wm_forest.specs.Forest.{Forest, end, con}
+use Rattle.wm_forest.specs.Kinds.{changed, kind_changed}
+use Rattle.wm_forest.specs.Look.{same}
+use Rattle.wm_tree.specs.Sound.{IsSound}
+use Rattle.wm_forest.specs.SoundRow.{one_of}
+use Rattle.wm_forest.specs.Spot.{space_at, top}
 use Rattle.wm_tree.specs.TreeValue.{TreeValue, workspace_of}
 
 -- ---- what neither change adds

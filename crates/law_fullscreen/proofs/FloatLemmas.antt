@@ -13,8 +13,8 @@ use Rattle.wm_floats.specs.Windows.{flag_set, natural_of, window_refusal}
 use Rattle.law_fullscreen.proofs.SingleLemmas.{Single, single_moved, single_reset}
 use Rattle.wm_shared.specs.Refusing.{full_error}
 use Rattle.wm_shared.specs.Rects.{rect_of}
-use Rattle.wm_tree.specs.declared.part.ConState.{ConState}
-use Rattle.wm_tree.specs.declared.place.Place.TheVariants.{Scratchpad}
+use Rattle.wm_forest.specs.declared.part.ConState.{ConState}
+use Rattle.wm_forest.specs.declared.place.Place.TheVariants.{Scratchpad}
 use Rattle.wm_tree.specs.Move.{moved, passed_by_move}
 use Rattle.wm_tree.specs.Sound.{IsSound}
 use Rattle.wm_tree.specs.TreeValue.{TreeValue, is_tiled_con, workspace_of}

@@ -5,18 +5,18 @@ use Rattle.wm_floats.specs.Fullscreen.{is_full, unfull_but}
 use Rattle.law_fullscreen.proofs.RowLemmas.{full_but, others-unfull}
 use Rattle.law_fullscreen.proofs.WithinLemmas.{space_in, within-most}
 use Rattle.law_fullscreen.specs.Fullscreen.{within}
-use Rattle.wm_tree.proofs.CountLemmas.{counted, tally-absent}
-use Rattle.wm_tree.proofs.RecencyLemmas.{same_is, same_self}
-use Rattle.wm_tree.specs.Change.{at, is_id}
-use Rattle.wm_tree.specs.Counts.{count, one_space}
-use Rattle.wm_tree.specs.declared.part.NodeKind.{NodeKind}
-use Rattle.wm_tree.specs.declared.part.NodeKind.TheVariants.{Root, Output, Space, Con}
-use Rattle.wm_tree.specs.declared.part.Part.{Part}
-use Rattle.wm_tree.specs.declared.spot.Spot.{Spot}
-use Rattle.wm_tree.specs.Forest.{Forest, end, con}
-use Rattle.wm_tree.specs.Look.{has, same}
-use Rattle.wm_tree.specs.Sound.{one_of, tally}
-use Rattle.wm_tree.specs.Spot.{space_at, space_by, spot_below, spot_in, spot_of}
+use Rattle.wm_forest.proofs.CountLemmas.{counted, tally-absent}
+use Rattle.wm_forest.proofs.RecencyLemmas.{same_is, same_self}
+use Rattle.wm_forest.specs.Change.{at, is_id}
+use Rattle.wm_forest.specs.Counts.{count, one_space}
+use Rattle.wm_forest.specs.declared.part.NodeKind.{NodeKind}
+use Rattle.wm_forest.specs.declared.part.NodeKind.TheVariants.{Root, Output, Space, Con}
+use Rattle.wm_forest.specs.declared.part.Part.{Part}
+use Rattle.wm_forest.specs.declared.spot.Spot.{Spot}
+use Rattle.wm_forest.specs.Forest.{Forest, end, con}
+use Rattle.wm_forest.specs.Look.{has, same}
+use Rattle.wm_forest.specs.SoundRow.{one_of, tally}
+use Rattle.wm_forest.specs.Spot.{space_at, space_by, spot_below, spot_in, spot_of}
 
 -- ---- what stands in a workspace that is not there
 

@@ -4,19 +4,20 @@ use Rattle.wm_base.specs.declared.ids.ConId.{ConId}
 use Rattle.law_fullscreen.proofs.FullLemmas.{space_id, spaces_tallied, within-none}
 use Rattle.law_fullscreen.proofs.WithinLemmas.{space_in, within-most, within-without}
 use Rattle.law_fullscreen.specs.Fullscreen.{HasOne, IsSingle, full_count, full_of, within}
-use Rattle.wm_tree.proofs.CountLemmas.{count-without, found_counted, tally-absent}
+use Rattle.wm_forest.proofs.CountLemmas.{count-without, found_counted, tally-absent}
 use Rattle.wm_tree.proofs.MoveLemmas.{found_alone}
-use Rattle.wm_tree.proofs.RecencyLemmas.{same_is, same_self}
+use Rattle.wm_forest.proofs.RecencyLemmas.{same_is, same_self}
 use Rattle.wm_tree.proofs.SpaceRows.{found_space}
-use Rattle.wm_tree.specs.Change.{is_id, without}
-use Rattle.wm_tree.specs.Counts.{count, one_space, row_length}
-use Rattle.wm_tree.specs.declared.part.NodeKind.{NodeKind}
-use Rattle.wm_tree.specs.declared.part.NodeKind.TheVariants.{Root, Output, Space, Con}
-use Rattle.wm_tree.specs.declared.part.SpacePart.{SpacePart}
-use Rattle.wm_tree.specs.Forest.{Forest, end, con}
-use Rattle.wm_tree.specs.Look.{first_part, has, kind_by, kind_of, only, same, space_kind}
-use Rattle.wm_tree.specs.Sound.{IsNode, IsSound, IsSoundRow, containers, one_of, spaces, tally}
-use Rattle.wm_tree.specs.Spot.{room_below, space_at, space_by, spot_in, top}
+use Rattle.wm_forest.specs.Change.{is_id, without}
+use Rattle.wm_forest.specs.Counts.{count, one_space, row_length}
+use Rattle.wm_forest.specs.declared.part.NodeKind.{NodeKind}
+use Rattle.wm_forest.specs.declared.part.NodeKind.TheVariants.{Root, Output, Space, Con}
+use Rattle.wm_forest.specs.declared.part.SpacePart.{SpacePart}
+use Rattle.wm_forest.specs.Forest.{Forest, end, con}
+use Rattle.wm_forest.specs.Look.{first_part, has, kind_by, kind_of, only, same, space_kind}
+use Rattle.wm_forest.specs.SoundRow.{IsNode, IsSoundRow, containers, one_of, spaces, tally}
+use Rattle.wm_tree.specs.Sound.{IsSound}
+use Rattle.wm_forest.specs.Spot.{room_below, space_at, space_by, spot_in, top}
 use Rattle.wm_tree.specs.TreeValue.{TreeValue}
 
 -- the first node of the row, if there is one, is c

@@ -16,8 +16,8 @@ use Rattle.law_fullscreen.specs.Fullscreen.{HasOne, IsSingle, full_of}
 use Rattle.law_fullscreen.specs.Laws.{AddedOutputsKeepOne, AddedSpacesKeepOne, ClosingKeepsOne, CountsAgree, ExchangingKeepsOne, FillingKeepsOne, GoingAlongKeepsOne, MappingKeepsOne, MovedSpacesKeepOne, MovingKeepsOne, OpeningsHaveOne, RaisingKeepsOne, RemovedOutputsKeepOne, SettlingKeepsOne, WrappingKeepsOne}
 use Rattle.wm_tree.proofs.AlongLemmas.{along_by}
 use Rattle.wm_tree.proofs.AttachLemmas.{sound-attached}
-use Rattle.wm_tree.proofs.CountLemmas.{count-without}
-use Rattle.wm_tree.proofs.EditLemmas.{fits_state}
+use Rattle.wm_forest.proofs.CountLemmas.{count-without}
+use Rattle.wm_forest.proofs.EditLemmas.{fits_state}
 use Rattle.wm_tree.proofs.ExchangeSound.{sound-exchanged}
 use Rattle.wm_tree.proofs.MoveLemmas.{sound-moved}
 use Rattle.wm_tree.proofs.OutputLemmas.{sound-with_output, sound-without_output}
@@ -28,14 +28,14 @@ use Rattle.wm_tree.proofs.SpaceLemmas.{has_output, sound-space_moved, sound-with
 use Rattle.wm_tree.proofs.SoundLemmas.{sound-detached, sound-edited}
 use Rattle.wm_tree.proofs.WrapLemmas.{sound-wrapped}
 use Rattle.wm_tree.specs.Along.{gone_along}
-use Rattle.wm_tree.specs.declared.kind.KindEdit.TheVariants as edits
-use Rattle.wm_tree.specs.declared.part.ConState.{ConState}
-use Rattle.wm_tree.specs.declared.place.NewCon.TheVariants as new
-use Rattle.wm_tree.specs.Look.{first_kids, only}
+use Rattle.wm_forest.specs.declared.kind.KindEdit.TheVariants as edits
+use Rattle.wm_forest.specs.declared.part.ConState.{ConState}
+use Rattle.wm_forest.specs.declared.place.NewCon.TheVariants as new
+use Rattle.wm_forest.specs.Look.{first_kids, only}
 use Rattle.wm_tree.specs.Move.{exchanged, moved, wrapped}
 use Rattle.wm_tree.specs.Outputs.{space_moved, with_output, with_space, without_output}
 use Rattle.wm_tree.specs.Sound.{IsSound}
-use Rattle.wm_tree.specs.Spot.{spot_in, top}
+use Rattle.wm_forest.specs.Spot.{spot_in, top}
 use Rattle.wm_tree.specs.TreeValue.{TreeValue, newcomer_place, opening, workspace_of}
 use Rattle.wm_tree.specs.Words.{attached, detached, settled, with_raised}
 

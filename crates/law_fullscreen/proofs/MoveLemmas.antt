@@ -6,26 +6,28 @@ use Rattle.law_fullscreen.proofs.RowLemmas.{within-arriving, within-away, within
 use Rattle.law_fullscreen.proofs.WithinLemmas.{space_free, space_in, within-append, within-without, within_add, within_at}
 use Rattle.law_fullscreen.proofs.WordLemmas.{single}
 use Rattle.law_fullscreen.specs.Fullscreen.{IsSingle, full_of, within}
-use Rattle.wm_tree.proofs.CountLemmas.{count-without}
-use Rattle.wm_tree.proofs.LookLemmas.{seen-without}
+use Rattle.wm_forest.proofs.CountLemmas.{count-without}
+use Rattle.wm_forest.proofs.LookLemmas.{seen-without}
 use Rattle.wm_tree.proofs.MoveLemmas.{found_alone}
-use Rattle.wm_tree.proofs.RecencyLemmas.{same_is}
-use Rattle.wm_tree.specs.Along.{gone_along, is_sticky, loose, loosened, nowhere, sticky}
-use Rattle.wm_tree.specs.Change.{arriving, at, is_id, nobody, unfull, without}
-use Rattle.wm_tree.specs.Counts.{count, row_length}
-use Rattle.wm_tree.specs.declared.part.NodeKind.{NodeKind}
-use Rattle.wm_tree.specs.declared.part.NodeKind.TheVariants.{Root, Output, Space, Con}
-use Rattle.wm_tree.specs.declared.part.Part.{Part}
-use Rattle.wm_tree.specs.declared.place.Place.{Place}
-use Rattle.wm_tree.specs.declared.place.Place.TheVariants.{After, Before, First, Last, Float, Scratchpad}
-use Rattle.wm_tree.specs.declared.spot.Spot.{Spot}
-use Rattle.wm_tree.specs.Forest.{Forest, end, con}
-use Rattle.wm_tree.specs.Look.{con_kind, first_floats, first_part, has, kind_by, kind_of, only, space_kind}
+use Rattle.wm_forest.proofs.RecencyLemmas.{same_is}
+use Rattle.wm_tree.specs.Along.{gone_along, nowhere}
+use Rattle.wm_forest.specs.Sticky.{is_sticky, loose, loosened, sticky}
+use Rattle.wm_forest.specs.Change.{arriving, at, is_id, nobody, unfull, without}
+use Rattle.wm_forest.specs.Counts.{count, row_length}
+use Rattle.wm_forest.specs.declared.part.NodeKind.{NodeKind}
+use Rattle.wm_forest.specs.declared.part.NodeKind.TheVariants.{Root, Output, Space, Con}
+use Rattle.wm_forest.specs.declared.part.Part.{Part}
+use Rattle.wm_forest.specs.declared.place.Place.{Place}
+use Rattle.wm_forest.specs.declared.place.Place.TheVariants.{After, Before, First, Last, Float, Scratchpad}
+use Rattle.wm_forest.specs.declared.spot.Spot.{Spot}
+use Rattle.wm_forest.specs.Forest.{Forest, end, con}
+use Rattle.wm_forest.specs.Look.{con_kind, first_floats, first_part, has, kind_by, kind_of, only, space_kind}
 use Rattle.wm_tree.specs.Move.{apart, moved, moved_share, same_space}
 use Rattle.wm_tree.specs.Outputs.{space_moved}
-use Rattle.wm_tree.specs.Place.{IsPlace, named, put, put_word, rect_at}
-use Rattle.wm_tree.specs.Sound.{IsSound, one_of, tally}
-use Rattle.wm_tree.specs.Spot.{space_at, spot_in, top}
+use Rattle.wm_forest.specs.Place.{IsPlace, named, put, put_word, rect_at}
+use Rattle.wm_tree.specs.Sound.{IsSound}
+use Rattle.wm_forest.specs.SoundRow.{one_of, tally}
+use Rattle.wm_forest.specs.Spot.{space_at, spot_in, top}
 use Rattle.wm_tree.specs.TreeValue.{TreeValue, workspace_of}
 
 -- ---- putting a row at a place

@@ -8,27 +8,30 @@ use Rattle.law_fullscreen.proofs.WithinLemmas.{space_free, space_in, within-appe
 use Rattle.law_fullscreen.proofs.WordLemmas.{one_edited, single}
 use Rattle.law_fullscreen.specs.Fullscreen.{IsSingle, full_of, within}
 use Rattle.wm_tree.proofs.AttachLemmas.{has_row}
-use Rattle.wm_tree.proofs.CountLemmas.{count-without}
-use Rattle.wm_tree.proofs.EditLemmas.{fits_current}
+use Rattle.wm_forest.proofs.CountLemmas.{count-without}
+use Rattle.wm_forest.proofs.EditLemmas.{fits_current}
 use Rattle.wm_tree.proofs.FocusLemmas.{outputs_of, root_kids}
-use Rattle.wm_tree.proofs.OnceLemmas.{at_kids, spot_kids, spot_rest}
+use Rattle.wm_forest.proofs.OnceLemmas.{at_kids, spot_kids, spot_rest}
 use Rattle.wm_tree.proofs.OutputLemmas.{yields}
 use Rattle.wm_tree.proofs.OutputRows.{but_only, first_there, output_found, row_left}
 use Rattle.wm_tree.proofs.SoundLemmas.{sound-edited}
-use Rattle.wm_tree.proofs.StandLemmas.{sound-but}
-use Rattle.wm_tree.specs.Change.{append, at, without}
-use Rattle.wm_tree.specs.Counts.{but, count}
-use Rattle.wm_tree.specs.declared.kind.KindEdit.TheVariants as edits
-use Rattle.wm_tree.specs.declared.part.NodeKind.{NodeKind}
-use Rattle.wm_tree.specs.declared.part.NodeKind.TheVariants.{Root, Output, Space, Con}
-use Rattle.wm_tree.specs.declared.part.Part.{Part}
-use Rattle.wm_tree.specs.declared.spot.Spot.{Spot}
-use Rattle.wm_tree.specs.Forest.{Forest, end, con}
-use Rattle.wm_tree.specs.Look.{first_floats, first_kids, first_part, in_row, kind_by, only, output_kind, same, space_kind}
-use Rattle.wm_tree.specs.Outputs.{IsOutput, handed_on, heir, left_to, taking_in, without_output, yielded}
-use Rattle.wm_tree.specs.Sound.{IsNode, IsSound, IsSoundRow, one_of, outputs, roots, tally}
-use Rattle.wm_tree.specs.Spot.{space_at, spot_below, spot_in, top}
-use Rattle.wm_tree.specs.TreeValue.{TreeValue, current, opening, opening_outputs, root}
+use Rattle.wm_forest.proofs.StandLemmas.{sound-but}
+use Rattle.wm_forest.specs.Change.{append, at, without}
+use Rattle.wm_forest.specs.Counts.{but, count}
+use Rattle.wm_forest.specs.declared.kind.KindEdit.TheVariants as edits
+use Rattle.wm_forest.specs.declared.part.NodeKind.{NodeKind}
+use Rattle.wm_forest.specs.declared.part.NodeKind.TheVariants.{Root, Output, Space, Con}
+use Rattle.wm_forest.specs.declared.part.Part.{Part}
+use Rattle.wm_forest.specs.declared.spot.Spot.{Spot}
+use Rattle.wm_forest.specs.Forest.{Forest, end, con}
+use Rattle.wm_forest.specs.Look.{first_floats, first_kids, first_part, in_row, kind_by, only, output_kind, same, space_kind}
+use Rattle.wm_tree.specs.Outputs.{IsOutput, handed_on, left_to, without_output, yielded}
+use Rattle.wm_forest.specs.Taking.{heir, taking_in}
+use Rattle.wm_forest.specs.SoundRow.{IsNode, IsSoundRow, one_of, outputs, roots, tally}
+use Rattle.wm_tree.specs.Sound.{IsSound}
+use Rattle.wm_forest.specs.Spot.{space_at, spot_below, spot_in, top}
+use Rattle.wm_tree.specs.TreeValue.{TreeValue, current, opening, opening_outputs}
+use Rattle.wm_forest.specs.RootId.{root}
 use Rattle.wm_tree.specs.Words.{edited}
 
 -- ---- outputs stand in no workspace

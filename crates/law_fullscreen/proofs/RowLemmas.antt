@@ -6,15 +6,15 @@ use Rattle.wm_floats.specs.Fullscreen.{is_full}
 use Rattle.law_fullscreen.proofs.WithinLemmas.{cond_most, within-append, within-most}
 use Rattle.law_fullscreen.specs.Fullscreen.{full_of, within}
 use Rattle.wm_tree.proofs.RaiseLemmas.{count-unfull}
-use Rattle.wm_tree.specs.Change.{append, arriving, is_id, nobody, placed, to_end, unfull, unfull_kind}
-use Rattle.wm_tree.specs.Counts.{but, row_length}
-use Rattle.wm_tree.specs.declared.part.NodeKind.{NodeKind}
-use Rattle.wm_tree.specs.declared.part.NodeKind.TheVariants.{Root, Output, Space, Con}
-use Rattle.wm_tree.specs.declared.part.Part.{Part}
-use Rattle.wm_tree.specs.Forest.{Forest, end, con}
-use Rattle.wm_tree.specs.Look.{first_alone, in_row, node_in, same}
-use Rattle.wm_tree.specs.Sound.{one_of, tally}
-use Rattle.wm_tree.specs.Spot.{space_at, space_by}
+use Rattle.wm_forest.specs.Change.{append, arriving, is_id, nobody, placed, to_end, unfull, unfull_kind}
+use Rattle.wm_forest.specs.Counts.{but, row_length}
+use Rattle.wm_forest.specs.declared.part.NodeKind.{NodeKind}
+use Rattle.wm_forest.specs.declared.part.NodeKind.TheVariants.{Root, Output, Space, Con}
+use Rattle.wm_forest.specs.declared.part.Part.{Part}
+use Rattle.wm_forest.specs.Forest.{Forest, end, con}
+use Rattle.wm_forest.specs.Look.{first_alone, in_row, node_in, same}
+use Rattle.wm_forest.specs.SoundRow.{one_of, tally}
+use Rattle.wm_forest.specs.Spot.{space_at, space_by}
 
 -- one for a fullscreen container other than c
 abbrev pub full_but : ConId → Part → ℕ

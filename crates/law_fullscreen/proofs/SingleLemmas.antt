@@ -22,29 +22,32 @@ use Rattle.law_fullscreen.proofs.OutputLemmas.{one_opening, one_without_output}
 use Rattle.law_fullscreen.proofs.WordLemmas.{is_state, one_attached, one_bare, one_detached, one_edited, one_marks, one_raised, one_restated, one_settled, one_taken_off, one_unmarked, one_with_output, one_with_space, one_wrapped}
 use Rattle.law_fullscreen.specs.Fullscreen.{HasOne, IsSingle}
 use Rattle.wm_tree.proofs.AttachLemmas.{sound-attached}
-use Rattle.wm_tree.proofs.ChangeLemmas.{by_change}
-use Rattle.wm_tree.proofs.CountLemmas.{count-append, count-same}
+use Rattle.wm_forest.proofs.ChangeLemmas.{by_change}
+use Rattle.wm_forest.proofs.CountLemmas.{count-append, count-same}
 use Rattle.wm_tree.proofs.MoveLemmas.{ones_moved}
 use Rattle.wm_tree.proofs.OutputLemmas.{sound-without_output}
 use Rattle.wm_tree.proofs.PlaceLemmas.{place_fits}
 use Rattle.wm_tree.proofs.RaiseLemmas.{count-unfull, sound-raised}
 use Rattle.wm_tree.proofs.SettleLemmas.{sound-settled}
 use Rattle.wm_tree.proofs.SoundLemmas.{sound-detached}
-use Rattle.wm_tree.specs.Along.{gone_along, is_sticky, loose, loosened, nowhere, sticky}
-use Rattle.wm_tree.specs.Change.{at, is_id, nobody, unfull}
-use Rattle.wm_tree.specs.declared.kind.KindEdit.{KindEdit}
-use Rattle.wm_tree.specs.declared.kind.KindEdit.TheVariants as edits
-use Rattle.wm_tree.specs.declared.part.ConState.{ConState}
-use Rattle.wm_tree.specs.declared.place.NewCon.TheVariants as new
-use Rattle.wm_tree.specs.declared.place.Place.{Place}
-use Rattle.wm_tree.specs.declared.place.Place.TheVariants.{Float}
-use Rattle.wm_tree.specs.Forest.{Forest, end, con}
-use Rattle.wm_tree.specs.Kinds.{kind_changed}
-use Rattle.wm_tree.specs.Look.{con_kind, first_floats, has, kind_of, only, space_kind}
-use Rattle.wm_tree.specs.Move.{IsExchange, exchanged, marks_word, moved, other_marks, unmark_word, unmarked, with_marks, wrapped}
+use Rattle.wm_tree.specs.Along.{gone_along, nowhere}
+use Rattle.wm_forest.specs.Sticky.{is_sticky, loose, loosened, sticky}
+use Rattle.wm_forest.specs.Change.{at, is_id, nobody, unfull}
+use Rattle.wm_forest.specs.declared.kind.KindEdit.{KindEdit}
+use Rattle.wm_forest.specs.declared.kind.KindEdit.TheVariants as edits
+use Rattle.wm_forest.specs.declared.part.ConState.{ConState}
+use Rattle.wm_forest.specs.declared.place.NewCon.TheVariants as new
+use Rattle.wm_forest.specs.declared.place.Place.{Place}
+use Rattle.wm_forest.specs.declared.place.Place.TheVariants.{Float}
+use Rattle.wm_forest.specs.Forest.{Forest, end, con}
+use Rattle.wm_forest.specs.Kinds.{kind_changed}
+use Rattle.wm_forest.specs.Look.{con_kind, first_floats, has, kind_of, only, space_kind}
+use Rattle.wm_tree.specs.Move.{IsExchange, exchanged, moved, unmarked, with_marks, wrapped}
+use Rattle.wm_forest.specs.Marks.{marks_word, other_marks, unmark_word}
 use Rattle.wm_tree.specs.Outputs.{IsOutput, space_moved, with_output, with_space, without_output}
-use Rattle.wm_tree.specs.Place.{passed_limit, put, put_word}
-use Rattle.wm_tree.specs.Sound.{IsSound, one_of, tally}
+use Rattle.wm_forest.specs.Place.{passed_limit, put, put_word}
+use Rattle.wm_tree.specs.Sound.{IsSound}
+use Rattle.wm_forest.specs.SoundRow.{one_of, tally}
 use Rattle.wm_tree.specs.TreeValue.{TreeValue, newcomer_place, opening, opening_outputs}
 use Rattle.wm_tree.specs.Words.{attached, detached, edited, settled, with_raised}
 

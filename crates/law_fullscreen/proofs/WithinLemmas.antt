@@ -3,17 +3,17 @@ use Rattle.std.proofs.Common.{◌≡◌, ℕ, ◌+◌, ◌≤◌, Bool, true, fa
 use Rattle.std.specs.Prelude.{option_and_then}
 use Rattle.wm_base.specs.declared.ids.ConId.{ConId}
 use Rattle.law_fullscreen.specs.Fullscreen.{within}
-use Rattle.wm_tree.proofs.ChangeLemmas.{by_place}
-use Rattle.wm_tree.specs.Change.{append, at, is_id, without}
-use Rattle.wm_tree.specs.Counts.{count}
-use Rattle.wm_tree.specs.declared.part.NodeKind.{NodeKind}
-use Rattle.wm_tree.specs.declared.part.NodeKind.TheVariants.{Root, Output, Space, Con}
-use Rattle.wm_tree.specs.declared.part.Part.{Part}
-use Rattle.wm_tree.specs.declared.spot.Spot.{Spot}
-use Rattle.wm_tree.specs.Forest.{Forest, end, con}
-use Rattle.wm_tree.specs.Look.{first_part, has, only, same, space_kind}
-use Rattle.wm_tree.specs.Sound.{Level, containers}
-use Rattle.wm_tree.specs.Spot.{space_at, space_by, spot_in}
+use Rattle.wm_forest.proofs.ChangeLemmas.{by_place}
+use Rattle.wm_forest.specs.Change.{append, at, is_id, without}
+use Rattle.wm_forest.specs.Counts.{count}
+use Rattle.wm_forest.specs.declared.part.NodeKind.{NodeKind}
+use Rattle.wm_forest.specs.declared.part.NodeKind.TheVariants.{Root, Output, Space, Con}
+use Rattle.wm_forest.specs.declared.part.Part.{Part}
+use Rattle.wm_forest.specs.declared.spot.Spot.{Spot}
+use Rattle.wm_forest.specs.Forest.{Forest, end, con}
+use Rattle.wm_forest.specs.Look.{first_part, has, only, same, space_kind}
+use Rattle.wm_forest.specs.SoundRow.{Level, containers}
+use Rattle.wm_forest.specs.Spot.{space_at, space_by, spot_in}
 
 -- the workspace of the spot of a node
 abbrev pub space_in : Option Spot → Option ConId

@@ -9,28 +9,30 @@ use Rattle.wm_focus.specs.Marks.{bare, taken_off}
 use Rattle.law_fullscreen.proofs.RowLemmas.{full_unfull, within-to_end, within-unfull}
 use Rattle.law_fullscreen.proofs.WithinLemmas.{cond_most, within-append, within-most, within-without, within_add, within_at}
 use Rattle.law_fullscreen.specs.Fullscreen.{IsSingle, full_of, within}
-use Rattle.wm_tree.specs.Change.{is_id, is_vacant, raised_in, settled_row, shown_of, unfull}
-use Rattle.wm_tree.specs.Counts.{count}
-use Rattle.wm_tree.specs.declared.kind.KindEdit.{KindEdit}
-use Rattle.wm_tree.specs.declared.kind.KindEdit.TheVariants as edits
-use Rattle.wm_tree.specs.declared.part.ConPart.{ConPart}
-use Rattle.wm_tree.specs.declared.part.ConState.{ConState}
-use Rattle.wm_tree.specs.declared.part.NodeKind.{NodeKind}
-use Rattle.wm_tree.specs.declared.part.NodeKind.TheVariants.{Root, Output, Space, Con}
-use Rattle.wm_tree.specs.declared.part.Part.{Part}
-use Rattle.wm_tree.specs.declared.place.NewCon.{NewCon}
-use Rattle.wm_tree.specs.declared.place.NewCon.TheVariants as new
-use Rattle.wm_tree.specs.declared.place.Place.{Place}
-use Rattle.wm_tree.specs.declared.place.Place.TheVariants.{After, Before, First, Last, Float, Scratchpad}
-use Rattle.wm_tree.specs.Forest.{Forest, end, con}
-use Rattle.wm_tree.specs.Kinds.{changed, kind_changed}
-use Rattle.wm_tree.specs.Look.{con_kind, kind_by}
-use Rattle.wm_tree.specs.Move.{marks_word, other_marks, share_in, unmark_word, unmarked, with_marks, wrap_word, wrapped}
+use Rattle.wm_forest.specs.Change.{is_id, is_vacant, raised_in, settled_row, shown_of, unfull, raised_at}
+use Rattle.wm_forest.specs.Counts.{count}
+use Rattle.wm_forest.specs.declared.kind.KindEdit.{KindEdit}
+use Rattle.wm_forest.specs.declared.kind.KindEdit.TheVariants as edits
+use Rattle.wm_forest.specs.declared.part.ConPart.{ConPart}
+use Rattle.wm_forest.specs.declared.part.ConState.{ConState}
+use Rattle.wm_forest.specs.declared.part.NodeKind.{NodeKind}
+use Rattle.wm_forest.specs.declared.part.NodeKind.TheVariants.{Root, Output, Space, Con}
+use Rattle.wm_forest.specs.declared.part.Part.{Part}
+use Rattle.wm_forest.specs.declared.place.NewCon.{NewCon}
+use Rattle.wm_forest.specs.declared.place.NewCon.TheVariants as new
+use Rattle.wm_forest.specs.declared.place.Place.{Place}
+use Rattle.wm_forest.specs.declared.place.Place.TheVariants.{After, Before, First, Last, Float, Scratchpad}
+use Rattle.wm_forest.specs.Forest.{Forest, end, con}
+use Rattle.wm_forest.specs.Kinds.{changed, kind_changed}
+use Rattle.wm_forest.specs.Look.{con_kind, kind_by}
+use Rattle.wm_forest.specs.Marks.{marks_word, other_marks, unmark_word}
+use Rattle.wm_tree.specs.Move.{share_in, unmarked, with_marks, wrap_word, wrapped}
 use Rattle.wm_tree.specs.Outputs.{new_output, new_space, with_output, with_space}
-use Rattle.wm_tree.specs.Place.{named, new_part, put, put_word, rect_at, share_at}
-use Rattle.wm_tree.specs.Spot.{space_at, space_by, top}
-use Rattle.wm_tree.specs.TreeValue.{TreeValue, id, root, workspace_of}
-use Rattle.wm_tree.specs.Words.{attached, detached, edited, raised_at, settled, with_raised}
+use Rattle.wm_forest.specs.Place.{named, new_part, put, put_word, rect_at, share_at}
+use Rattle.wm_forest.specs.Spot.{space_at, space_by, top}
+use Rattle.wm_tree.specs.TreeValue.{TreeValue, workspace_of}
+use Rattle.wm_forest.specs.RootId.{id, root}
+use Rattle.wm_tree.specs.Words.{attached, detached, edited, settled, with_raised}
 use Rattle.wm_base.specs.declared.plan.OutputPlan.{OutputPlan}
 
 -- no workspace has more fullscreen containers in the new forest

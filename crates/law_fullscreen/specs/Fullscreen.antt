@@ -2,12 +2,12 @@
 use Rattle.std.specs.Prelude.{◌≢◌, ℕ, ◌+◌, ◌≤◌, if◌then◌else◌, Option, None}
 use Rattle.wm_base.specs.declared.ids.ConId.{ConId}
 use Rattle.wm_floats.specs.Fullscreen.{is_full}
-use Rattle.wm_tree.specs.Change.{is_id}
-use Rattle.wm_tree.specs.Counts.{count}
-use Rattle.wm_tree.specs.declared.part.Part.{Part}
-use Rattle.wm_tree.specs.Forest.{Forest, end, con}
-use Rattle.wm_tree.specs.Look.{kind_of, only, space_kind}
-use Rattle.wm_tree.specs.Spot.{space_at}
+use Rattle.wm_forest.specs.Change.{is_id}
+use Rattle.wm_forest.specs.Counts.{count}
+use Rattle.wm_forest.specs.declared.part.Part.{Part}
+use Rattle.wm_forest.specs.Forest.{Forest, end, con}
+use Rattle.wm_forest.specs.Look.{kind_of, only, space_kind}
+use Rattle.wm_forest.specs.Spot.{space_at}
 use Rattle.wm_tree.specs.TreeValue.{TreeValue}
 
 -- a fullscreen container counts one, any other node nothing

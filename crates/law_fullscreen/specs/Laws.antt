@@ -10,13 +10,14 @@ use Rattle.wm_floats.specs.Floating.{IsGoal}
 use Rattle.wm_floats.specs.Fullscreen.{fullscreen_tree}
 use Rattle.law_fullscreen.specs.Fullscreen.{HasOne, IsSingle, full_count}
 use Rattle.wm_tree.specs.Along.{AreSpaces, gone_along}
-use Rattle.wm_tree.specs.declared.place.NewCon.TheVariants as new
-use Rattle.wm_tree.specs.declared.place.Place.{Place}
-use Rattle.wm_tree.specs.Look.{con_kind, has, kind_of, space_kind}
+use Rattle.wm_forest.specs.declared.place.NewCon.TheVariants as new
+use Rattle.wm_forest.specs.declared.place.Place.{Place}
+use Rattle.wm_forest.specs.Look.{con_kind, has, kind_of, space_kind}
 use Rattle.wm_tree.specs.Move.{IsExchange, exchanged, is_too_deep, moved, passed_by_move, passed_by_wrap, wrapped}
 use Rattle.wm_tree.specs.Outputs.{IsNotShown, IsOutput, passed_by_output, passed_by_space, space_moved, with_output, with_space, without_output}
-use Rattle.wm_tree.specs.Place.{IsTiled, passed_limit}
-use Rattle.wm_tree.specs.Sound.{IsOutputRect, IsSound}
+use Rattle.wm_forest.specs.Place.{IsTiled, passed_limit}
+use Rattle.wm_forest.specs.SoundRow.{IsOutputRect}
+use Rattle.wm_tree.specs.Sound.{IsSound}
 use Rattle.wm_tree.specs.TreeValue.{TreeValue, newcomer_place, opening, workspace_of}
 use Rattle.wm_tree.specs.Words.{attached, detached, settled, with_raised}
 

@@ -3,20 +3,20 @@ use Rattle.std.proofs.Common.{ℕ, Bool, true, false, cond, Option, None, Some}
 use Rattle.wm_base.specs.declared.geometry.Rect.{Rect}
 use Rattle.wm_base.specs.declared.ids.ConId.{ConId}
 use Rattle.law_lasting.specs.Each.{Each, IsLoose}
-use Rattle.wm_tree.proofs.ChangeLemmas.{by_change}
-use Rattle.wm_tree.specs.Along.{gone_along, is_sticky, loose, loosened, nowhere, sticky}
-use Rattle.wm_tree.specs.Change.{append, arriving, at, hole, in_place, is_vacant, nobody, placed, raised_in, replaced, settled_row, shown_of, to_end, unfull, unfull_kind, without}
-use Rattle.wm_tree.specs.Counts.{but}
-use Rattle.wm_tree.specs.declared.part.Part.{Part}
-use Rattle.wm_tree.specs.declared.place.Place.{Place}
-use Rattle.wm_tree.specs.declared.place.Place.TheVariants.{After, Before, First, Last, Float, Scratchpad}
-use Rattle.wm_tree.specs.Forest.{Forest, end, con}
-use Rattle.wm_tree.specs.Look.{first_alone, first_floats, first_kids, in_row, node_in, only, same}
-use Rattle.wm_tree.specs.Move.{exchanged_nodes, holed}
-use Rattle.wm_tree.specs.Outputs.{taking_in}
-use Rattle.wm_tree.specs.Place.{put, put_word}
+use Rattle.wm_forest.proofs.ChangeLemmas.{by_change}
+use Rattle.wm_tree.specs.Along.{gone_along, nowhere}
+use Rattle.wm_forest.specs.Sticky.{is_sticky, loose, loosened, sticky}
+use Rattle.wm_forest.specs.Change.{append, arriving, at, hole, in_place, is_vacant, nobody, placed, raised_in, replaced, settled_row, shown_of, to_end, unfull, unfull_kind, without, raised_at}
+use Rattle.wm_forest.specs.Counts.{but}
+use Rattle.wm_forest.specs.declared.part.Part.{Part}
+use Rattle.wm_forest.specs.declared.place.Place.{Place}
+use Rattle.wm_forest.specs.declared.place.Place.TheVariants.{After, Before, First, Last, Float, Scratchpad}
+use Rattle.wm_forest.specs.Forest.{Forest, end, con}
+use Rattle.wm_forest.specs.Look.{first_alone, first_floats, first_kids, in_row, node_in, only, same}
+use Rattle.wm_forest.specs.Exchange.{exchanged_nodes, holed}
+use Rattle.wm_forest.specs.Taking.{taking_in}
+use Rattle.wm_forest.specs.Place.{put, put_word}
 use Rattle.wm_tree.specs.TreeValue.{TreeValue}
-use Rattle.wm_tree.specs.Words.{raised_at}
 
 module _ (Q : Part → Type 0) where
   -- ---- a change at one node

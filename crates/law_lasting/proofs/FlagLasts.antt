@@ -14,20 +14,23 @@ use Rattle.law_lasting.specs.Lasting.{Lasts}
 use Rattle.wm_opens.proofs.SureSpaces.{none_of_two}
 use Rattle.wm_shared.specs.Refusing.{full_error}
 use Rattle.wm_shared.specs.Rects.{rect_of}
-use Rattle.wm_tree.specs.Change.{is_id, without}
-use Rattle.wm_tree.specs.declared.kind.KindEdit.TheVariants as edits
-use Rattle.wm_tree.specs.declared.part.NodeKind.{NodeKind}
-use Rattle.wm_tree.specs.declared.part.NodeKind.TheVariants.{Root, Output, Space, Con}
-use Rattle.wm_tree.specs.declared.part.Part.{Part}
-use Rattle.wm_tree.specs.declared.place.NewCon.TheVariants as new
-use Rattle.wm_tree.specs.declared.place.Place.TheVariants.{Last, Scratchpad}
-use Rattle.wm_tree.specs.Forest.{Forest, end, con}
-use Rattle.wm_tree.specs.Kinds.{changed}
-use Rattle.wm_tree.specs.Look.{only, same}
-use Rattle.wm_tree.specs.Move.{apart, marks_word, other_marks, passed_by_move, share_in, unmark_word, wrap_word}
-use Rattle.wm_tree.specs.Outputs.{heir, left_to, new_output, new_space, without_output, yielded}
-use Rattle.wm_tree.specs.Place.{new_part, rect_at, share_at}
-use Rattle.wm_tree.specs.TreeValue.{TreeValue, current, id, newcomer_place, opening_outputs, root, workspace_of}
+use Rattle.wm_forest.specs.Change.{is_id, without}
+use Rattle.wm_forest.specs.declared.kind.KindEdit.TheVariants as edits
+use Rattle.wm_forest.specs.declared.part.NodeKind.{NodeKind}
+use Rattle.wm_forest.specs.declared.part.NodeKind.TheVariants.{Root, Output, Space, Con}
+use Rattle.wm_forest.specs.declared.part.Part.{Part}
+use Rattle.wm_forest.specs.declared.place.NewCon.TheVariants as new
+use Rattle.wm_forest.specs.declared.place.Place.TheVariants.{Last, Scratchpad}
+use Rattle.wm_forest.specs.Forest.{Forest, end, con}
+use Rattle.wm_forest.specs.Kinds.{changed}
+use Rattle.wm_forest.specs.Look.{only, same}
+use Rattle.wm_tree.specs.Move.{apart, passed_by_move, share_in, wrap_word}
+use Rattle.wm_forest.specs.Marks.{marks_word, other_marks, unmark_word}
+use Rattle.wm_forest.specs.Taking.{heir}
+use Rattle.wm_tree.specs.Outputs.{left_to, new_output, new_space, without_output, yielded}
+use Rattle.wm_forest.specs.Place.{new_part, rect_at, share_at}
+use Rattle.wm_tree.specs.TreeValue.{TreeValue, current, newcomer_place, opening_outputs, workspace_of}
+use Rattle.wm_forest.specs.RootId.{id, root}
 use Rattle.wm_tree.specs.Words.{edited}
 
 -- ---- marks

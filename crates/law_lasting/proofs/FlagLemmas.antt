@@ -16,26 +16,27 @@ use Rattle.law_lasting.specs.Each.{Each, IsLoose}
 use Rattle.law_lasting.specs.Flags.{may_be_flagged}
 use Rattle.wm_opens.proofs.OpenLemmas.{IsAt, found_at}
 use Rattle.wm_shared.proofs.KidLemmas.{con_there}
-use Rattle.wm_tree.proofs.ChangeLemmas.{by_change}
-use Rattle.wm_tree.proofs.CountLemmas.{counted, tally-absent}
-use Rattle.wm_tree.specs.Change.{arriving, at, placed, unfull_kind, without}
-use Rattle.wm_tree.specs.declared.kind.KindEdit.{KindEdit}
-use Rattle.wm_tree.specs.declared.kind.KindEdit.TheVariants as edits
-use Rattle.wm_tree.specs.declared.part.ConKind.{ConKind}
-use Rattle.wm_tree.specs.declared.part.ConKind.TheVariants.{Split, Window, Placeholder}
-use Rattle.wm_tree.specs.declared.part.ConPart.{ConPart}
-use Rattle.wm_tree.specs.declared.part.ConState.{ConState}
-use Rattle.wm_tree.specs.declared.part.NodeKind.{NodeKind}
-use Rattle.wm_tree.specs.declared.part.NodeKind.TheVariants.{Root, Output, Space, Con}
-use Rattle.wm_tree.specs.declared.part.Part.{Part}
-use Rattle.wm_tree.specs.declared.place.Place.{Place}
-use Rattle.wm_tree.specs.declared.place.Place.TheVariants.{Scratchpad}
-use Rattle.wm_tree.specs.Forest.{Forest, end, con}
-use Rattle.wm_tree.specs.Kinds.{changed, kind_changed, laid_out, titled}
-use Rattle.wm_tree.specs.Look.{con_kind, first_part, has, kind_by, kind_of, only, same}
+use Rattle.wm_forest.proofs.ChangeLemmas.{by_change}
+use Rattle.wm_forest.proofs.CountLemmas.{counted, tally-absent}
+use Rattle.wm_forest.specs.Change.{arriving, at, placed, unfull_kind, without}
+use Rattle.wm_forest.specs.declared.kind.KindEdit.{KindEdit}
+use Rattle.wm_forest.specs.declared.kind.KindEdit.TheVariants as edits
+use Rattle.wm_forest.specs.declared.part.ConKind.{ConKind}
+use Rattle.wm_forest.specs.declared.part.ConKind.TheVariants.{Split, Window, Placeholder}
+use Rattle.wm_forest.specs.declared.part.ConPart.{ConPart}
+use Rattle.wm_forest.specs.declared.part.ConState.{ConState}
+use Rattle.wm_forest.specs.declared.part.NodeKind.{NodeKind}
+use Rattle.wm_forest.specs.declared.part.NodeKind.TheVariants.{Root, Output, Space, Con}
+use Rattle.wm_forest.specs.declared.part.Part.{Part}
+use Rattle.wm_forest.specs.declared.place.Place.{Place}
+use Rattle.wm_forest.specs.declared.place.Place.TheVariants.{Scratchpad}
+use Rattle.wm_forest.specs.Forest.{Forest, end, con}
+use Rattle.wm_forest.specs.Kinds.{changed, kind_changed, laid_out, titled}
+use Rattle.wm_forest.specs.Look.{con_kind, first_part, has, kind_by, kind_of, only, same}
 use Rattle.wm_tree.specs.Move.{apart, moved, moved_share}
-use Rattle.wm_tree.specs.Place.{named, rect_at}
-use Rattle.wm_tree.specs.Sound.{IsSound, one_of, tally}
+use Rattle.wm_forest.specs.Place.{named, rect_at}
+use Rattle.wm_tree.specs.Sound.{IsSound}
+use Rattle.wm_forest.specs.SoundRow.{one_of, tally}
 use Rattle.wm_tree.specs.TreeValue.{TreeValue, is_tiled_con, workspace_of}
 
 -- the node is flagged only if it is a window

@@ -43,9 +43,9 @@ use Rattle.wm_spaces.specs.Outs.{output_at}
 use Rattle.wm_spaces.specs.Sending.{sent_some, sent_some_refusal}
 use Rattle.wm_tree.proofs.ExchangeSound.{sound-exchanged}
 use Rattle.wm_tree.proofs.WrapLemmas.{sound-wrapped}
-use Rattle.wm_tree.specs.declared.kind.KindEdit.TheVariants as edits
-use Rattle.wm_tree.specs.declared.place.Place.TheVariants.{After, Before, First, Last}
-use Rattle.wm_tree.specs.Look.{has, only}
+use Rattle.wm_forest.specs.declared.kind.KindEdit.TheVariants as edits
+use Rattle.wm_forest.specs.declared.place.Place.TheVariants.{After, Before, First, Last}
+use Rattle.wm_forest.specs.Look.{has, only}
 use Rattle.wm_tree.specs.Move.{exchanged, is_too_deep, moved, passed_by_move, passed_by_wrap, share_in, wrapped}
 use Rattle.wm_tree.specs.Outputs.{IsOutput}
 use Rattle.wm_tree.specs.Sound.{IsSound}

@@ -20,10 +20,10 @@ use Rattle.wm_shared.specs.Refusing.{full_error}
 use Rattle.wm_shared.specs.Subject.{IsSubject, is_hidden}
 use Rattle.wm_shared.specs.Rects.{rect_of}
 use Rattle.wm_tree.proofs.MoveLemmas.{sound-moved}
-use Rattle.wm_tree.specs.declared.part.ConState.{ConState}
-use Rattle.wm_tree.specs.declared.place.Place.{Place}
-use Rattle.wm_tree.specs.declared.place.Place.TheVariants.{Float}
-use Rattle.wm_tree.specs.Look.{con_kind, kind_of}
+use Rattle.wm_forest.specs.declared.part.ConState.{ConState}
+use Rattle.wm_forest.specs.declared.place.Place.{Place}
+use Rattle.wm_forest.specs.declared.place.Place.TheVariants.{Float}
+use Rattle.wm_forest.specs.Look.{con_kind, kind_of}
 use Rattle.wm_tree.specs.Move.{moved, passed_by_move}
 use Rattle.wm_tree.specs.Sound.{IsSound}
 use Rattle.wm_tree.specs.TreeValue.{TreeValue, focused, is_tiled_con, shown, workspace_of}

@@ -29,21 +29,23 @@ use Rattle.wm_spaces.specs.Sending.{goal_sent, goal_sent_refusal, sent, sent_pla
 use Rattle.wm_shared.specs.Rects.{output_part_of, rect_of}
 use Rattle.wm_spaces.specs.Shows.{goal_refusal, goal_shown, then_shown}
 use Rattle.wm_spaces.specs.Targets.{IsGoal as IsTarget, home}
-use Rattle.wm_tree.proofs.RecencyLemmas.{same_is, same_self}
+use Rattle.wm_forest.proofs.RecencyLemmas.{same_is, same_self}
 use Rattle.wm_tree.proofs.SpaceLemmas.{has_output, sound-space_moved, sound-with_space}
 use Rattle.wm_tree.specs.Along.{gone_along}
-use Rattle.wm_tree.specs.Change.{is_id}
-use Rattle.wm_tree.specs.declared.kind.KindEdit.TheVariants as edits
-use Rattle.wm_tree.specs.declared.part.NodeKind.{NodeKind}
-use Rattle.wm_tree.specs.declared.part.NodeKind.TheVariants.{Root, Output, Space, Con}
-use Rattle.wm_tree.specs.declared.place.Place.TheVariants.{After, Last, Float}
-use Rattle.wm_tree.specs.Forest.{Forest, end, con}
-use Rattle.wm_tree.specs.Look.{con_kind, first_part, in_row, kind_by, kind_of, only, same, space_kind}
+use Rattle.wm_forest.specs.Change.{is_id}
+use Rattle.wm_forest.specs.declared.kind.KindEdit.TheVariants as edits
+use Rattle.wm_forest.specs.declared.part.NodeKind.{NodeKind}
+use Rattle.wm_forest.specs.declared.part.NodeKind.TheVariants.{Root, Output, Space, Con}
+use Rattle.wm_forest.specs.declared.place.Place.TheVariants.{After, Last, Float}
+use Rattle.wm_forest.specs.Forest.{Forest, end, con}
+use Rattle.wm_forest.specs.Look.{con_kind, first_part, in_row, kind_by, kind_of, only, same, space_kind}
 use Rattle.wm_tree.specs.Move.{apart, moved, passed_by_move}
 use Rattle.wm_tree.specs.Outputs.{IsOutput, passed_by_space, space_moved, with_space}
 use Rattle.wm_tree.specs.Sets.{shown_by, with_shown}
-use Rattle.wm_tree.specs.Sound.{IsNode, IsSound, IsSoundRow, roots}
-use Rattle.wm_tree.specs.TreeValue.{TreeValue, id, is_tiled_con, leaf, or_id, parent, root, shown, workspace_of}
+use Rattle.wm_forest.specs.SoundRow.{IsNode, IsSoundRow, roots}
+use Rattle.wm_tree.specs.Sound.{IsSound}
+use Rattle.wm_tree.specs.TreeValue.{TreeValue, is_tiled_con, leaf, or_id, parent, shown, workspace_of}
+use Rattle.wm_forest.specs.RootId.{id, root}
 use Rattle.wm_tree.specs.Words.{with_raised}
 
 -- ---- the root

@@ -19,13 +19,14 @@ use Rattle.wm_tree.proofs.OutputLemmas.{sound-without_output}
 use Rattle.wm_tree.proofs.PlaceLemmas.{place_fits}
 use Rattle.wm_tree.proofs.RaiseLemmas.{sound-raised}
 use Rattle.wm_tree.proofs.SoundLemmas.{sound-detached, sound-edited}
-use Rattle.wm_tree.specs.declared.kind.KindEdit.TheVariants as edits
-use Rattle.wm_tree.specs.declared.place.NewCon.TheVariants as new
-use Rattle.wm_tree.specs.Look.{con_kind, first_kids, kind_of, only, same}
-use Rattle.wm_tree.specs.Outputs.{IsOutput, heir}
-use Rattle.wm_tree.specs.Place.{passed_limit}
+use Rattle.wm_forest.specs.declared.kind.KindEdit.TheVariants as edits
+use Rattle.wm_forest.specs.declared.place.NewCon.TheVariants as new
+use Rattle.wm_forest.specs.Look.{con_kind, first_kids, kind_of, only, same}
+use Rattle.wm_tree.specs.Outputs.{IsOutput}
+use Rattle.wm_forest.specs.Taking.{heir}
+use Rattle.wm_forest.specs.Place.{passed_limit}
 use Rattle.wm_tree.specs.Sound.{IsSound}
-use Rattle.wm_tree.specs.Spot.{spot_in, top}
+use Rattle.wm_forest.specs.Spot.{spot_in, top}
 use Rattle.wm_tree.specs.TreeValue.{TreeValue, current, newcomer_place}
 use Rattle.wm_tree.specs.Words.{attached, detached, edited, settled, with_raised}
 

@@ -24,13 +24,13 @@ use Rattle.law_lasting.specs.Lasting.{Lasts}
 use Rattle.law_lasting.specs.Rows.{AreStowed, is_stowed}
 use Rattle.law_lasting.specs.Scratchpad.{AreHiddenWindows, HasScratchpad, is_hidden_window, scratchpad}
 use Rattle.wm_spaces.specs.Coming.{output_added_tree, output_removed_tree}
-use Rattle.wm_tree.specs.declared.kind.KindEdit.TheVariants as edits
-use Rattle.wm_tree.specs.declared.part.NodeKind.{NodeKind}
-use Rattle.wm_tree.specs.declared.part.NodeKind.TheVariants.{Root, Output, Space, Con}
-use Rattle.wm_tree.specs.declared.place.NewCon.TheVariants as new
-use Rattle.wm_tree.specs.Forest.{Forest, end, con}
-use Rattle.wm_tree.specs.Look.{con_kind, first_floats, kind_of}
-use Rattle.wm_tree.specs.Place.{passed_limit}
+use Rattle.wm_forest.specs.declared.kind.KindEdit.TheVariants as edits
+use Rattle.wm_forest.specs.declared.part.NodeKind.{NodeKind}
+use Rattle.wm_forest.specs.declared.part.NodeKind.TheVariants.{Root, Output, Space, Con}
+use Rattle.wm_forest.specs.declared.place.NewCon.TheVariants as new
+use Rattle.wm_forest.specs.Forest.{Forest, end, con}
+use Rattle.wm_forest.specs.Look.{con_kind, first_floats, kind_of}
+use Rattle.wm_forest.specs.Place.{passed_limit}
 use Rattle.wm_tree.specs.Sound.{IsSound}
 use Rattle.wm_tree.specs.TreeValue.{TreeValue, newcomer_place, opening}
 use Rattle.wm_tree.specs.Words.{attached, detached, edited, settled, with_raised}

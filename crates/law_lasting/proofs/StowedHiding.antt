@@ -25,23 +25,25 @@ use Rattle.wm_shared.specs.Subject.{is_container}
 use Rattle.wm_shared.proofs.KidLemmas.{con_there}
 use Rattle.wm_shared.specs.Rects.{rect_of}
 use Rattle.wm_tree.proofs.AttachLemmas.{has_row}
-use Rattle.wm_tree.proofs.CountLemmas.{counted, tally-absent}
+use Rattle.wm_forest.proofs.CountLemmas.{counted, tally-absent}
 use Rattle.wm_tree.proofs.SoundLemmas.{gone-detached}
-use Rattle.wm_tree.specs.Change.{append, arriving, at, is_id, placed, unfull_kind, without}
-use Rattle.wm_tree.specs.declared.kind.KindEdit.TheVariants as edits
-use Rattle.wm_tree.specs.declared.part.ConPart.{ConPart}
-use Rattle.wm_tree.specs.declared.part.ConState.{ConState}
-use Rattle.wm_tree.specs.declared.part.NodeKind.{NodeKind}
-use Rattle.wm_tree.specs.declared.part.NodeKind.TheVariants.{Root, Output, Space, Con}
-use Rattle.wm_tree.specs.declared.place.Place.{Place}
-use Rattle.wm_tree.specs.declared.place.Place.TheVariants.{After, Last, Scratchpad}
-use Rattle.wm_tree.specs.Forest.{Forest, end, con}
-use Rattle.wm_tree.specs.Kinds.{changed, kind_changed}
-use Rattle.wm_tree.specs.Look.{con_kind, first_floats, first_part, has, in_row, kind_by, kind_of, only, same}
+use Rattle.wm_forest.specs.Change.{append, arriving, at, is_id, placed, unfull_kind, without}
+use Rattle.wm_forest.specs.declared.kind.KindEdit.TheVariants as edits
+use Rattle.wm_forest.specs.declared.part.ConPart.{ConPart}
+use Rattle.wm_forest.specs.declared.part.ConState.{ConState}
+use Rattle.wm_forest.specs.declared.part.NodeKind.{NodeKind}
+use Rattle.wm_forest.specs.declared.part.NodeKind.TheVariants.{Root, Output, Space, Con}
+use Rattle.wm_forest.specs.declared.place.Place.{Place}
+use Rattle.wm_forest.specs.declared.place.Place.TheVariants.{After, Last, Scratchpad}
+use Rattle.wm_forest.specs.Forest.{Forest, end, con}
+use Rattle.wm_forest.specs.Kinds.{changed, kind_changed}
+use Rattle.wm_forest.specs.Look.{con_kind, first_floats, first_part, has, in_row, kind_by, kind_of, only, same}
 use Rattle.wm_tree.specs.Move.{apart, moved, moved_share, passed_by_move}
-use Rattle.wm_tree.specs.Place.{named, put, rect_at}
-use Rattle.wm_tree.specs.Sound.{IsSound, one_of, tally}
-use Rattle.wm_tree.specs.TreeValue.{TreeValue, is_tiled_con, leaf, or_id, root, workspace_of}
+use Rattle.wm_forest.specs.Place.{named, put, rect_at}
+use Rattle.wm_tree.specs.Sound.{IsSound}
+use Rattle.wm_forest.specs.SoundRow.{one_of, tally}
+use Rattle.wm_tree.specs.TreeValue.{TreeValue, is_tiled_con, leaf, or_id, workspace_of}
+use Rattle.wm_forest.specs.RootId.{root}
 
 -- ---- moves outside the scratchpad
 

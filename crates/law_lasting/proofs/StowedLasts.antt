@@ -22,21 +22,24 @@ use Rattle.wm_shared.specs.Subject.{is_space}
 use Rattle.wm_spaces.proofs.ComingLemmas.{heir_output}
 use Rattle.wm_shared.specs.Rects.{rect_of}
 use Rattle.wm_tree.proofs.PlaceLemmas.{place_fits}
-use Rattle.wm_tree.specs.Change.{is_vacant, settled_row, shown_of, without}
-use Rattle.wm_tree.specs.declared.kind.KindEdit.TheVariants as edits
-use Rattle.wm_tree.specs.declared.part.NodeKind.{NodeKind}
-use Rattle.wm_tree.specs.declared.part.NodeKind.TheVariants.{Root, Output, Space, Con}
-use Rattle.wm_tree.specs.declared.part.Part.{Part}
-use Rattle.wm_tree.specs.declared.place.NewCon.TheVariants as new
-use Rattle.wm_tree.specs.declared.place.Place.{Place}
-use Rattle.wm_tree.specs.declared.place.Place.TheVariants.{After, Last, Scratchpad}
-use Rattle.wm_tree.specs.Forest.{Forest, end, con}
-use Rattle.wm_tree.specs.Look.{only, same}
+use Rattle.wm_forest.specs.Change.{is_vacant, settled_row, shown_of, without}
+use Rattle.wm_forest.specs.declared.kind.KindEdit.TheVariants as edits
+use Rattle.wm_forest.specs.declared.part.NodeKind.{NodeKind}
+use Rattle.wm_forest.specs.declared.part.NodeKind.TheVariants.{Root, Output, Space, Con}
+use Rattle.wm_forest.specs.declared.part.Part.{Part}
+use Rattle.wm_forest.specs.declared.place.NewCon.TheVariants as new
+use Rattle.wm_forest.specs.declared.place.Place.{Place}
+use Rattle.wm_forest.specs.declared.place.Place.TheVariants.{After, Last, Scratchpad}
+use Rattle.wm_forest.specs.Forest.{Forest, end, con}
+use Rattle.wm_forest.specs.Look.{only, same}
 use Rattle.wm_tree.specs.Move.{apart, exchanged, share_in, wrap_word, wrapped}
-use Rattle.wm_tree.specs.Outputs.{IsOutput, heir, left_to, new_output, new_space, space_moved, taking_in, with_output, with_space, without_output, yielded}
-use Rattle.wm_tree.specs.Place.{new_part, put_word, rect_at, share_at}
-use Rattle.wm_tree.specs.Sound.{IsNode, IsSound, IsSoundRow, roots}
-use Rattle.wm_tree.specs.TreeValue.{TreeValue, current, id, is_tiled_con, leaf, newcomer_place, or_id, root, shown, focused}
+use Rattle.wm_tree.specs.Outputs.{IsOutput, left_to, new_output, new_space, space_moved, with_output, with_space, without_output, yielded}
+use Rattle.wm_forest.specs.Taking.{heir, taking_in}
+use Rattle.wm_forest.specs.Place.{new_part, put_word, rect_at, share_at}
+use Rattle.wm_forest.specs.SoundRow.{IsNode, IsSoundRow, roots}
+use Rattle.wm_tree.specs.Sound.{IsSound}
+use Rattle.wm_tree.specs.TreeValue.{TreeValue, current, is_tiled_con, leaf, newcomer_place, or_id, shown, focused}
+use Rattle.wm_forest.specs.RootId.{id, root}
 use Rattle.wm_tree.specs.Words.{attached, edited, settled}
 use Rattle.law_lasting.specs.Changes.{stows}
 

@@ -2,14 +2,14 @@
 use Rattle.std.proofs.Common.{◌≡◌, Bool, true, false, cond, ◌||◌, refl, ap, ◌∙◌}
 use Rattle.wm_base.specs.declared.ids.ConId.{ConId}
 use Rattle.law_lasting.specs.Rows.{AreStowed, is_stowed}
-use Rattle.wm_tree.proofs.ChangeLemmas.{by_change}
-use Rattle.wm_tree.proofs.ForestLemmas.{or_false}
-use Rattle.wm_tree.proofs.RecencyLemmas.{same_is}
-use Rattle.wm_tree.specs.Change.{at}
-use Rattle.wm_tree.specs.declared.part.Part.{Part}
-use Rattle.wm_tree.specs.Forest.{Forest, end, con}
-use Rattle.wm_tree.specs.Look.{first_floats, has, in_row, only, same}
-use Rattle.wm_tree.specs.TreeValue.{root}
+use Rattle.wm_forest.proofs.ChangeLemmas.{by_change}
+use Rattle.wm_forest.proofs.ForestLemmas.{or_false}
+use Rattle.wm_forest.proofs.RecencyLemmas.{same_is}
+use Rattle.wm_forest.specs.Change.{at}
+use Rattle.wm_forest.specs.declared.part.Part.{Part}
+use Rattle.wm_forest.specs.Forest.{Forest, end, con}
+use Rattle.wm_forest.specs.Look.{first_floats, has, in_row, only, same}
+use Rattle.wm_forest.specs.RootId.{root}
 
 -- the forest begins with the root, and its second row has only flagged containers with a rectangle
 abbrev pub Stowed : Forest → Type 0

@@ -5,24 +5,26 @@ use Rattle.law_lasting.proofs.StowedLemmas.{Stowed, lacks_apart, lacks_deep, not
 use Rattle.law_lasting.specs.Changes.{stows}
 use Rattle.law_lasting.specs.Rows.{AreStowed}
 use Rattle.wm_tree.proofs.AttachLemmas.{has_row}
-use Rattle.wm_tree.proofs.CountLemmas.{counted}
-use Rattle.wm_tree.proofs.ForestLemmas.{or_false}
-use Rattle.wm_tree.proofs.RecencyLemmas.{same_is, same_self}
-use Rattle.wm_tree.specs.Change.{arriving, hole, in_place, nobody, replaced, without}
-use Rattle.wm_tree.specs.declared.part.NodeKind.{NodeKind}
-use Rattle.wm_tree.specs.declared.part.NodeKind.TheVariants.{Root, Output, Space, Con}
-use Rattle.wm_tree.specs.declared.part.Part.{Part}
-use Rattle.wm_tree.specs.declared.place.Place.{Place}
-use Rattle.wm_tree.specs.declared.place.Place.TheVariants.{After, Before, First, Last, Float, Scratchpad}
-use Rattle.wm_tree.specs.declared.spot.Spot.{Spot}
-use Rattle.wm_tree.specs.Forest.{Forest, end, con}
-use Rattle.wm_tree.specs.Look.{con_kind, first_floats, first_kids, first_part, has, in_row, kind_by, only, same, space_kind}
-use Rattle.wm_tree.specs.Move.{exchanged_nodes, holed}
+use Rattle.wm_forest.proofs.CountLemmas.{counted}
+use Rattle.wm_forest.proofs.ForestLemmas.{or_false}
+use Rattle.wm_forest.proofs.RecencyLemmas.{same_is, same_self}
+use Rattle.wm_forest.specs.Change.{arriving, hole, in_place, nobody, replaced, without}
+use Rattle.wm_forest.specs.declared.part.NodeKind.{NodeKind}
+use Rattle.wm_forest.specs.declared.part.NodeKind.TheVariants.{Root, Output, Space, Con}
+use Rattle.wm_forest.specs.declared.part.Part.{Part}
+use Rattle.wm_forest.specs.declared.place.Place.{Place}
+use Rattle.wm_forest.specs.declared.place.Place.TheVariants.{After, Before, First, Last, Float, Scratchpad}
+use Rattle.wm_forest.specs.declared.spot.Spot.{Spot}
+use Rattle.wm_forest.specs.Forest.{Forest, end, con}
+use Rattle.wm_forest.specs.Look.{con_kind, first_floats, first_kids, first_part, has, in_row, kind_by, only, same, space_kind}
+use Rattle.wm_forest.specs.Exchange.{exchanged_nodes, holed}
 use Rattle.wm_tree.specs.Outputs.{IsOutput}
-use Rattle.wm_tree.specs.Place.{IsPlace, IsTiled, TakesFirst, TakesKids, is_tiled, named, put, put_word}
-use Rattle.wm_tree.specs.Sound.{IsNode, IsSound, IsSoundRow, roots, tally}
-use Rattle.wm_tree.specs.Spot.{spot_below, spot_in, top}
-use Rattle.wm_tree.specs.TreeValue.{TreeValue, root}
+use Rattle.wm_forest.specs.Place.{IsPlace, IsTiled, TakesFirst, TakesKids, is_tiled, named, put, put_word}
+use Rattle.wm_forest.specs.SoundRow.{IsNode, IsSoundRow, roots, tally}
+use Rattle.wm_tree.specs.Sound.{IsSound}
+use Rattle.wm_forest.specs.Spot.{spot_below, spot_in, top}
+use Rattle.wm_tree.specs.TreeValue.{TreeValue}
+use Rattle.wm_forest.specs.RootId.{root}
 
 -- ---- the root
 

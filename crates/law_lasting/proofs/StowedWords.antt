@@ -9,24 +9,25 @@ use Rattle.wm_focus.specs.Marks.{bare, part_off, taken_off}
 use Rattle.law_lasting.proofs.StowedLemmas.{Stowed, stowed_apart, stowed_at}
 use Rattle.law_lasting.specs.Changes.{is_plain}
 use Rattle.law_lasting.specs.Rows.{AreStowed, is_stowed}
-use Rattle.wm_tree.specs.Along.{gone_along, is_sticky, loose, loosened, nowhere, sticky}
-use Rattle.wm_tree.specs.Change.{append, at, is_id, nobody, raised_in, to_end, unfull, unfull_kind}
-use Rattle.wm_tree.specs.Counts.{but}
-use Rattle.wm_tree.specs.declared.kind.KindEdit.{KindEdit}
-use Rattle.wm_tree.specs.declared.kind.KindEdit.TheVariants as edits
-use Rattle.wm_tree.specs.declared.part.ConPart.{ConPart}
-use Rattle.wm_tree.specs.declared.part.ConState.{ConState}
-use Rattle.wm_tree.specs.declared.part.NodeKind.{NodeKind}
-use Rattle.wm_tree.specs.declared.part.NodeKind.TheVariants.{Root, Output, Space, Con}
-use Rattle.wm_tree.specs.declared.part.Part.{Part}
-use Rattle.wm_tree.specs.declared.place.Place.TheVariants.{Float}
-use Rattle.wm_tree.specs.Forest.{Forest, end, con}
-use Rattle.wm_tree.specs.Kinds.{changed, kind_changed}
-use Rattle.wm_tree.specs.Look.{con_kind, first_alone, first_floats, first_part, in_row, kind_by, node_in, only, same}
-use Rattle.wm_tree.specs.Move.{marks_word, other_marks, unmark_word}
-use Rattle.wm_tree.specs.Place.{put_word}
-use Rattle.wm_tree.specs.TreeValue.{TreeValue, root, workspace_of}
-use Rattle.wm_tree.specs.Words.{raised_at}
+use Rattle.wm_tree.specs.Along.{gone_along, nowhere}
+use Rattle.wm_forest.specs.Sticky.{is_sticky, loose, loosened, sticky}
+use Rattle.wm_forest.specs.Change.{append, at, is_id, nobody, raised_in, to_end, unfull, unfull_kind, raised_at}
+use Rattle.wm_forest.specs.Counts.{but}
+use Rattle.wm_forest.specs.declared.kind.KindEdit.{KindEdit}
+use Rattle.wm_forest.specs.declared.kind.KindEdit.TheVariants as edits
+use Rattle.wm_forest.specs.declared.part.ConPart.{ConPart}
+use Rattle.wm_forest.specs.declared.part.ConState.{ConState}
+use Rattle.wm_forest.specs.declared.part.NodeKind.{NodeKind}
+use Rattle.wm_forest.specs.declared.part.NodeKind.TheVariants.{Root, Output, Space, Con}
+use Rattle.wm_forest.specs.declared.part.Part.{Part}
+use Rattle.wm_forest.specs.declared.place.Place.TheVariants.{Float}
+use Rattle.wm_forest.specs.Forest.{Forest, end, con}
+use Rattle.wm_forest.specs.Kinds.{changed, kind_changed}
+use Rattle.wm_forest.specs.Look.{con_kind, first_alone, first_floats, first_part, in_row, kind_by, node_in, only, same}
+use Rattle.wm_forest.specs.Marks.{marks_word, other_marks, unmark_word}
+use Rattle.wm_forest.specs.Place.{put_word}
+use Rattle.wm_tree.specs.TreeValue.{TreeValue, workspace_of}
+use Rattle.wm_forest.specs.RootId.{root}
 
 -- a change that asks nothing of the node that it finds
 module _ {X : Type 0} (c : ConId) (f : X → Part → Forest → Forest → Forest → Forest) (x : X) where

@@ -1,9 +1,9 @@
 -- What holds of each node of a forest.
 use Rattle.std.specs.Prelude.{ℕ, List, Option}
 use Rattle.wm_base.specs.declared.geometry.Rect.{Rect}
-use Rattle.wm_tree.specs.declared.part.Part.{Part}
-use Rattle.wm_tree.specs.Change.{placed, unfull_kind}
-use Rattle.wm_tree.specs.Forest.{Forest, end, con}
+use Rattle.wm_forest.specs.declared.part.Part.{Part}
+use Rattle.wm_forest.specs.Change.{placed, unfull_kind}
+use Rattle.wm_forest.specs.Forest.{Forest, end, con}
 
 -- Q holds of each node of the forest
 abbrev pub Each : (Part → Type 0) → Forest → Type 0

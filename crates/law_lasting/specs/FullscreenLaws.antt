@@ -9,10 +9,10 @@ use Rattle.wm_base.specs.declared.properties.Props.{Props}
 use Rattle.wm_criteria.specs.declared.verdict.Verdict.{Verdict}
 use Rattle.law_fullscreen.specs.Fullscreen.{HasOne}
 use Rattle.wm_spaces.specs.Coming.{output_added_tree, output_removed_tree}
-use Rattle.wm_tree.specs.declared.kind.KindEdit.TheVariants as edits
-use Rattle.wm_tree.specs.declared.place.NewCon.TheVariants as new
-use Rattle.wm_tree.specs.Look.{con_kind, kind_of}
-use Rattle.wm_tree.specs.Place.{passed_limit}
+use Rattle.wm_forest.specs.declared.kind.KindEdit.TheVariants as edits
+use Rattle.wm_forest.specs.declared.place.NewCon.TheVariants as new
+use Rattle.wm_forest.specs.Look.{con_kind, kind_of}
+use Rattle.wm_forest.specs.Place.{passed_limit}
 use Rattle.wm_tree.specs.Sound.{IsSound}
 use Rattle.wm_tree.specs.TreeValue.{TreeValue, newcomer_place}
 use Rattle.wm_tree.specs.Words.{attached, detached, edited, settled, with_raised}

@@ -17,17 +17,18 @@ use Rattle.wm_focus.specs.Moves.{IsTurn}
 use Rattle.law_lasting.specs.Changes.{KeepsState, is_plain, stows}
 use Rattle.wm_shared.specs.Subject.{is_space}
 use Rattle.wm_tree.specs.Along.{gone_along}
-use Rattle.wm_tree.specs.declared.kind.KindEdit.{KindEdit}
-use Rattle.wm_tree.specs.declared.kind.KindEdit.TheVariants as edits
-use Rattle.wm_tree.specs.declared.part.ConState.{ConState}
-use Rattle.wm_tree.specs.declared.place.NewCon.TheVariants as new
-use Rattle.wm_tree.specs.declared.place.Place.{Place}
-use Rattle.wm_tree.specs.Look.{con_kind, kind_of, same}
+use Rattle.wm_forest.specs.declared.kind.KindEdit.{KindEdit}
+use Rattle.wm_forest.specs.declared.kind.KindEdit.TheVariants as edits
+use Rattle.wm_forest.specs.declared.part.ConState.{ConState}
+use Rattle.wm_forest.specs.declared.place.NewCon.TheVariants as new
+use Rattle.wm_forest.specs.declared.place.Place.{Place}
+use Rattle.wm_forest.specs.Look.{con_kind, kind_of, same}
 use Rattle.wm_tree.specs.Move.{exchanged, moved, unmarked, with_marks, wrapped}
 use Rattle.wm_tree.specs.Outputs.{IsOutput, space_moved, with_output, with_space, without_output}
-use Rattle.wm_tree.specs.Place.{passed_limit}
+use Rattle.wm_forest.specs.Place.{passed_limit}
 use Rattle.wm_tree.specs.Sound.{IsSound}
-use Rattle.wm_tree.specs.TreeValue.{TreeValue, is_tiled_con, newcomer_place, opening, root}
+use Rattle.wm_tree.specs.TreeValue.{TreeValue, is_tiled_con, newcomer_place, opening}
+use Rattle.wm_forest.specs.RootId.{root}
 use Rattle.wm_tree.specs.Words.{attached, detached, edited, settled, with_raised}
 
 -- each word by which trees change keeps P, as commands and the other steps use it, and each opening tree has it

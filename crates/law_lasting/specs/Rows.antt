@@ -1,8 +1,8 @@
 -- Rows of containers that may stand in the scratchpad.
 use Rattle.std.specs.Prelude.{◌≡◌, Bool, true, false, ◌&&◌, is_some}
-use Rattle.wm_tree.specs.declared.part.NodeKind.{NodeKind}
-use Rattle.wm_tree.specs.declared.part.NodeKind.TheVariants.{Root, Output, Space, Con}
-use Rattle.wm_tree.specs.Forest.{Forest, end, con}
+use Rattle.wm_forest.specs.declared.part.NodeKind.{NodeKind}
+use Rattle.wm_forest.specs.declared.part.NodeKind.TheVariants.{Root, Output, Space, Con}
+use Rattle.wm_forest.specs.Forest.{Forest, end, con}
 
 -- a container with the flag and with an outer rectangle
 abbrev pub is_stowed : NodeKind → Bool

@@ -37,7 +37,7 @@ use Rattle.wm_spaces.specs.Sending.{sent_some}
 use Rattle.wm_spaces.specs.Renaming.{renamed_space}
 use Rattle.wm_spaces.specs.Targets.{goal_of}
 use Rattle.wm_tree.specs.Ids.{IdsRise}
-use Rattle.wm_tree.specs.declared.place.Place.TheVariants.{After}
+use Rattle.wm_forest.specs.declared.place.Place.TheVariants.{After}
 use Rattle.wm_tree.specs.Move.{exchanged, moved, unmarked, with_marks, wrapped}
 use Rattle.wm_tree.specs.TreeValue.{TreeValue, is_tiled_con, leaf, parent, workspace_of}
 use Rattle.wm_tree.specs.Words.{settled}

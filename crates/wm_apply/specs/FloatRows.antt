@@ -11,7 +11,7 @@ use Rattle.wm_grammar.specs.declared.arguments.Kind.{Kind}
 use Rattle.wm_grammar.specs.declared.arguments.Kind.TheVariants.{Floating, Tiling, Toggle}
 use Rattle.wm_grammar.specs.declared.arguments.OnOff.{OnOff}
 use Rattle.wm_grammar.specs.declared.arguments.OnOff.TheVariants as switch
-use Rattle.wm_tree.specs.declared.part.ConState.{ConState}
+use Rattle.wm_forest.specs.declared.part.ConState.{ConState}
 use Rattle.wm_tree.specs.TreeValue.{TreeValue}
 
 -- a property is on after the command, given whether it is on now

@@ -3,19 +3,19 @@ use Rattle.std.proofs.Common.{◌≡◌, ℕ, ◌+◌, ◌≤◌, Bool, true, fa
 use Rattle.wm_base.specs.declared.geometry.Rect.{Rect}
 use Rattle.wm_base.specs.declared.ids.ConId.{ConId}
 use Rattle.wm_base.specs.declared.plan.Layout.{Layout}
-use Rattle.wm_tree.specs.declared.part.ConKind.{ConKind}
-use Rattle.wm_tree.specs.declared.part.ConKind.TheVariants.{Split, Window, Placeholder}
-use Rattle.wm_tree.specs.declared.part.ConPart.{ConPart}
-use Rattle.wm_tree.specs.declared.part.NodeKind.{NodeKind}
-use Rattle.wm_tree.specs.declared.part.NodeKind.TheVariants.{Root, Output, Space, Con}
-use Rattle.wm_tree.specs.declared.part.OutputPart.{OutputPart}
-use Rattle.wm_tree.specs.declared.part.Part.{Part}
-use Rattle.wm_tree.specs.declared.part.SpacePart.{SpacePart}
-use Rattle.wm_tree.specs.Forest.{Forest, end, con}
-use Rattle.wm_tree.specs.Look.{node_in, output_kind, same, space_kind}
-use Rattle.wm_tree.specs.Sound.{tally}
+use Rattle.wm_forest.specs.declared.part.ConKind.{ConKind}
+use Rattle.wm_forest.specs.declared.part.ConKind.TheVariants.{Split, Window, Placeholder}
+use Rattle.wm_forest.specs.declared.part.ConPart.{ConPart}
+use Rattle.wm_forest.specs.declared.part.NodeKind.{NodeKind}
+use Rattle.wm_forest.specs.declared.part.NodeKind.TheVariants.{Root, Output, Space, Con}
+use Rattle.wm_forest.specs.declared.part.OutputPart.{OutputPart}
+use Rattle.wm_forest.specs.declared.part.Part.{Part}
+use Rattle.wm_forest.specs.declared.part.SpacePart.{SpacePart}
+use Rattle.wm_forest.specs.Forest.{Forest, end, con}
+use Rattle.wm_forest.specs.Look.{node_in, output_kind, same, space_kind}
+use Rattle.wm_forest.specs.SoundRow.{tally}
 use Rattle.wm_tree.specs.TreeValue.{TreeValue}
-use Rattle.wm_tree.proofs.RecencyLemmas.{same_is}
+use Rattle.wm_forest.proofs.RecencyLemmas.{same_is}
 use Rattle.wm_arrange.specs.declared.parts.Placed.{Placed}
 use Rattle.wm_arrange.specs.declared.parts.PlacedPart.TheVariants as parts
 use Rattle.wm_arrange.specs.Areas.{near_area, some_area}

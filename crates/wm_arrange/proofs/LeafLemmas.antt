@@ -1,11 +1,11 @@
 -- The windows and placeholders of a row, and below it, are told by their ids.
 use Rattle.std.proofs.Common.{◌≡◌, ◌+◌, ◌≤◌, Bool, true, false, ◌||◌, refl, sym, ◌∙◌, arith}
 use Rattle.wm_base.specs.declared.ids.ConId.{ConId}
-use Rattle.wm_tree.specs.declared.part.Part.{Part}
-use Rattle.wm_tree.specs.Forest.{Forest, end, con}
-use Rattle.wm_tree.specs.Look.{same}
-use Rattle.wm_tree.specs.Sound.{tally}
-use Rattle.wm_tree.proofs.RecencyLemmas.{same_self}
+use Rattle.wm_forest.specs.declared.part.Part.{Part}
+use Rattle.wm_forest.specs.Forest.{Forest, end, con}
+use Rattle.wm_forest.specs.Look.{same}
+use Rattle.wm_forest.specs.SoundRow.{tally}
+use Rattle.wm_forest.proofs.RecencyLemmas.{same_self}
 use Rattle.wm_arrange.specs.Cover.{is_leaf, leaf_in}
 
 -- the test tells the windows and placeholders of the row, and below it

@@ -5,10 +5,10 @@ use Rattle.wm_base.specs.declared.geometry.Rect.{Rect}
 use Rattle.wm_base.specs.declared.ids.ConId.{ConId}
 use Rattle.wm_base.specs.declared.plan.Layout.{Layout}
 use Rattle.wm_base.specs.Rect.{inset}
-use Rattle.wm_tree.specs.declared.part.Part.{Part}
-use Rattle.wm_tree.specs.Counts.{share_of, share_sum}
-use Rattle.wm_tree.specs.Forest.{Forest, end, con}
-use Rattle.wm_tree.specs.Look.{first_kids, rest_of, same}
+use Rattle.wm_forest.specs.declared.part.Part.{Part}
+use Rattle.wm_forest.specs.Counts.{share_of, share_sum}
+use Rattle.wm_forest.specs.Forest.{Forest, end, con}
+use Rattle.wm_forest.specs.Look.{first_kids, rest_of, same}
 use Rattle.wm_arrange.specs.declared.lots.Lots.{Lots}
 use Rattle.wm_arrange.specs.declared.lots.Lots.TheVariants.{Beside, Below}
 use Rattle.wm_arrange.specs.AreaOf.{area_among, as_area, child_area, cut_area, layout_of, or_area}

@@ -5,10 +5,10 @@ use Rattle.wm_base.specs.declared.geometry.Axis.{Axis}
 use Rattle.wm_base.specs.declared.geometry.Rect.{Rect}
 use Rattle.wm_base.specs.declared.ids.ConId.{ConId}
 use Rattle.wm_defs.specs.Cut.{cut}
-use Rattle.wm_tree.specs.declared.part.Part.{Part}
-use Rattle.wm_tree.specs.Counts.{row_length, share_of, share_sum}
-use Rattle.wm_tree.specs.Forest.{Forest, end, con, node_count}
-use Rattle.wm_tree.specs.Look.{first_floats, first_kids, first_part, rest_of}
+use Rattle.wm_forest.specs.declared.part.Part.{Part}
+use Rattle.wm_forest.specs.Counts.{row_length, share_of, share_sum}
+use Rattle.wm_forest.specs.Forest.{Forest, end, con, node_count}
+use Rattle.wm_forest.specs.Look.{first_floats, first_kids, first_part, rest_of}
 use Rattle.wm_arrange.specs.declared.children.Slots.{Slots}
 use Rattle.wm_arrange.specs.declared.children.Slots.TheVariants.{Beside, Alone}
 use Rattle.wm_arrange.specs.Areas.{cut_between, shares, side_of, slice_of, some_area}

@@ -1,11 +1,11 @@
 -- Where a tiled container or a workspace stands in a forest in which each id is there once.
 use Rattle.std.proofs.Common.{◌≡◌, ℕ, ◌+◌, ◌≤◌, Bool, true, false, cond, refl, subst, ◌∙◌, arith}
 use Rattle.wm_base.specs.declared.ids.ConId.{ConId}
-use Rattle.wm_tree.specs.declared.part.Part.{Part}
-use Rattle.wm_tree.specs.Change.{is_end}
-use Rattle.wm_tree.specs.Forest.{Forest, end, con}
-use Rattle.wm_tree.specs.Look.{same}
-use Rattle.wm_tree.specs.Sound.{one_of, tally}
+use Rattle.wm_forest.specs.declared.part.Part.{Part}
+use Rattle.wm_forest.specs.Change.{is_end}
+use Rattle.wm_forest.specs.Forest.{Forest, end, con}
+use Rattle.wm_forest.specs.Look.{same}
+use Rattle.wm_forest.specs.SoundRow.{one_of, tally}
 use Rattle.wm_arrange.specs.CoverTree.{inner_at, inner_or, or_row, tiled_at}
 use Rattle.wm_arrange.proofs.LeafLemmas.{here_once}
 

@@ -2,15 +2,15 @@
 use Rattle.std.proofs.Common.{◌≡◌, ◌≤◌, eqb, Bool, true, false, cond, ◌||◌, pos, [], ◌++◌, Option, None, Some, refl, ap, sym, subst, ◌∙◌, arith}
 use Rattle.wm_base.specs.declared.geometry.Rect.{Rect}
 use Rattle.wm_base.specs.declared.ids.ConId.{ConId}
-use Rattle.wm_tree.specs.declared.part.NodeKind.{NodeKind}
-use Rattle.wm_tree.specs.declared.part.NodeKind.TheVariants.{Root, Output, Space, Con}
-use Rattle.wm_tree.specs.declared.part.OutputPart.{OutputPart}
-use Rattle.wm_tree.specs.declared.part.Part.{Part}
-use Rattle.wm_tree.specs.declared.part.SpacePart.{SpacePart}
-use Rattle.wm_tree.specs.Change.{is_end}
-use Rattle.wm_tree.specs.Forest.{Forest, end, con}
-use Rattle.wm_tree.specs.Look.{first_kids, node_in, output_kind, same, space_kind}
-use Rattle.wm_tree.specs.Sound.{tally}
+use Rattle.wm_forest.specs.declared.part.NodeKind.{NodeKind}
+use Rattle.wm_forest.specs.declared.part.NodeKind.TheVariants.{Root, Output, Space, Con}
+use Rattle.wm_forest.specs.declared.part.OutputPart.{OutputPart}
+use Rattle.wm_forest.specs.declared.part.Part.{Part}
+use Rattle.wm_forest.specs.declared.part.SpacePart.{SpacePart}
+use Rattle.wm_forest.specs.Change.{is_end}
+use Rattle.wm_forest.specs.Forest.{Forest, end, con}
+use Rattle.wm_forest.specs.Look.{first_kids, node_in, output_kind, same, space_kind}
+use Rattle.wm_forest.specs.SoundRow.{tally}
 use Rattle.wm_tree.specs.TreeValue.{TreeValue, focused}
 use Rattle.wm_arrange.specs.declared.parts.PlacedPart.TheVariants as parts
 use Rattle.wm_arrange.specs.AreaOf.{area_in_output, area_in_outputs, area_in_space, area_in_spaces, as_area, or_area, or_nowhere}

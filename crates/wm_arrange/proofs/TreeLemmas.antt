@@ -1,13 +1,13 @@
 -- Sound trees: their workspaces and outputs.
 use Rattle.std.proofs.Common.{◌≡◌, ◌∙◌, sym, append-nil, ◌≤◌, List, ◌++◌, None, true, arith}
 use Rattle.wm_base.specs.declared.ids.ConId.{ConId}
-use Rattle.wm_tree.specs.declared.part.NodeKind.{NodeKind}
-use Rattle.wm_tree.specs.declared.part.NodeKind.TheVariants.{Root, Output, Space, Con}
-use Rattle.wm_tree.specs.Counts.{row_length}
-use Rattle.wm_tree.specs.Forest.{Forest, end, con}
-use Rattle.wm_tree.specs.Look.{first_floats, first_kids, first_part, node_in, rest_of}
-use Rattle.wm_tree.specs.Sound.{IsNode, IsSoundRow, outputs, spaces}
-use Rattle.wm_tree.specs.Spot.{room_below}
+use Rattle.wm_forest.specs.declared.part.NodeKind.{NodeKind}
+use Rattle.wm_forest.specs.declared.part.NodeKind.TheVariants.{Root, Output, Space, Con}
+use Rattle.wm_forest.specs.Counts.{row_length}
+use Rattle.wm_forest.specs.Forest.{Forest, end, con}
+use Rattle.wm_forest.specs.Look.{first_floats, first_kids, first_part, node_in, rest_of}
+use Rattle.wm_forest.specs.SoundRow.{IsNode, IsSoundRow, outputs, spaces}
+use Rattle.wm_forest.specs.Spot.{room_below}
 use Rattle.wm_tree.proofs.RaiseLemmas.{sound_node_in}
 use Rattle.wm_tree.specs.TreeValue.{TreeValue}
 use Rattle.wm_arrange.specs.declared.parts.Placed.{Placed}

@@ -4,8 +4,8 @@ use Rattle.wm_base.specs.declared.geometry.Axis.{Axis}
 use Rattle.wm_base.specs.declared.geometry.Axis.TheVariants.{Across, Down}
 use Rattle.wm_base.specs.declared.geometry.Edges.{Edges}
 use Rattle.wm_base.specs.declared.geometry.Rect.{Rect}
-use Rattle.wm_tree.specs.Counts.{share_of}
-use Rattle.wm_tree.specs.Forest.{Forest, end, con}
+use Rattle.wm_forest.specs.Counts.{share_of}
+use Rattle.wm_forest.specs.Forest.{Forest, end, con}
 use Rattle.wm_arrange.specs.declared.areas.Margins.{Margins}
 
 -- a span of places from -1,000,000 to 2,000,000, of at most 1,000,000

@@ -4,8 +4,8 @@ use Rattle.wm_base.specs.declared.geometry.Rect.{Rect}
 use Rattle.wm_base.specs.declared.plan.Border.{Border}
 use Rattle.wm_base.specs.declared.plan.Border.TheVariants.{Normal, Pixel, Bare}
 use Rattle.wm_base.specs.Rect.{inset}
-use Rattle.wm_tree.specs.declared.part.Part.{Part}
-use Rattle.wm_tree.specs.Forest.{Forest}
+use Rattle.wm_forest.specs.declared.part.Part.{Part}
+use Rattle.wm_forest.specs.Forest.{Forest}
 use Rattle.wm_arrange.specs.declared.parts.Placed.{Placed}
 use Rattle.wm_arrange.specs.declared.parts.PlacedPart.TheVariants as parts
 use Rattle.wm_arrange.specs.Gaps.{all_sides}

@@ -4,14 +4,14 @@ use Rattle.wm_base.specs.declared.geometry.Rect.{Rect}
 use Rattle.wm_base.specs.declared.ids.ConId.{ConId}
 use Rattle.wm_base.specs.declared.plan.Layout.{Layout}
 use Rattle.wm_base.specs.declared.plan.Layout.TheVariants.{SplitH, SplitV, Tabbed, Stacked}
-use Rattle.wm_tree.specs.declared.part.ConKind.{ConKind}
-use Rattle.wm_tree.specs.declared.part.ConKind.TheVariants.{Split, Window, Placeholder}
-use Rattle.wm_tree.specs.declared.part.NodeKind.{NodeKind}
-use Rattle.wm_tree.specs.declared.part.NodeKind.TheVariants.{Root, Output, Space, Con}
-use Rattle.wm_tree.specs.Change.{is_end}
-use Rattle.wm_tree.specs.Forest.{Forest, end, con}
-use Rattle.wm_tree.specs.Look.{same}
-use Rattle.wm_tree.specs.Sound.{tally}
+use Rattle.wm_forest.specs.declared.part.ConKind.{ConKind}
+use Rattle.wm_forest.specs.declared.part.ConKind.TheVariants.{Split, Window, Placeholder}
+use Rattle.wm_forest.specs.declared.part.NodeKind.{NodeKind}
+use Rattle.wm_forest.specs.declared.part.NodeKind.TheVariants.{Root, Output, Space, Con}
+use Rattle.wm_forest.specs.Change.{is_end}
+use Rattle.wm_forest.specs.Forest.{Forest, end, con}
+use Rattle.wm_forest.specs.Look.{same}
+use Rattle.wm_forest.specs.SoundRow.{tally}
 use Rattle.wm_arrange.specs.declared.parts.Placed.{Placed}
 use Rattle.wm_arrange.specs.declared.parts.PlacedPart.{PlacedPart}
 use Rattle.wm_arrange.specs.declared.parts.PlacedPart.TheVariants as parts

@@ -5,7 +5,7 @@ use Rattle.wm_base.specs.declared.geometry.Axis.TheVariants.{Across, Down}
 use Rattle.wm_base.specs.declared.geometry.Edges.{Edges}
 use Rattle.wm_base.specs.declared.geometry.Rect.{Rect}
 use Rattle.wm_base.specs.Rect.{inset}
-use Rattle.wm_tree.specs.Forest.{Forest, end, con}
+use Rattle.wm_forest.specs.Forest.{Forest, end, con}
 
 -- the same width along all sides
 abbrev pub all_sides : ℕ → Edges

@@ -3,9 +3,9 @@ use Rattle.std.specs.Prelude.{ℕ, ◌+◌, ◌≤◌, Bool, false, if◌then◌
 use Rattle.wm_base.specs.declared.geometry.Rect.{Rect}
 use Rattle.wm_base.specs.declared.ids.ConId.{ConId}
 use Rattle.wm_base.specs.Rect.{inset}
-use Rattle.wm_tree.specs.Counts.{share_of}
-use Rattle.wm_tree.specs.Forest.{Forest, end, con}
-use Rattle.wm_tree.specs.Look.{same}
+use Rattle.wm_forest.specs.Counts.{share_of}
+use Rattle.wm_forest.specs.Forest.{Forest, end, con}
+use Rattle.wm_forest.specs.Look.{same}
 use Rattle.wm_arrange.specs.declared.lots.Lots.{Lots}
 use Rattle.wm_arrange.specs.declared.lots.Lots.TheVariants.{Beside, Below}
 use Rattle.wm_arrange.specs.AreaOf.{area_among, as_area, layout_of, or_area}

@@ -3,10 +3,10 @@ use Rattle.std.specs.Prelude.{ℕ, ◌+◌, ◌≤◌, Bool, true, false, if◌t
 use Rattle.wm_base.specs.declared.geometry.Rect.{Rect}
 use Rattle.wm_base.specs.declared.ids.ConId.{ConId}
 use Rattle.wm_base.specs.Rect.{inset}
-use Rattle.wm_tree.specs.Change.{is_id}
-use Rattle.wm_tree.specs.Counts.{share_of}
-use Rattle.wm_tree.specs.Forest.{Forest, end, con}
-use Rattle.wm_tree.specs.Sound.{IsSoundRow, containers}
+use Rattle.wm_forest.specs.Change.{is_id}
+use Rattle.wm_forest.specs.Counts.{share_of}
+use Rattle.wm_forest.specs.Forest.{Forest, end, con}
+use Rattle.wm_forest.specs.SoundRow.{IsSoundRow, containers}
 use Rattle.wm_arrange.specs.declared.parts.Placed.{Placed}
 use Rattle.wm_arrange.specs.declared.children.Slots.{Slots}
 use Rattle.wm_arrange.specs.declared.children.Slots.TheVariants.{Beside, Alone}

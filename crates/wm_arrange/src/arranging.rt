@@ -9,9 +9,10 @@ ghost use Rattle.wm_arrange.specs.CoverTree.{inner_at, tiled_at, IsOfSplits, Lea
 ghost use Rattle.wm_arrange.specs.Gaps.{ground};
 ghost use Rattle.wm_arrange.specs.Scene.{seen};
 ghost use Rattle.wm_arrange.specs.Slots.{IsFloatRow, IsTiledRow};
-ghost use Rattle.wm_tree.specs.Counts.{row_length};
-ghost use Rattle.wm_tree.specs.Look.{first_floats, first_kids, node_in};
-ghost use Rattle.wm_tree.specs.Sound.{IsOutputRect, IsSound, IsSoundRow, spaces};
+ghost use Rattle.wm_forest.specs.Counts.{row_length};
+ghost use Rattle.wm_forest.specs.Look.{first_floats, first_kids, node_in};
+ghost use Rattle.wm_forest.specs.SoundRow.{IsOutputRect, IsSoundRow, spaces};
+ghost use Rattle.wm_tree.specs.Sound.{IsSound};
 
 use crate::areas::{Margins, trim};
 use crate::children::{place_floats, place_kids};

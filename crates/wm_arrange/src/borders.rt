@@ -3,7 +3,7 @@ ghost use Rattle.std.specs.Prelude.{◌≡◌, ◌≤◌, ◌++◌, IfSome, OnOk
 ghost use Rattle.wm_arrange.specs.Areas.{some_area, IsArea, IsFitMargins};
 ghost use Rattle.wm_arrange.specs.Borders.{below_title, border_part, width, window_parts, within_border};
 ghost use Rattle.wm_arrange.specs.Scene.{seen};
-ghost use Rattle.wm_tree.specs.Counts.{row_length};
+ghost use Rattle.wm_forest.specs.Counts.{row_length};
 
 use crate::areas::{Margins, below, some_area, trim};
 use crate::parts::{Placed, PlacedPart};

@@ -5,8 +5,8 @@ ghost use Rattle.wm_arrange.specs.Arranged.{floats_parts, kids_parts, rect_of, r
 ghost use Rattle.wm_arrange.specs.Gaps.{gap_after, gap_before, gaps, is_last};
 ghost use Rattle.wm_arrange.specs.Scene.{seen};
 ghost use Rattle.wm_arrange.specs.Slots.{own_in, parts_from, slot_between, HasSlots, IsFloatRow, IsTiledRow};
-ghost use Rattle.wm_tree.specs.Change.{is_id};
-ghost use Rattle.wm_tree.specs.Counts.{row_length, share_sum};
+ghost use Rattle.wm_forest.specs.Change.{is_id};
+ghost use Rattle.wm_forest.specs.Counts.{row_length, share_sum};
 
 use crate::areas::{Margins, below, cut_between, near_area, trim};
 use crate::borders::place_window;

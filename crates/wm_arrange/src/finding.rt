@@ -5,8 +5,9 @@ ghost use Rattle.wm_arrange.specs.Areas.{IsArea};
 ghost use Rattle.wm_arrange.specs.Gaps.{ground};
 ghost use Rattle.wm_arrange.specs.Lots.{area_from, HasLots};
 ghost use Rattle.wm_arrange.specs.Slots.{IsTiledRow};
-ghost use Rattle.wm_tree.specs.Counts.{row_length, share_sum};
-ghost use Rattle.wm_tree.specs.Sound.{outputs, spaces, IsOutputRect, IsSound, IsSoundRow};
+ghost use Rattle.wm_forest.specs.Counts.{row_length, share_sum};
+ghost use Rattle.wm_forest.specs.SoundRow.{outputs, spaces, IsOutputRect, IsSoundRow};
+ghost use Rattle.wm_tree.specs.Sound.{IsSound};
 
 use crate::areas::keep;
 use crate::arranging::ground_margins;

@@ -5,7 +5,7 @@ ghost use Rattle.wm_arrange.specs.AreaOf.{area_among, con_layout, layout_of};
 ghost use Rattle.wm_arrange.specs.Areas.{IsArea};
 ghost use Rattle.wm_arrange.specs.Lots.{area_from, lot_between, HasLots};
 ghost use Rattle.wm_arrange.specs.Slots.{IsTiledRow};
-ghost use Rattle.wm_tree.specs.Counts.{row_length, share_sum};
+ghost use Rattle.wm_forest.specs.Counts.{row_length, share_sum};
 
 use crate::areas::{cut_between, keep, keep_below};
 use crate::children::{Stretch, gaps};

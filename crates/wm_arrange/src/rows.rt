@@ -1,6 +1,6 @@
 //! Rows of nodes.
 ghost use Rattle.std.specs.Prelude.{◌≡◌, ◌≤◌};
-ghost use Rattle.wm_tree.specs.Counts.{row_length};
+ghost use Rattle.wm_forest.specs.Counts.{row_length};
 
 use wm_tree::Cursor;
 

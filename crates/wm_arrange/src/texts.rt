@@ -1,7 +1,7 @@
 //! The texts of titles.
 ghost use Rattle.std.specs.Prelude.{◌≡◌, ◌++◌, ◌≤◌, ◌<◌, codes, length, string_bytes, IfOk, OnOk};
 ghost use Rattle.wm_arrange.specs.TitleText.{con_text, cut_place, fitted, is_hidden, letter, mark_text, marks_text, node_text, title_text};
-ghost use Rattle.wm_tree.specs.Counts.{row_length};
+ghost use Rattle.wm_forest.specs.Counts.{row_length};
 ghost use Rattle.std.specs.Fmt.{decimal};
 ghost use Rattle.std.specs.String.Boundary.{IsSplitPoint};
 

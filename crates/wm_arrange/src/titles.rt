@@ -1,6 +1,6 @@
 //! Placing titles: above a window, or above the children of a container.
 ghost use Rattle.std.specs.Prelude.{◌≡◌, ◌+◌, ◌≤◌, ◌++◌, OnOk};
-ghost use Rattle.wm_tree.specs.Counts.{row_length};
+ghost use Rattle.wm_forest.specs.Counts.{row_length};
 ghost use Rattle.wm_arrange.specs.Areas.{IsArea};
 ghost use Rattle.wm_arrange.specs.Scene.{seen};
 ghost use Rattle.wm_arrange.specs.Slots.{line_at, FitsLines, IsTiledRow};

@@ -6,17 +6,19 @@ use Rattle.wm_base.specs.declared.geometry.Size.{Size}
 use Rattle.wm_base.specs.declared.ids.Buffer.{Buffer}
 use Rattle.wm_base.specs.declared.ids.ConId.{ConId}
 use Rattle.wm_base.specs.declared.properties.Props.{Props}
-use Rattle.wm_tree.specs.declared.part.Part.{Part}
-use Rattle.wm_tree.specs.declared.place.NewCon.TheVariants as news
-use Rattle.wm_tree.specs.declared.place.Place.{Place}
-use Rattle.wm_tree.specs.Counts.{count}
-use Rattle.wm_tree.specs.Forest.{Forest, end, con}
-use Rattle.wm_tree.specs.Look.{same}
-use Rattle.wm_tree.specs.Place.{new_part, rect_at, share_at}
-use Rattle.wm_tree.specs.Sound.{IsSound, times}
-use Rattle.wm_tree.specs.TreeValue.{TreeValue, id}
+use Rattle.wm_forest.specs.declared.part.Part.{Part}
+use Rattle.wm_forest.specs.declared.place.NewCon.TheVariants as news
+use Rattle.wm_forest.specs.declared.place.Place.{Place}
+use Rattle.wm_forest.specs.Counts.{count}
+use Rattle.wm_forest.specs.Forest.{Forest, end, con}
+use Rattle.wm_forest.specs.Look.{same}
+use Rattle.wm_forest.specs.Place.{new_part, rect_at, share_at}
+use Rattle.wm_tree.specs.Sound.{IsSound}
+use Rattle.wm_forest.specs.SoundRow.{times}
+use Rattle.wm_tree.specs.TreeValue.{TreeValue}
+use Rattle.wm_forest.specs.RootId.{id}
 use Rattle.wm_tree.specs.Words.{attached}
-use Rattle.wm_tree.proofs.RecencyLemmas.{same_is}
+use Rattle.wm_forest.proofs.RecencyLemmas.{same_is}
 use Rattle.wm_txn.specs.History.{is_fresh}
 use Rattle.wm_opens.specs.Opens.{is_window_of, owned_at, window_at, windows, windows_at}
 use Rattle.wm_opens.proofs.KeptLemmas.{Kept}

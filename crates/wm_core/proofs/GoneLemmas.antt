@@ -2,15 +2,16 @@
 use Rattle.std.proofs.Common.{◌≡◌, ◌≢◌, ℕ, suc, ◌-◌, ◌≤◌, Bool, true, false, cond, List, [], ◌∷◌, filter, length, get_or, take, drop, Option, None, Some, refl, ap, sym, subst, ◌∙◌, arith}
 use Rattle.std.proofs.lemmas.List.{take_all}
 use Rattle.wm_base.specs.declared.ids.ConId.{ConId}
-use Rattle.wm_tree.specs.Look.{con_kind, has, kind_by, kind_of, only, same}
-use Rattle.wm_tree.specs.Sound.{IsSound, one_of}
-use Rattle.wm_tree.specs.Spot.{top}
-use Rattle.wm_tree.specs.Change.{without}
+use Rattle.wm_forest.specs.Look.{con_kind, has, kind_by, kind_of, only, same}
+use Rattle.wm_tree.specs.Sound.{IsSound}
+use Rattle.wm_forest.specs.SoundRow.{one_of}
+use Rattle.wm_forest.specs.Spot.{top}
+use Rattle.wm_forest.specs.Change.{without}
 use Rattle.wm_tree.specs.TreeValue.{TreeValue}
 use Rattle.wm_tree.specs.Words.{detached}
-use Rattle.wm_tree.specs.declared.part.ConPart.{ConPart}
-use Rattle.wm_tree.proofs.CountLemmas.{count-without, counted, there}
-use Rattle.wm_tree.proofs.LookLemmas.{seen-without}
+use Rattle.wm_forest.specs.declared.part.ConPart.{ConPart}
+use Rattle.wm_forest.proofs.CountLemmas.{count-without, counted, there}
+use Rattle.wm_forest.proofs.LookLemmas.{seen-without}
 use Rattle.wm_opens.proofs.KeptLemmas.{Kept, kept_detached, kept_refl, kept_trans}
 use Rattle.wm_core.specs.Windows.{AreContainers, is_caller, is_window, owned, part_owner, without_windows}
 

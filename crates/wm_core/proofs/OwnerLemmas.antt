@@ -9,13 +9,13 @@ use Rattle.wm_focus.specs.Swaps.{is_window_kind}
 use Rattle.wm_opens.proofs.OwnerLemmas.{owned_found, owned_seen}
 use Rattle.wm_opens.specs.Opens.{is_owned_kind, is_owned_of, is_owned_part, is_window_of, is_window_part, owned_at}
 use Rattle.wm_tree.proofs.ExchangeSound.{zero_has}
-use Rattle.wm_tree.proofs.ForestLemmas.{only_absent}
-use Rattle.wm_tree.proofs.RecencyLemmas.{same_is}
-use Rattle.wm_tree.specs.Counts.{count}
-use Rattle.wm_tree.specs.declared.part.ConKind.{ConKind}
-use Rattle.wm_tree.specs.declared.part.ConKind.TheVariants.{Split, Window, Placeholder}
-use Rattle.wm_tree.specs.declared.part.ConPart.{ConPart}
-use Rattle.wm_tree.specs.Look.{con_kind, first_part, has, kind_by, kind_of, same}
+use Rattle.wm_forest.proofs.ForestLemmas.{only_absent}
+use Rattle.wm_forest.proofs.RecencyLemmas.{same_is}
+use Rattle.wm_forest.specs.Counts.{count}
+use Rattle.wm_forest.specs.declared.part.ConKind.{ConKind}
+use Rattle.wm_forest.specs.declared.part.ConKind.TheVariants.{Split, Window, Placeholder}
+use Rattle.wm_forest.specs.declared.part.ConPart.{ConPart}
+use Rattle.wm_forest.specs.Look.{con_kind, first_part, has, kind_by, kind_of, same}
 use Rattle.wm_tree.specs.Sound.{IsSound}
 use Rattle.wm_tree.specs.TreeValue.{TreeValue}
 use Rattle.wm_txn.specs.History.{is_fresh}

@@ -4,9 +4,10 @@ use Rattle.std.proofs.lemmas.Bool.{false_from_ne_true, le-leb, leb-true, or_righ
 use Rattle.std.specs.List.{list_any}
 use Rattle.wm_base.specs.declared.ids.Buffer.{Buffer}
 use Rattle.wm_base.specs.declared.ids.ConId.{ConId}
-use Rattle.wm_tree.specs.Look.{same}
+use Rattle.wm_forest.specs.Look.{same}
 use Rattle.wm_tree.specs.Sound.{IsSound}
-use Rattle.wm_tree.specs.TreeValue.{TreeValue, id, opening_outputs, root}
+use Rattle.wm_tree.specs.TreeValue.{TreeValue, opening_outputs}
+use Rattle.wm_forest.specs.RootId.{id, root}
 use Rattle.wm_layouts.specs.declared.plan.Plan.{Plan}
 use Rattle.wm_arrange.specs.declared.parts.Placed.{Placed}
 use Rattle.wm_arrange.specs.Arranged.{arranged}
@@ -34,7 +35,7 @@ use Rattle.wm_txn.proofs.ReadingLemmas.{asked_is}
 use Rattle.wm_txn.specs.Commits.{asked}
 use Rattle.wm_txn.specs.Heard.{heard}
 use Rattle.wm_txn.specs.Windows.{find}
-use Rattle.wm_tree.specs.Counts.{count}
+use Rattle.wm_forest.specs.Counts.{count}
 use Rattle.wm_base.specs.declared.geometry.Size.{Size}
 use Rattle.wm_base.specs.declared.plan.OutputPlan.{OutputPlan}
 

@@ -1,7 +1,7 @@
 -- The value of a desk, and the histories that it stands for.
 use Rattle.std.specs.Prelude.{◌≡◌, ◌<◌, ◌≤◌, ℕ, ◌+◌, nat_le, true, false, ◌||◌, if◌then◌else◌, Bool, List, [], ◌∷◌, length, Option, None, Some, refl}
 use Rattle.std.specs.Coded.{Coded, code_by, coded×, coded_ℕ, coded_bool, coded_list}
-use Rattle.wm_tree.specs.Counts.{count}
+use Rattle.wm_forest.specs.Counts.{count}
 use Rattle.wm_tree.specs.Sound.{IsSound}
 use Rattle.wm_base.specs.declared.ids.Buffer.{Buffer}
 use Rattle.wm_base.specs.declared.ids.ConId.{ConId}

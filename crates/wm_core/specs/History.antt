@@ -7,11 +7,12 @@ use Rattle.wm_base.specs.declared.geometry.Size.{Size}
 use Rattle.wm_base.specs.declared.ids.Buffer.{Buffer}
 use Rattle.wm_base.specs.declared.ids.ConId.{ConId}
 use Rattle.wm_base.specs.declared.properties.Props.{Props}
-use Rattle.wm_tree.specs.declared.place.NewCon.TheVariants as new
-use Rattle.wm_tree.specs.Look.{same}
-use Rattle.wm_tree.specs.Place.{passed_limit}
+use Rattle.wm_forest.specs.declared.place.NewCon.TheVariants as new
+use Rattle.wm_forest.specs.Look.{same}
+use Rattle.wm_forest.specs.Place.{passed_limit}
 use Rattle.wm_floats.specs.Fullscreen.{fills_alone}
-use Rattle.wm_tree.specs.TreeValue.{TreeValue, opening, id, newcomer_place, workspace_of}
+use Rattle.wm_tree.specs.TreeValue.{TreeValue, opening, newcomer_place, workspace_of}
+use Rattle.wm_forest.specs.RootId.{id}
 use Rattle.wm_tree.specs.Words.{attached, detached, settled, with_raised}
 use Rattle.wm_layouts.specs.declared.plan.Plan.{Plan}
 use Rattle.wm_core.specs.declared.step.Answer.{Answer}

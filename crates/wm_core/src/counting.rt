@@ -5,7 +5,7 @@ ghost use Rattle.wm_core.specs.History.{closed, fresh_ids};
 ghost use Rattle.wm_core.specs.Windows.{window_count, window_part};
 ghost use Rattle.wm_focus.specs.Swaps.{is_window_kind};
 ghost use Rattle.wm_opens.specs.Opens.{is_window_of, windows};
-ghost use Rattle.wm_tree.specs.Counts.{count};
+ghost use Rattle.wm_forest.specs.Counts.{count};
 ghost use Rattle.wm_tree.specs.Sound.{IsSound};
 
 use crate::holding::{holds, windows_of};

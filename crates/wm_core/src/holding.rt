@@ -3,7 +3,7 @@ ghost use Rattle.std.specs.Prelude.{◌≡◌, ◌||◌, nat_lt, IfOk, OnOk};
 ghost use Rattle.wm_base.specs.declared.ids.ConId.{ConId};
 ghost use Rattle.wm_core.specs.Windows.{holds};
 ghost use Rattle.wm_opens.specs.Opens.{is_window_of, window_at};
-ghost use Rattle.wm_tree.specs.Counts.{count};
+ghost use Rattle.wm_forest.specs.Counts.{count};
 ghost use Rattle.wm_tree.specs.Sound.{IsSound};
 
 use crate::counting::one_if_window;

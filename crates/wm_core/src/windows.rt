@@ -5,8 +5,8 @@ ghost use Rattle.wm_core.specs.Act.{Close, Gone, Retitle, Urgent};
 ghost use Rattle.wm_core.specs.DeskValue.{judge_of, Stands};
 ghost use Rattle.wm_core.specs.History.{answer_to, History};
 ghost use Rattle.wm_core.specs.Windows.{AreContainers, is_window, owned, with_urgent, without_urgent, without_windows};
-ghost use Rattle.wm_tree.specs.Look.{con_kind, has, kind_of};
-ghost use Rattle.wm_tree.specs.Recency.{lists};
+ghost use Rattle.wm_forest.specs.Look.{con_kind, has, kind_of};
+ghost use Rattle.wm_forest.specs.Recency.{lists};
 ghost use Rattle.wm_tree.specs.Sound as trees;
 
 use crate::desk::Desk;

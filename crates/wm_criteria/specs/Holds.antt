@@ -7,12 +7,12 @@ use Rattle.wm_base.specs.declared.ids.ConId.{ConId}
 use Rattle.wm_base.specs.declared.properties.Props.{Props}
 use Rattle.wm_grammar.specs.declared.batch.Key.{Key}
 use Rattle.wm_grammar.specs.declared.batch.Key.TheVariants as keys
-use Rattle.wm_tree.specs.declared.part.ConKind.{ConKind}
-use Rattle.wm_tree.specs.declared.part.ConKind.TheVariants.{Split, Window, Placeholder}
-use Rattle.wm_tree.specs.declared.part.ConPart.{ConPart}
-use Rattle.wm_tree.specs.declared.part.SpacePart.{SpacePart}
-use Rattle.wm_tree.specs.Change.{is_id}
-use Rattle.wm_tree.specs.Look.{con_kind, first_marks, kind_of, only, same, space_kind}
+use Rattle.wm_forest.specs.declared.part.ConKind.{ConKind}
+use Rattle.wm_forest.specs.declared.part.ConKind.TheVariants.{Split, Window, Placeholder}
+use Rattle.wm_forest.specs.declared.part.ConPart.{ConPart}
+use Rattle.wm_forest.specs.declared.part.SpacePart.{SpacePart}
+use Rattle.wm_forest.specs.Change.{is_id}
+use Rattle.wm_forest.specs.Look.{con_kind, first_marks, kind_of, only, same, space_kind}
 use Rattle.wm_tree.specs.TreeValue.{TreeValue, focused, is_tiled_con, shown, workspace_of}
 use Rattle.wm_criteria.specs.declared.property.Property.{Property}
 use Rattle.wm_criteria.specs.declared.property.Property.TheVariants.{Class, Instance, Role, Machine, Title}

@@ -3,8 +3,8 @@ ghost use Rattle.std.specs.Prelude.{◌≡◌, ◌&&◌, not, if◌then◌else�
 ghost use Rattle.std.specs.List.{list_any};
 ghost use Rattle.std.specs.Option.{option_copied};
 ghost use Rattle.wm_base.specs.declared.properties.Props.{Props};
-ghost use Rattle.wm_tree.specs.Change.{is_id};
-ghost use Rattle.wm_tree.specs.Look.{first_marks, only};
+ghost use Rattle.wm_forest.specs.Change.{is_id};
+ghost use Rattle.wm_forest.specs.Look.{first_marks, only};
 ghost use Rattle.wm_tree.specs.TreeValue.{is_tiled_con, shown, workspace_of};
 ghost use Rattle.wm_criteria.specs.Holds.{asks, end_id, focused_property, is_text, is_window, key_holds, space_name, window, window_asks, workspace_name};
 ghost use Rattle.wm_criteria.specs.Patterns.{to_build, unless_focused, unless_plain};

@@ -20,25 +20,27 @@ use Rattle.wm_shared.specs.Rects.{rect_of}
 use Rattle.wm_shared.proofs.SpaceOfLemmas.{IsLow, LowKind, below_space}
 use Rattle.wm_tree.proofs.AlongLemmas.{space_there}
 use Rattle.wm_tree.proofs.AttachLemmas.{has_row}
-use Rattle.wm_tree.proofs.OnceLemmas.{only_floats}
-use Rattle.wm_tree.proofs.RecencyLemmas.{same_self}
-use Rattle.wm_tree.specs.declared.part.ConPart.{ConPart}
-use Rattle.wm_tree.specs.declared.part.NodeKind.{NodeKind}
-use Rattle.wm_tree.specs.declared.part.NodeKind.TheVariants.{Root, Output, Space, Con}
-use Rattle.wm_tree.specs.declared.part.Part.{Part}
-use Rattle.wm_tree.specs.declared.place.Place.{Place}
-use Rattle.wm_tree.specs.declared.place.Place.TheVariants.{Float, Scratchpad}
-use Rattle.wm_tree.specs.declared.place.TreeRefusal.{TreeRefusal}
-use Rattle.wm_tree.specs.declared.place.TreeRefusal.TheVariants as refusals
-use Rattle.wm_tree.specs.declared.part.SpacePart.{SpacePart}
-use Rattle.wm_tree.specs.declared.spot.Spot.{Spot}
-use Rattle.wm_tree.specs.Change.{is_id}
-use Rattle.wm_tree.specs.Forest.{Forest, end, con}
-use Rattle.wm_tree.specs.Look.{con_kind, first_floats, first_part, has, in_row, kind_by, kind_of, nth_id, only, output_kind, same, space_kind}
+use Rattle.wm_forest.proofs.OnceLemmas.{only_floats}
+use Rattle.wm_forest.proofs.RecencyLemmas.{same_self}
+use Rattle.wm_forest.specs.declared.part.ConPart.{ConPart}
+use Rattle.wm_forest.specs.declared.part.NodeKind.{NodeKind}
+use Rattle.wm_forest.specs.declared.part.NodeKind.TheVariants.{Root, Output, Space, Con}
+use Rattle.wm_forest.specs.declared.part.Part.{Part}
+use Rattle.wm_forest.specs.declared.place.Place.{Place}
+use Rattle.wm_forest.specs.declared.place.Place.TheVariants.{Float, Scratchpad}
+use Rattle.wm_tree.specs.declared.refusal.TreeRefusal.{TreeRefusal}
+use Rattle.wm_tree.specs.declared.refusal.TreeRefusal.TheVariants as refusals
+use Rattle.wm_forest.specs.declared.part.SpacePart.{SpacePart}
+use Rattle.wm_forest.specs.declared.spot.Spot.{Spot}
+use Rattle.wm_forest.specs.Change.{is_id}
+use Rattle.wm_forest.specs.Forest.{Forest, end, con}
+use Rattle.wm_forest.specs.Look.{con_kind, first_floats, first_part, has, in_row, kind_by, kind_of, nth_id, only, output_kind, same, space_kind}
 use Rattle.wm_tree.specs.Move.{IsMoveCause, passed_by_move}
-use Rattle.wm_tree.specs.Sound.{IsNode, IsSound, IsSoundRow, containers, roots, tally}
-use Rattle.wm_tree.specs.Spot.{room_below, space_by, spot_below, spot_in, spot_of, top}
-use Rattle.wm_tree.specs.TreeValue.{TreeValue, current, is_tiled_con, root, shown, workspace_of}
+use Rattle.wm_forest.specs.SoundRow.{IsNode, IsSoundRow, containers, roots, tally}
+use Rattle.wm_tree.specs.Sound.{IsSound}
+use Rattle.wm_forest.specs.Spot.{room_below, space_by, spot_below, spot_in, spot_of, top}
+use Rattle.wm_tree.specs.TreeValue.{TreeValue, current, is_tiled_con, shown, workspace_of}
+use Rattle.wm_forest.specs.RootId.{root}
 
 -- ---- why a container does not move
 

@@ -8,25 +8,27 @@ use Rattle.wm_shared.proofs.ShowLemmas.{workspace_is, space_is}
 use Rattle.wm_shared.proofs.SpaceLemmas.{IsSpaceIn, not_within}
 use Rattle.wm_shared.proofs.KidLemmas.{con_there}
 use Rattle.wm_tree.proofs.AlongLemmas.{space_there}
-use Rattle.wm_tree.proofs.CountLemmas.{counted}
-use Rattle.wm_tree.proofs.ForestLemmas.{only_absent}
+use Rattle.wm_forest.proofs.CountLemmas.{counted}
+use Rattle.wm_forest.proofs.ForestLemmas.{only_absent}
 use Rattle.wm_tree.proofs.LeafLaws.{first_there}
-use Rattle.wm_tree.proofs.OnceLemmas.{in_floats, in_kids, in_rest, only_floats, only_kids, only_rest, spot_floats, spot_kids, spot_rest, within}
+use Rattle.wm_forest.proofs.OnceLemmas.{in_floats, in_kids, in_rest, only_floats, only_kids, only_rest, spot_floats, spot_kids, spot_rest, within}
 use Rattle.wm_tree.proofs.PlaceLemmas.{after_fits}
-use Rattle.wm_tree.proofs.RecencyLemmas.{same_is, same_self}
-use Rattle.wm_tree.specs.declared.part.NodeKind.{NodeKind}
-use Rattle.wm_tree.specs.declared.part.NodeKind.TheVariants.{Root, Output, Space, Con}
-use Rattle.wm_tree.specs.declared.part.Part.{Part}
-use Rattle.wm_tree.specs.declared.place.Place.{Place}
-use Rattle.wm_tree.specs.declared.place.Place.TheVariants.{After, Last}
-use Rattle.wm_tree.specs.declared.spot.Spot.{Spot}
-use Rattle.wm_tree.specs.Forest.{Forest, end, con}
-use Rattle.wm_tree.specs.Look.{con_kind, first_part, has, kind_by, kind_of, only, same, space_kind}
-use Rattle.wm_tree.specs.Place.{TakesFirst, TakesKids}
-use Rattle.wm_tree.specs.Recency.{first_held}
-use Rattle.wm_tree.specs.Sound.{IsSound, one_of, tally}
-use Rattle.wm_tree.specs.Spot.{spot_below, spot_in, spot_of, top}
-use Rattle.wm_tree.specs.TreeValue.{TreeValue, follow, is_con, is_tiled_con, is_tiled_spot, leaf, leaf_at, leaf_of, or_id, tiled_by, workspace_of}
+use Rattle.wm_forest.proofs.RecencyLemmas.{same_is, same_self}
+use Rattle.wm_forest.specs.declared.part.NodeKind.{NodeKind}
+use Rattle.wm_forest.specs.declared.part.NodeKind.TheVariants.{Root, Output, Space, Con}
+use Rattle.wm_forest.specs.declared.part.Part.{Part}
+use Rattle.wm_forest.specs.declared.place.Place.{Place}
+use Rattle.wm_forest.specs.declared.place.Place.TheVariants.{After, Last}
+use Rattle.wm_forest.specs.declared.spot.Spot.{Spot}
+use Rattle.wm_forest.specs.Forest.{Forest, end, con}
+use Rattle.wm_forest.specs.Look.{con_kind, first_part, has, kind_by, kind_of, only, same, space_kind}
+use Rattle.wm_forest.specs.Place.{TakesFirst, TakesKids}
+use Rattle.wm_forest.specs.Recency.{first_held}
+use Rattle.wm_tree.specs.Sound.{IsSound}
+use Rattle.wm_forest.specs.SoundRow.{one_of, tally}
+use Rattle.wm_forest.specs.Spot.{spot_below, spot_in, spot_of, top}
+use Rattle.wm_tree.specs.TreeValue.{TreeValue, is_con, is_tiled_con, is_tiled_spot, leaf, or_id, workspace_of}
+use Rattle.wm_forest.specs.Focus.{follow, leaf_at, leaf_of, tiled_by}
 
 abbrev Once : Forest → Type 0
 Once f = (i : ConId) → tally i f ≤ 1

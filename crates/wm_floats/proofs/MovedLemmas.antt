@@ -9,26 +9,27 @@ use Rattle.wm_floats.specs.Kinds.{is_flagged_state}
 use Rattle.wm_floats.specs.Windows.{flag_set, natural_by, restated, state_of}
 use Rattle.wm_shared.specs.Rects.{output_part_of}
 use Rattle.wm_shared.proofs.KidLemmas.{con_there}
-use Rattle.wm_tree.proofs.CountLemmas.{count-without, counted, found_counted}
-use Rattle.wm_tree.proofs.ForestLemmas.{only_absent}
-use Rattle.wm_tree.proofs.LookLemmas.{none_of_four, seen-without}
-use Rattle.wm_tree.proofs.OnceLemmas.{in_rest}
-use Rattle.wm_tree.specs.declared.kind.KindEdit.TheVariants as edits
-use Rattle.wm_tree.specs.declared.part.ConPart.{ConPart}
-use Rattle.wm_tree.specs.declared.part.ConState.{ConState}
-use Rattle.wm_tree.specs.declared.part.NodeKind.{NodeKind}
-use Rattle.wm_tree.specs.declared.part.NodeKind.TheVariants.{Root, Output, Space, Con}
-use Rattle.wm_tree.specs.declared.part.Part.{Part}
-use Rattle.wm_tree.specs.declared.place.Place.{Place}
-use Rattle.wm_tree.specs.declared.place.Place.TheVariants.{After, Before, First, Last, Float, Scratchpad}
-use Rattle.wm_tree.specs.Change.{append, arriving, at, nobody, or_rect, placed, unfull, unfull_kind, without}
-use Rattle.wm_tree.specs.Forest.{Forest, end, con}
-use Rattle.wm_tree.specs.Kinds.{changed, kind_changed}
-use Rattle.wm_tree.specs.Look.{con_kind, first_part, has, kind_by, kind_of, only, same}
+use Rattle.wm_forest.proofs.CountLemmas.{count-without, counted, found_counted}
+use Rattle.wm_forest.proofs.ForestLemmas.{only_absent}
+use Rattle.wm_forest.proofs.LookLemmas.{none_of_four, seen-without}
+use Rattle.wm_forest.proofs.OnceLemmas.{in_rest}
+use Rattle.wm_forest.specs.declared.kind.KindEdit.TheVariants as edits
+use Rattle.wm_forest.specs.declared.part.ConPart.{ConPart}
+use Rattle.wm_forest.specs.declared.part.ConState.{ConState}
+use Rattle.wm_forest.specs.declared.part.NodeKind.{NodeKind}
+use Rattle.wm_forest.specs.declared.part.NodeKind.TheVariants.{Root, Output, Space, Con}
+use Rattle.wm_forest.specs.declared.part.Part.{Part}
+use Rattle.wm_forest.specs.declared.place.Place.{Place}
+use Rattle.wm_forest.specs.declared.place.Place.TheVariants.{After, Before, First, Last, Float, Scratchpad}
+use Rattle.wm_forest.specs.Change.{append, arriving, at, nobody, or_rect, placed, unfull, unfull_kind, without}
+use Rattle.wm_forest.specs.Forest.{Forest, end, con}
+use Rattle.wm_forest.specs.Kinds.{changed, kind_changed}
+use Rattle.wm_forest.specs.Look.{con_kind, first_part, has, kind_by, kind_of, only, same}
 use Rattle.wm_tree.specs.Move.{apart, moved, moved_share}
-use Rattle.wm_tree.specs.Place.{named, put, put_word, rect_at}
-use Rattle.wm_tree.specs.Sound.{IsSound, one_of, tally}
-use Rattle.wm_tree.specs.Spot.{top}
+use Rattle.wm_forest.specs.Place.{named, put, put_word, rect_at}
+use Rattle.wm_tree.specs.Sound.{IsSound}
+use Rattle.wm_forest.specs.SoundRow.{one_of, tally}
+use Rattle.wm_forest.specs.Spot.{top}
 use Rattle.wm_tree.specs.TreeValue.{TreeValue, is_tiled_con, leaf, or_id}
 
 -- ---- rows that are joined

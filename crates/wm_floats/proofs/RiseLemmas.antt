@@ -15,9 +15,9 @@ use Rattle.wm_shared.proofs.RiseLemmas.{ids_focusing, ids_same}
 use Rattle.wm_shared.specs.Subject.{is_hidden}
 use Rattle.wm_shared.specs.Rects.{rect_of}
 use Rattle.wm_tree.proofs.IdLemmas.{ids_edited, ids_moved, ids_raised, ids_refl, ids_trans}
-use Rattle.wm_tree.specs.declared.kind.KindEdit.TheVariants as edits
-use Rattle.wm_tree.specs.declared.part.ConState.{ConState}
-use Rattle.wm_tree.specs.declared.place.Place.TheVariants.{Float, Scratchpad}
+use Rattle.wm_forest.specs.declared.kind.KindEdit.TheVariants as edits
+use Rattle.wm_forest.specs.declared.part.ConState.{ConState}
+use Rattle.wm_forest.specs.declared.place.Place.TheVariants.{Float, Scratchpad}
 use Rattle.wm_tree.specs.Ids.{IdsRise}
 use Rattle.wm_tree.specs.Move.{moved}
 use Rattle.wm_tree.specs.TreeValue.{TreeValue, focused, is_tiled_con, shown, workspace_of}

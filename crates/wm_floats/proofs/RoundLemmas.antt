@@ -6,9 +6,9 @@ use Rattle.wm_floats.specs.Rounds.{key_round, keys_round}
 use Rattle.wm_shared.proofs.KeyLemmas.{least_with, lesser_assoc}
 use Rattle.wm_shared.specs.declared.keys.Key.{Key}
 use Rattle.wm_shared.specs.Keys.{least, lesser}
-use Rattle.wm_tree.specs.declared.part.Part.{Part}
-use Rattle.wm_tree.specs.Forest.{Forest, end, con}
-use Rattle.wm_tree.specs.Look.{first_part, rest_of}
+use Rattle.wm_forest.specs.declared.part.Part.{Part}
+use Rattle.wm_forest.specs.Forest.{Forest, end, con}
+use Rattle.wm_forest.specs.Look.{first_part, rest_of}
 
 -- the best so far of a row, with its first node
 pub round_step : (d : Dir) (c : ConId) (row rest : Forest) (part : Part) (best k new all : Option Key) → first_part row ≡ Some part → rest ≡ rest_of row → k ≡ key_round d c part.id → new ≡ lesser best k

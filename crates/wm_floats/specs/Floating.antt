@@ -10,14 +10,14 @@ use Rattle.wm_floats.specs.Places.{held_middle, outer_size}
 use Rattle.wm_floats.specs.Windows.{flag_set, natural_by, window_refusal}
 use Rattle.wm_shared.specs.Refusing.{full_error}
 use Rattle.wm_shared.specs.Rects.{output_part_of}
-use Rattle.wm_tree.specs.declared.part.ConPart.{ConPart}
-use Rattle.wm_tree.specs.declared.part.OutputPart.{OutputPart}
-use Rattle.wm_tree.specs.declared.place.Place.{Place}
-use Rattle.wm_tree.specs.declared.place.Place.TheVariants.{After, Last, Float}
+use Rattle.wm_forest.specs.declared.part.ConPart.{ConPart}
+use Rattle.wm_forest.specs.declared.part.OutputPart.{OutputPart}
+use Rattle.wm_forest.specs.declared.place.Place.{Place}
+use Rattle.wm_forest.specs.declared.place.Place.TheVariants.{After, Last, Float}
 use Rattle.wm_tree.specs.Along.{nowhere}
-use Rattle.wm_tree.specs.Look.{con_kind, has, kind_of}
+use Rattle.wm_forest.specs.Look.{con_kind, has, kind_of}
 use Rattle.wm_tree.specs.Move.{IsMove, moved, passed_by_move}
-use Rattle.wm_tree.specs.Place.{named}
+use Rattle.wm_forest.specs.Place.{named}
 use Rattle.wm_tree.specs.TreeValue.{TreeValue, is_tiled_con, leaf, or_id, workspace_of}
 
 -- c is there, and so is the place to which it may move

@@ -3,12 +3,12 @@ use Rattle.std.specs.Prelude.{Bool, true, false, ◌&&◌, not, if◌then◌else
 use Rattle.std.specs.Option.{option_or}
 use Rattle.wm_base.specs.declared.ids.ConId.{ConId}
 use Rattle.wm_floats.specs.Windows.{full_set}
-use Rattle.wm_tree.specs.declared.part.NodeKind.{NodeKind}
-use Rattle.wm_tree.specs.declared.part.NodeKind.TheVariants.{Root, Output, Space, Con}
-use Rattle.wm_tree.specs.declared.part.Part.{Part}
-use Rattle.wm_tree.specs.Change.{at, unfull}
-use Rattle.wm_tree.specs.Forest.{Forest, end, con}
-use Rattle.wm_tree.specs.Look.{same}
+use Rattle.wm_forest.specs.declared.part.NodeKind.{NodeKind}
+use Rattle.wm_forest.specs.declared.part.NodeKind.TheVariants.{Root, Output, Space, Con}
+use Rattle.wm_forest.specs.declared.part.Part.{Part}
+use Rattle.wm_forest.specs.Change.{at, unfull}
+use Rattle.wm_forest.specs.Forest.{Forest, end, con}
+use Rattle.wm_forest.specs.Look.{same}
 use Rattle.wm_tree.specs.TreeValue.{TreeValue, workspace_of}
 
 -- a workspace in which no container but c is fullscreen

@@ -8,8 +8,8 @@ use Rattle.wm_floats.specs.declared.kinds.Kind.TheVariants as kinds
 use Rattle.wm_floats.specs.Windows.{state_of}
 use Rattle.wm_shared.specs.Refusing.{error_if}
 use Rattle.wm_shared.specs.Subject.{is_container, is_hidden}
-use Rattle.wm_tree.specs.declared.part.ConState.{ConState}
-use Rattle.wm_tree.specs.Change.{is_id}
+use Rattle.wm_forest.specs.declared.part.ConState.{ConState}
+use Rattle.wm_forest.specs.Change.{is_id}
 use Rattle.wm_tree.specs.TreeValue.{TreeValue, is_tiled_con, workspace_of}
 use Rattle.wm_tree.specs.Words.{with_raised}
 

@@ -9,7 +9,7 @@ use Rattle.wm_floats.specs.Windows.{rect_set}
 use Rattle.wm_shared.specs.Refusing.{error_if}
 use Rattle.wm_shared.specs.Subject.{is_hidden, is_space}
 use Rattle.wm_shared.specs.Rects.{output_part_of, rect_of}
-use Rattle.wm_tree.specs.declared.part.OutputPart.{OutputPart}
+use Rattle.wm_forest.specs.declared.part.OutputPart.{OutputPart}
 use Rattle.wm_tree.specs.TreeValue.{TreeValue, is_tiled_con}
 
 -- one in the scratchpad has no workspace, a workspace and a tiled container do not float, and the place is in range

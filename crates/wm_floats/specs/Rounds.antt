@@ -14,8 +14,8 @@ use Rattle.wm_shared.specs.Refusing.{error_if}
 use Rattle.wm_shared.specs.Showing.{focusing}
 use Rattle.wm_shared.specs.Subject.{is_hidden}
 use Rattle.wm_shared.specs.Rects.{rect_of}
-use Rattle.wm_tree.specs.Forest.{Forest, end, con}
-use Rattle.wm_tree.specs.Look.{same}
+use Rattle.wm_forest.specs.Forest.{Forest, end, con}
+use Rattle.wm_forest.specs.Look.{same}
 use Rattle.wm_tree.specs.TreeValue.{TreeValue, workspace_of}
 
 -- ---- the next one by id

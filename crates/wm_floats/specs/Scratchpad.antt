@@ -14,10 +14,10 @@ use Rattle.wm_floats.specs.Windows.{flag_set, window_refusal}
 use Rattle.wm_shared.specs.Refusing.{full_error}
 use Rattle.wm_shared.specs.Subject.{is_hidden}
 use Rattle.wm_shared.specs.Rects.{rect_of}
-use Rattle.wm_tree.specs.declared.part.OutputPart.{OutputPart}
-use Rattle.wm_tree.specs.declared.place.Place.{Place}
-use Rattle.wm_tree.specs.declared.place.Place.TheVariants.{Float, Scratchpad}
-use Rattle.wm_tree.specs.Look.{first_floats, kind_of, nth_id, output_kind}
+use Rattle.wm_forest.specs.declared.part.OutputPart.{OutputPart}
+use Rattle.wm_forest.specs.declared.place.Place.{Place}
+use Rattle.wm_forest.specs.declared.place.Place.TheVariants.{Float, Scratchpad}
+use Rattle.wm_forest.specs.Look.{first_floats, kind_of, nth_id, output_kind}
 use Rattle.wm_tree.specs.Move.{moved, passed_by_move}
 use Rattle.wm_tree.specs.TreeValue.{TreeValue, current, focused, shown}
 use Rattle.wm_tree.specs.Words.{with_raised}

@@ -6,7 +6,7 @@ ghost use Rattle.wm_shared.specs.Refusing.{full_error};
 ghost use Rattle.wm_shared.specs.Subject.{IsSubject, is_space};
 ghost use Rattle.wm_floats.specs.Windows.{natural_of};
 ghost use Rattle.wm_tree.specs.Move.{moved, passed_by_move};
-ghost use Rattle.wm_tree.specs.Look.{con_kind, kind_of};
+ghost use Rattle.wm_forest.specs.Look.{con_kind, kind_of};
 ghost use Rattle.wm_tree.specs.Sound.{IsSound};
 ghost use Rattle.wm_tree.specs.TreeValue.{is_tiled_con, workspace_of};
 

@@ -4,7 +4,7 @@ ghost use Rattle.wm_floats.specs.Fullscreen.{fills_alone, full_in, fullscreen_tr
 ghost use Rattle.wm_floats.specs.Windows.{window_refusal};
 ghost use Rattle.wm_shared.specs.Subject.{IsSubject};
 ghost use Rattle.std.specs.Option.{option_or};
-ghost use Rattle.wm_tree.specs.Look.{first_floats, first_kids};
+ghost use Rattle.wm_forest.specs.Look.{first_floats, first_kids};
 ghost use Rattle.wm_tree.specs.Sound.{IsSound};
 ghost use Rattle.wm_tree.specs.TreeValue.{workspace_of};
 

@@ -6,7 +6,7 @@ ghost use Rattle.wm_floats.specs.Windows.{state_of};
 ghost use Rattle.wm_floats.specs.Scratchpad.{brought, brought_refusal, coming_place, first_brought, first_brought_refusal, first_hidden, middle_on, put_away, put_away_refusal, show_next_refusal, show_next_tree, show_scratchpad_refusal, show_scratchpad_tree, show_this_refusal, show_this_tree, to_scratchpad_refusal, to_scratchpad_tree};
 ghost use Rattle.std.specs.Option.{option_copied};
 ghost use Rattle.wm_shared.specs.Subject.{IsSubject, is_hidden};
-ghost use Rattle.wm_tree.specs.Look.{con_kind, kind_of};
+ghost use Rattle.wm_forest.specs.Look.{con_kind, kind_of};
 ghost use Rattle.wm_tree.specs.Sound.{IsSound};
 
 use crate::floating::{floating_rect, go};

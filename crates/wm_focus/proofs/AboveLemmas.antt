@@ -8,18 +8,19 @@ use Rattle.wm_focus.proofs.RungLemmas.{first_aimed-append, holder_is}
 use Rattle.wm_focus.specs.declared.rungs.Aim.TheVariants.{Out}
 use Rattle.wm_focus.specs.Rungs.{first_aimed, nearest, rung, rungs, runs}
 use Rattle.wm_tree.proofs.AttachLemmas.{has_row}
-use Rattle.wm_tree.proofs.ForestLemmas.{only_absent}
-use Rattle.wm_tree.proofs.RecencyLemmas.{same_self}
-use Rattle.wm_tree.specs.declared.part.NodeKind.{NodeKind}
-use Rattle.wm_tree.specs.declared.part.NodeKind.TheVariants.{Root, Output, Space, Con}
-use Rattle.wm_tree.specs.declared.part.Part.{Part}
-use Rattle.wm_tree.specs.declared.spot.Spot.{Spot}
-use Rattle.wm_tree.specs.Forest.{Forest, end, con}
-use Rattle.wm_tree.specs.Look.{con_kind, first_part, has, in_row, kind_by, only, same}
-use Rattle.wm_tree.specs.Place.{IsTiled, is_tiled}
-use Rattle.wm_tree.specs.Sound.{IsNode, IsSoundRow, Level, below, containers, outputs, roots, spaces}
-use Rattle.wm_tree.specs.Spot.{room_below, spot_below, spot_in, spot_of, top}
-use Rattle.wm_tree.specs.TreeValue.{or_id, row_holder, tiled_by, tiled_kids}
+use Rattle.wm_forest.proofs.ForestLemmas.{only_absent}
+use Rattle.wm_forest.proofs.RecencyLemmas.{same_self}
+use Rattle.wm_forest.specs.declared.part.NodeKind.{NodeKind}
+use Rattle.wm_forest.specs.declared.part.NodeKind.TheVariants.{Root, Output, Space, Con}
+use Rattle.wm_forest.specs.declared.part.Part.{Part}
+use Rattle.wm_forest.specs.declared.spot.Spot.{Spot}
+use Rattle.wm_forest.specs.Forest.{Forest, end, con}
+use Rattle.wm_forest.specs.Look.{con_kind, first_part, has, in_row, kind_by, only, same}
+use Rattle.wm_forest.specs.Place.{IsTiled, is_tiled}
+use Rattle.wm_forest.specs.SoundRow.{IsNode, IsSoundRow, Level, below, containers, outputs, roots, spaces}
+use Rattle.wm_forest.specs.Spot.{room_below, spot_below, spot_in, spot_of, top}
+use Rattle.wm_tree.specs.TreeValue.{or_id}
+use Rattle.wm_forest.specs.Focus.{row_holder, tiled_by, tiled_kids}
 use Rattle.wm_shared.proofs.KidLemmas.{IsKid, child_kid, holder_holds, kid_floats, kid_kids, kid_rest, kid_there}
 
 runs_tiled : (d : Dir) (kind : NodeKind) (kids : Forest) → runs d kind ≡ true → tiled_by kind kids ≡ kids

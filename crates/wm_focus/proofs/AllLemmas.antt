@@ -5,10 +5,10 @@ use Rattle.wm_focus.proofs.MarkLists.{bytes_one, bytes_self}
 use Rattle.wm_focus.proofs.RungLemmas.{row_is}
 use Rattle.wm_focus.specs.Marks.{bare, bears, taken_off}
 use Rattle.wm_focus.specs.Stripped.{all_marks, all_off}
-use Rattle.wm_tree.specs.declared.part.Part.{Part}
-use Rattle.wm_tree.specs.Forest.{Forest, end, con}
-use Rattle.wm_tree.specs.Look.{first_floats, first_kids, first_part, rest_of}
-use Rattle.wm_tree.specs.Move.{other_marks}
+use Rattle.wm_forest.specs.declared.part.Part.{Part}
+use Rattle.wm_forest.specs.Forest.{Forest, end, con}
+use Rattle.wm_forest.specs.Look.{first_floats, first_kids, first_part, rest_of}
+use Rattle.wm_forest.specs.Marks.{other_marks}
 use Rattle.wm_tree.specs.TreeValue.{TreeValue}
 
 pub all_off-append : (xs ys : List (List ℕ)) (f : Forest) → all_off (xs ++ ys) f ≡ all_off ys (all_off xs f)

@@ -4,15 +4,16 @@ use Rattle.std.specs.Option.{option_or}
 use Rattle.std.specs.Str.{bytes_eq}
 use Rattle.wm_base.specs.declared.ids.ConId.{ConId}
 use Rattle.wm_focus.specs.Marks.{bearer, bears, part_off, taken_off}
-use Rattle.wm_tree.proofs.ChangeLemmas.{by_change}
-use Rattle.wm_tree.proofs.CountLemmas.{counted}
-use Rattle.wm_tree.proofs.RecencyLemmas.{same_is, same_self}
-use Rattle.wm_tree.specs.Change.{at, is_id}
-use Rattle.wm_tree.specs.Counts.{mark_count}
-use Rattle.wm_tree.specs.Forest.{Forest, end, con}
-use Rattle.wm_tree.specs.Look.{first_marks, has, only, same}
-use Rattle.wm_tree.specs.Move.{marks_in, other_marks, unmark_word}
-use Rattle.wm_tree.specs.Sound.{tally}
+use Rattle.wm_forest.proofs.ChangeLemmas.{by_change}
+use Rattle.wm_forest.proofs.CountLemmas.{counted}
+use Rattle.wm_forest.proofs.RecencyLemmas.{same_is, same_self}
+use Rattle.wm_forest.specs.Change.{at, is_id}
+use Rattle.wm_forest.specs.Counts.{mark_count}
+use Rattle.wm_forest.specs.Forest.{Forest, end, con}
+use Rattle.wm_forest.specs.Look.{first_marks, has, only, same}
+use Rattle.wm_tree.specs.Move.{marks_in}
+use Rattle.wm_forest.specs.Marks.{other_marks, unmark_word}
+use Rattle.wm_forest.specs.SoundRow.{tally}
 
 -- ---- lists
 

@@ -13,17 +13,18 @@ use Rattle.wm_focus.specs.Rungs.{aimed, rung, runs}
 use Rattle.wm_shared.specs.Neighbours.{after, before, first_id, is_forward, neighbour}
 use Rattle.wm_focus.specs.Walks.{neighbour_at}
 use Rattle.wm_tree.proofs.AttachLemmas.{has_row}
-use Rattle.wm_tree.proofs.CountLemmas.{counted}
-use Rattle.wm_tree.proofs.ForestLemmas.{only_absent}
-use Rattle.wm_tree.proofs.RecencyLemmas.{same_is, same_self}
-use Rattle.wm_tree.specs.declared.part.NodeKind.{NodeKind}
-use Rattle.wm_tree.specs.declared.part.NodeKind.TheVariants.{Root, Output, Space, Con}
-use Rattle.wm_tree.specs.declared.part.Part.{Part}
-use Rattle.wm_tree.specs.Change.{is_id}
-use Rattle.wm_tree.specs.Forest.{Forest, end, con}
-use Rattle.wm_tree.specs.Look.{has, in_row, only, same}
-use Rattle.wm_tree.specs.Sound.{tally}
-use Rattle.wm_tree.specs.TreeValue.{TreeValue, parent, tiled_by, tiled_kids}
+use Rattle.wm_forest.proofs.CountLemmas.{counted}
+use Rattle.wm_forest.proofs.ForestLemmas.{only_absent}
+use Rattle.wm_forest.proofs.RecencyLemmas.{same_is, same_self}
+use Rattle.wm_forest.specs.declared.part.NodeKind.{NodeKind}
+use Rattle.wm_forest.specs.declared.part.NodeKind.TheVariants.{Root, Output, Space, Con}
+use Rattle.wm_forest.specs.declared.part.Part.{Part}
+use Rattle.wm_forest.specs.Change.{is_id}
+use Rattle.wm_forest.specs.Forest.{Forest, end, con}
+use Rattle.wm_forest.specs.Look.{has, in_row, only, same}
+use Rattle.wm_forest.specs.SoundRow.{tally}
+use Rattle.wm_tree.specs.TreeValue.{TreeValue, parent}
+use Rattle.wm_forest.specs.Focus.{tiled_by, tiled_kids}
 
 -- ---- the walk to the parent
 

@@ -14,15 +14,16 @@ use Rattle.wm_focus.specs.Marks.{bears, cleared, freed, full_of_marks, give_refu
 use Rattle.wm_shared.specs.Refusing.{IsCause, refusal_by}
 use Rattle.wm_focus.specs.Stripped.{IsGiveCause, all_or_none, is_given, lacks, left, off, with_given}
 use Rattle.wm_shared.specs.Subject.{is_container}
-use Rattle.wm_tree.proofs.ChangeLemmas.{by_change}
-use Rattle.wm_tree.proofs.ForestLemmas.{only_absent}
-use Rattle.wm_tree.specs.declared.place.TreeRefusal.{TreeRefusal}
-use Rattle.wm_tree.specs.declared.place.TreeRefusal.TheVariants.{Full, Missing, NoMemory}
-use Rattle.wm_tree.specs.Change.{at, is_id}
-use Rattle.wm_tree.specs.Counts.{mark_count}
-use Rattle.wm_tree.specs.Forest.{Forest, end, con}
-use Rattle.wm_tree.specs.Look.{con_kind, first_marks, first_part, has, kind_by, kind_of}
-use Rattle.wm_tree.specs.Move.{IsMarkCause, is_full_of_marks, marked, marks_in, marks_word, other_marks, unmarked, with_marks}
+use Rattle.wm_forest.proofs.ChangeLemmas.{by_change}
+use Rattle.wm_forest.proofs.ForestLemmas.{only_absent}
+use Rattle.wm_tree.specs.declared.refusal.TreeRefusal.{TreeRefusal}
+use Rattle.wm_tree.specs.declared.refusal.TreeRefusal.TheVariants.{Full, Missing, NoMemory}
+use Rattle.wm_forest.specs.Change.{at, is_id}
+use Rattle.wm_forest.specs.Counts.{mark_count}
+use Rattle.wm_forest.specs.Forest.{Forest, end, con}
+use Rattle.wm_forest.specs.Look.{con_kind, first_marks, first_part, has, kind_by, kind_of}
+use Rattle.wm_tree.specs.Move.{IsMarkCause, is_full_of_marks, marked, marks_in, unmarked, with_marks}
+use Rattle.wm_forest.specs.Marks.{marks_word, other_marks}
 use Rattle.wm_tree.specs.Sound.{IsSound}
 use Rattle.wm_tree.specs.TreeValue.{TreeValue}
 

@@ -6,11 +6,12 @@ use Rattle.wm_focus.proofs.BearerLemmas.{bearer_marks, none_other}
 use Rattle.wm_focus.proofs.MarkForests.{has_off}
 use Rattle.wm_focus.specs.Laws.{FindsMarked, NoOtherHasIt, NoneIsLeft}
 use Rattle.wm_focus.specs.Marks.{bare, bearer, bears, kept_marks, taken_off, with_mark}
-use Rattle.wm_tree.proofs.RecencyLemmas.{same_is}
-use Rattle.wm_tree.specs.Change.{at}
-use Rattle.wm_tree.specs.Forest.{Forest, end, con}
-use Rattle.wm_tree.specs.Look.{first_marks, has, only, same}
-use Rattle.wm_tree.specs.Move.{marks_in, marks_word}
+use Rattle.wm_forest.proofs.RecencyLemmas.{same_is}
+use Rattle.wm_forest.specs.Change.{at}
+use Rattle.wm_forest.specs.Forest.{Forest, end, con}
+use Rattle.wm_forest.specs.Look.{first_marks, has, only, same}
+use Rattle.wm_tree.specs.Move.{marks_in}
+use Rattle.wm_forest.specs.Marks.{marks_word}
 
 -- where none is found none has the mark
 bearer_none : (n : List ℕ) (c : ConId) (f : Forest) → bearer None n f ≡ None → bears n (marks_in c f) ≡ false

@@ -18,22 +18,24 @@ use Rattle.wm_shared.proofs.SpaceLemmas.{not_within, shown_is_space}
 use Rattle.wm_shared.specs.Outputs.{output_from}
 use Rattle.wm_shared.specs.Showing.{shown_on}
 use Rattle.wm_tree.proofs.AlongLemmas.{space_there}
-use Rattle.wm_tree.proofs.CountLemmas.{found_counted, there}
-use Rattle.wm_tree.proofs.RecencyLemmas.{same_is}
-use Rattle.wm_tree.specs.Change.{is_split}
-use Rattle.wm_tree.specs.declared.part.ConKind.{ConKind}
-use Rattle.wm_tree.specs.declared.part.ConKind.TheVariants.{Split, Window, Placeholder}
-use Rattle.wm_tree.specs.declared.part.NodeKind.{NodeKind}
-use Rattle.wm_tree.specs.declared.part.NodeKind.TheVariants.{Root, Output, Space, Con}
-use Rattle.wm_tree.specs.declared.part.Part.{Part}
-use Rattle.wm_tree.specs.declared.place.Place.TheVariants.{After, Before, First, Last}
-use Rattle.wm_tree.specs.Forest.{Forest}
-use Rattle.wm_tree.specs.Look.{con_kind, first_part, has, kind_by, only, same, space_kind}
-use Rattle.wm_tree.specs.Place.{IsSplit, TakesFirst, TakesKids}
-use Rattle.wm_tree.specs.Recency.{first_held}
-use Rattle.wm_tree.specs.Sound.{IsSound, roots}
-use Rattle.wm_tree.specs.Spot.{top}
-use Rattle.wm_tree.specs.TreeValue.{TreeValue, focused_child, is_tiled_con, parent, row_holder, tiled_kids}
+use Rattle.wm_forest.proofs.CountLemmas.{found_counted, there}
+use Rattle.wm_forest.proofs.RecencyLemmas.{same_is}
+use Rattle.wm_forest.specs.Change.{is_split}
+use Rattle.wm_forest.specs.declared.part.ConKind.{ConKind}
+use Rattle.wm_forest.specs.declared.part.ConKind.TheVariants.{Split, Window, Placeholder}
+use Rattle.wm_forest.specs.declared.part.NodeKind.{NodeKind}
+use Rattle.wm_forest.specs.declared.part.NodeKind.TheVariants.{Root, Output, Space, Con}
+use Rattle.wm_forest.specs.declared.part.Part.{Part}
+use Rattle.wm_forest.specs.declared.place.Place.TheVariants.{After, Before, First, Last}
+use Rattle.wm_forest.specs.Forest.{Forest}
+use Rattle.wm_forest.specs.Look.{con_kind, first_part, has, kind_by, only, same, space_kind}
+use Rattle.wm_forest.specs.Place.{IsSplit, TakesFirst, TakesKids}
+use Rattle.wm_forest.specs.Recency.{first_held}
+use Rattle.wm_tree.specs.Sound.{IsSound}
+use Rattle.wm_forest.specs.SoundRow.{roots}
+use Rattle.wm_forest.specs.Spot.{top}
+use Rattle.wm_tree.specs.TreeValue.{TreeValue, focused_child, is_tiled_con, parent}
+use Rattle.wm_forest.specs.Focus.{row_holder, tiled_kids}
 
 -- ---- what options say
 

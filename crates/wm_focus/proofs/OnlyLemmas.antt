@@ -2,12 +2,12 @@
 use Rattle.std.proofs.Common.{◌≡◌, Bool, true, false, None, Some, refl, ap, arith}
 use Rattle.wm_base.specs.declared.ids.ConId.{ConId}
 use Rattle.wm_focus.proofs.RungLemmas.{row_end}
-use Rattle.wm_tree.proofs.CountLemmas.{found_counted}
-use Rattle.wm_tree.proofs.ForestLemmas.{only_absent}
-use Rattle.wm_tree.specs.declared.part.Part.{Part}
-use Rattle.wm_tree.specs.Forest.{Forest, end, con}
-use Rattle.wm_tree.specs.Look.{first_floats, first_kids, first_part, has, only, rest_of, same}
-use Rattle.wm_tree.specs.Sound.{tally}
+use Rattle.wm_forest.proofs.CountLemmas.{found_counted}
+use Rattle.wm_forest.proofs.ForestLemmas.{only_absent}
+use Rattle.wm_forest.specs.declared.part.Part.{Part}
+use Rattle.wm_forest.specs.Forest.{Forest, end, con}
+use Rattle.wm_forest.specs.Look.{first_floats, first_kids, first_part, has, only, rest_of, same}
+use Rattle.wm_forest.specs.SoundRow.{tally}
 
 pub found_there : (c : ConId) (f : Forest) (p : Part) → first_part (only c f) ≡ Some p → has c f ≡ true
 found_there c f p h = by (has c f) refl where

@@ -7,10 +7,11 @@ use Rattle.wm_focus.specs.declared.rungs.Aim.{Aim}
 use Rattle.wm_focus.specs.declared.rungs.Held.{Held}
 use Rattle.wm_focus.specs.Rungs.{Rung, aimed, first_aimed, nearest, rung, rungs}
 use Rattle.wm_focus.specs.Walks.{held}
-use Rattle.wm_tree.specs.declared.part.Part.{Part}
-use Rattle.wm_tree.specs.Forest.{Forest, end, con, node_count}
-use Rattle.wm_tree.specs.Look.{first_floats, first_kids, first_part, has, rest_of, same}
-use Rattle.wm_tree.specs.TreeValue.{or_id, row_holder}
+use Rattle.wm_forest.specs.declared.part.Part.{Part}
+use Rattle.wm_forest.specs.Forest.{Forest, end, con, node_count}
+use Rattle.wm_forest.specs.Look.{first_floats, first_kids, first_part, has, rest_of, same}
+use Rattle.wm_tree.specs.TreeValue.{or_id}
+use Rattle.wm_forest.specs.Focus.{row_holder}
 
 -- a row with a first part is that node and its rest
 pub row_is : (row : Forest) (part : Part) → first_part row ≡ Some part → row ≡ con part (first_kids row) (first_floats row) (rest_of row)

@@ -4,9 +4,9 @@ use Rattle.wm_base.specs.declared.ids.ConId.{ConId}
 use Rattle.wm_shared.specs.Refusing.{IsCause, refusal_by}
 use Rattle.wm_focus.specs.Splits.{gives_layout, layout_refusal, split_refusal}
 use Rattle.wm_grammar.specs.declared.arguments.SplitArg.{SplitArg}
-use Rattle.wm_tree.specs.declared.place.TreeRefusal.{TreeRefusal}
-use Rattle.wm_tree.specs.declared.place.TreeRefusal.TheVariants.{Full, Missing, NoMemory}
-use Rattle.wm_tree.specs.Look.{has}
+use Rattle.wm_tree.specs.declared.refusal.TreeRefusal.{TreeRefusal}
+use Rattle.wm_tree.specs.declared.refusal.TreeRefusal.TheVariants.{Full, Missing, NoMemory}
+use Rattle.wm_forest.specs.Look.{has}
 use Rattle.wm_tree.specs.Move.{IsWrapCause}
 use Rattle.wm_tree.specs.TreeValue.{TreeValue}
 

@@ -1,15 +1,15 @@
 -- What is known of tiled containers.
 use Rattle.std.proofs.Common.{◌≡◌, ◌≢◌, Bool, true, false, ◌&&◌, Option, None, Some, refl, subst}
 use Rattle.wm_base.specs.declared.ids.ConId.{ConId}
-use Rattle.wm_tree.specs.declared.part.Part.{Part}
-use Rattle.wm_tree.specs.declared.part.NodeKind.{NodeKind}
-use Rattle.wm_tree.specs.declared.part.NodeKind.TheVariants.{Root, Output, Space, Con}
-use Rattle.wm_tree.specs.declared.spot.Spot.{Spot}
+use Rattle.wm_forest.specs.declared.part.Part.{Part}
+use Rattle.wm_forest.specs.declared.part.NodeKind.{NodeKind}
+use Rattle.wm_forest.specs.declared.part.NodeKind.TheVariants.{Root, Output, Space, Con}
+use Rattle.wm_forest.specs.declared.spot.Spot.{Spot}
 use Rattle.wm_shared.specs.Subject.{IsSubject, is_subject_kind}
-use Rattle.wm_tree.proofs.ForestLemmas.{only_absent}
-use Rattle.wm_tree.specs.Forest.{Forest, end}
-use Rattle.wm_tree.specs.Look.{con_kind, first_part, has, kind_by, only, space_kind}
-use Rattle.wm_tree.specs.Place.{IsTiled, is_tiled}
+use Rattle.wm_forest.proofs.ForestLemmas.{only_absent}
+use Rattle.wm_forest.specs.Forest.{Forest, end}
+use Rattle.wm_forest.specs.Look.{con_kind, first_part, has, kind_by, only, space_kind}
+use Rattle.wm_forest.specs.Place.{IsTiled, is_tiled}
 use Rattle.wm_tree.specs.TreeValue.{TreeValue, is_con, is_con_kind, is_tiled_con, is_tiled_spot, spot}
 
 both_true : (a b : Bool) → (a && b) ≡ true → (a ≡ true) × (b ≡ true)

@@ -6,11 +6,11 @@ use Rattle.wm_base.specs.declared.ids.ConId.{ConId}
 use Rattle.wm_focus.proofs.SubjectLemmas.{tiled_is}
 use Rattle.wm_shared.specs.Refusing.{refusal_by}
 use Rattle.wm_focus.specs.Swaps.{beside_refusal, exchange_refusal, is_part}
-use Rattle.wm_tree.proofs.ForestLemmas.{only_absent}
-use Rattle.wm_tree.specs.declared.place.Place.TheVariants.{After}
-use Rattle.wm_tree.specs.declared.place.TreeRefusal.{TreeRefusal}
-use Rattle.wm_tree.specs.declared.place.TreeRefusal.TheVariants.{Full, Missing, NoMemory}
-use Rattle.wm_tree.specs.Look.{con_kind, first_part, has, kind_by, only}
+use Rattle.wm_forest.proofs.ForestLemmas.{only_absent}
+use Rattle.wm_forest.specs.declared.place.Place.TheVariants.{After}
+use Rattle.wm_tree.specs.declared.refusal.TreeRefusal.{TreeRefusal}
+use Rattle.wm_tree.specs.declared.refusal.TreeRefusal.TheVariants.{Full, Missing, NoMemory}
+use Rattle.wm_forest.specs.Look.{con_kind, first_part, has, kind_by, only}
 use Rattle.wm_tree.specs.Move.{IsExchangeCause, IsMoveCause}
 use Rattle.wm_tree.specs.TreeValue.{TreeValue, is_tiled_con}
 

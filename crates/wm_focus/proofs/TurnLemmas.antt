@@ -4,31 +4,33 @@ use Rattle.wm_base.specs.declared.ids.ConId.{ConId}
 use Rattle.wm_shared.proofs.DownLemmas.{none}
 use Rattle.wm_shared.proofs.KidLemmas.{spot_tiled, tiled_in}
 use Rattle.wm_focus.specs.Moves.{IsTurn, turned}
-use Rattle.wm_tree.proofs.ChangeLemmas.{by_change}
-use Rattle.wm_tree.proofs.CountLemmas.{count-without, counted, tally-absent}
-use Rattle.wm_tree.proofs.EditLemmas.{fits_share}
-use Rattle.wm_tree.proofs.ExchangeLemmas.{still_there}
-use Rattle.wm_tree.proofs.HoleLooks.{hole_stands, stays}
-use Rattle.wm_tree.proofs.LookLemmas.{SeenAs, none_of_four, seen-replaced}
+use Rattle.wm_forest.proofs.ChangeLemmas.{by_change}
+use Rattle.wm_forest.proofs.CountLemmas.{count-without, counted, tally-absent}
+use Rattle.wm_forest.proofs.EditLemmas.{fits_share}
+use Rattle.wm_forest.proofs.ExchangeLemmas.{still_there}
+use Rattle.wm_forest.proofs.HoleLooks.{hole_stands, stays}
+use Rattle.wm_forest.proofs.LookLemmas.{SeenAs, none_of_four, seen-replaced}
 use Rattle.wm_tree.proofs.MoveLemmas.{SoundFound, count-arriving, found_sound}
-use Rattle.wm_tree.proofs.PutLemmas.{IsConFirst}
-use Rattle.wm_tree.proofs.RecencyLemmas.{same_is}
+use Rattle.wm_forest.proofs.PutLemmas.{IsConFirst}
+use Rattle.wm_forest.proofs.RecencyLemmas.{same_is}
 use Rattle.wm_tree.proofs.SoundLemmas.{sound-edited}
-use Rattle.wm_tree.proofs.StandLemmas.{HasSpot, has_spot}
+use Rattle.wm_forest.proofs.StandLemmas.{HasSpot, has_spot}
 use Rattle.wm_tree.proofs.WrapLemmas.{node_share}
-use Rattle.wm_tree.specs.Change.{arriving, at, hole, in_place, nobody, replaced}
-use Rattle.wm_tree.specs.Counts.{share_of}
-use Rattle.wm_tree.specs.declared.kind.KindEdit.{KindEdit}
-use Rattle.wm_tree.specs.declared.kind.KindEdit.TheVariants as edits
-use Rattle.wm_tree.specs.declared.part.Part.{Part}
-use Rattle.wm_tree.specs.declared.spot.Spot.{Spot}
-use Rattle.wm_tree.specs.Forest.{Forest, end, con}
-use Rattle.wm_tree.specs.Kinds.{changed, kind_changed}
-use Rattle.wm_tree.specs.Look.{first_kids, first_part, has, only, same}
-use Rattle.wm_tree.specs.Move.{apart, exchanged, exchanged_nodes, holed, share_by, share_in}
-use Rattle.wm_tree.specs.Place.{IsTiled, is_tiled}
-use Rattle.wm_tree.specs.Sound.{HasShare, IsSound, IsSoundRow, one_of, roots, tally}
-use Rattle.wm_tree.specs.Spot.{spot_in, top}
+use Rattle.wm_forest.specs.Change.{arriving, at, hole, in_place, nobody, replaced}
+use Rattle.wm_forest.specs.Counts.{share_of}
+use Rattle.wm_forest.specs.declared.kind.KindEdit.{KindEdit}
+use Rattle.wm_forest.specs.declared.kind.KindEdit.TheVariants as edits
+use Rattle.wm_forest.specs.declared.part.Part.{Part}
+use Rattle.wm_forest.specs.declared.spot.Spot.{Spot}
+use Rattle.wm_forest.specs.Forest.{Forest, end, con}
+use Rattle.wm_forest.specs.Kinds.{changed, kind_changed}
+use Rattle.wm_forest.specs.Look.{first_kids, first_part, has, only, same}
+use Rattle.wm_tree.specs.Move.{apart, exchanged, share_by, share_in}
+use Rattle.wm_forest.specs.Exchange.{exchanged_nodes, holed}
+use Rattle.wm_forest.specs.Place.{IsTiled, is_tiled}
+use Rattle.wm_forest.specs.SoundRow.{HasShare, IsSoundRow, one_of, roots, tally}
+use Rattle.wm_tree.specs.Sound.{IsSound}
+use Rattle.wm_forest.specs.Spot.{spot_in, top}
 use Rattle.wm_tree.specs.TreeValue.{TreeValue}
 use Rattle.wm_tree.specs.Words.{edited}
 

@@ -15,7 +15,7 @@ use Rattle.wm_shared.specs.Outputs.{output_from}
 use Rattle.wm_shared.specs.Refusing.{error_if}
 use Rattle.wm_shared.specs.Showing.{focusing, output_focused}
 use Rattle.wm_shared.specs.Subject.{is_hidden}
-use Rattle.wm_tree.specs.Look.{first_kids, in_row}
+use Rattle.wm_forest.specs.Look.{first_kids, in_row}
 use Rattle.wm_tree.specs.TreeValue.{TreeValue, leaf}
 
 abbrev pub round_goal : Option ConId → Option Goal

@@ -2,7 +2,7 @@
 use Rattle.std.specs.Prelude.{◌≡◌, ℕ, Bool, true, false, List, None, Some}
 use Rattle.wm_base.specs.declared.ids.ConId.{ConId}
 use Rattle.wm_focus.specs.Marks.{bears, given_mark, holder_of, unmark_all}
-use Rattle.wm_tree.specs.Look.{same}
+use Rattle.wm_forest.specs.Look.{same}
 use Rattle.wm_tree.specs.Move.{marks_in}
 use Rattle.wm_tree.specs.Sound.{IsSound}
 use Rattle.wm_tree.specs.TreeValue.{TreeValue}

@@ -10,10 +10,11 @@ use Rattle.wm_base.specs.declared.errors.Refusal.TheVariants.{Full}
 use Rattle.wm_base.specs.declared.ids.ConId.{ConId}
 use Rattle.wm_shared.specs.Refusing.{error_if}
 use Rattle.wm_shared.specs.Subject.{is_space}
-use Rattle.wm_tree.specs.declared.part.Part.{Part}
-use Rattle.wm_tree.specs.Change.{is_id}
-use Rattle.wm_tree.specs.Forest.{Forest, end, con}
-use Rattle.wm_tree.specs.Move.{is_full_of_marks, marks_in, other_marks, unmarked, with_marks}
+use Rattle.wm_forest.specs.declared.part.Part.{Part}
+use Rattle.wm_forest.specs.Change.{is_id}
+use Rattle.wm_forest.specs.Forest.{Forest, end, con}
+use Rattle.wm_tree.specs.Move.{is_full_of_marks, marks_in, unmarked, with_marks}
+use Rattle.wm_forest.specs.Marks.{other_marks}
 use Rattle.wm_tree.specs.TreeValue.{TreeValue}
 
 -- the mark is among the marks

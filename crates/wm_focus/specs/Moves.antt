@@ -14,15 +14,15 @@ use Rattle.wm_focus.specs.Rungs.{aimed, nearest, rung, runs_con}
 use Rattle.wm_shared.specs.Neighbours.{is_forward}
 use Rattle.wm_shared.specs.Subject.{is_hidden, is_space}
 use Rattle.wm_focus.specs.Swaps.{deep_error}
-use Rattle.wm_tree.specs.declared.kind.KindEdit.TheVariants as edits
-use Rattle.wm_tree.specs.declared.part.ConPart.{ConPart}
-use Rattle.wm_tree.specs.declared.place.Place.{Place}
-use Rattle.wm_tree.specs.declared.place.Place.TheVariants.{After, Before, First, Last}
-use Rattle.wm_tree.specs.Change.{is_split}
-use Rattle.wm_tree.specs.Forest.{Forest, end, con}
-use Rattle.wm_tree.specs.Look.{con_kind, has, kind_of, only}
+use Rattle.wm_forest.specs.declared.kind.KindEdit.TheVariants as edits
+use Rattle.wm_forest.specs.declared.part.ConPart.{ConPart}
+use Rattle.wm_forest.specs.declared.place.Place.{Place}
+use Rattle.wm_forest.specs.declared.place.Place.TheVariants.{After, Before, First, Last}
+use Rattle.wm_forest.specs.Change.{is_split}
+use Rattle.wm_forest.specs.Forest.{Forest, end, con}
+use Rattle.wm_forest.specs.Look.{con_kind, has, kind_of, only}
 use Rattle.wm_tree.specs.Move.{IsExchange, IsMove, exchanged, is_too_deep, moved, passed_by_move, share_in}
-use Rattle.wm_tree.specs.Place.{named}
+use Rattle.wm_forest.specs.Place.{named}
 use Rattle.wm_tree.specs.TreeValue.{TreeValue, focused_child, is_tiled_con, parent}
 use Rattle.wm_tree.specs.Words.{edited}
 

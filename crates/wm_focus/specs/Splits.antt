@@ -15,12 +15,12 @@ use Rattle.wm_grammar.specs.declared.arguments.LayoutArg.{LayoutArg}
 use Rattle.wm_grammar.specs.declared.arguments.LayoutArg.TheVariants as layouts
 use Rattle.wm_grammar.specs.declared.arguments.SplitArg.{SplitArg}
 use Rattle.wm_grammar.specs.declared.arguments.SplitArg.TheVariants as splits
-use Rattle.wm_tree.specs.declared.kind.KindEdit.TheVariants as edits
-use Rattle.wm_tree.specs.declared.part.ConKind.{ConKind}
-use Rattle.wm_tree.specs.declared.part.ConKind.TheVariants.{Split, Window, Placeholder}
-use Rattle.wm_tree.specs.declared.part.ConPart.{ConPart}
-use Rattle.wm_tree.specs.declared.part.SpacePart.{SpacePart}
-use Rattle.wm_tree.specs.Look.{con_kind, first_kids, kind_of, nth_id, only, space_kind}
+use Rattle.wm_forest.specs.declared.kind.KindEdit.TheVariants as edits
+use Rattle.wm_forest.specs.declared.part.ConKind.{ConKind}
+use Rattle.wm_forest.specs.declared.part.ConKind.TheVariants.{Split, Window, Placeholder}
+use Rattle.wm_forest.specs.declared.part.ConPart.{ConPart}
+use Rattle.wm_forest.specs.declared.part.SpacePart.{SpacePart}
+use Rattle.wm_forest.specs.Look.{con_kind, first_kids, kind_of, nth_id, only, space_kind}
 use Rattle.wm_tree.specs.Move.{passed_by_wrap, wrapped}
 use Rattle.wm_tree.specs.TreeValue.{TreeValue, is_tiled_con, or_id, parent}
 use Rattle.wm_tree.specs.Words.{edited}

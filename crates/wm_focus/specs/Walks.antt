@@ -7,9 +7,9 @@ use Rattle.wm_focus.specs.declared.rungs.Aim.{Aim}
 use Rattle.wm_focus.specs.declared.rungs.Aim.TheVariants.{Beside}
 use Rattle.wm_focus.specs.declared.rungs.Held.{Held}
 use Rattle.wm_focus.specs.Rungs.{aimed, nearest, rung}
-use Rattle.wm_tree.specs.Forest.{Forest, end, con}
-use Rattle.wm_tree.specs.Look.{same}
-use Rattle.wm_tree.specs.TreeValue.{row_holder}
+use Rattle.wm_forest.specs.Forest.{Forest, end, con}
+use Rattle.wm_forest.specs.Look.{same}
+use Rattle.wm_forest.specs.Focus.{row_holder}
 
 abbrev pub held_by : Option ConId → Option ConId → Option Held
 held_by None found = None

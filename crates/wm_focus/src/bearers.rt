@@ -2,7 +2,7 @@
 ghost use Rattle.std.specs.Prelude.{◌≡◌};
 ghost use Rattle.std.specs.Option.{option_copied};
 ghost use Rattle.wm_focus.specs.Marks.{bearer, bears};
-ghost use Rattle.wm_tree.specs.Look.{first_part, only};
+ghost use Rattle.wm_forest.specs.Look.{first_part, only};
 ghost use Rattle.wm_tree.specs.Move.{marks_in};
 
 use wm_base::{ConId, Text};

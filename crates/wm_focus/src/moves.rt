@@ -5,7 +5,7 @@ ghost use Rattle.wm_shared.specs.Refusing.{IsCause, full_error};
 ghost use Rattle.wm_shared.specs.Subject.{IsSubject};
 ghost use Rattle.wm_focus.specs.Swaps.{deep_error};
 ghost use Rattle.wm_focus.specs.Walks.{neighbour_at};
-ghost use Rattle.wm_tree.specs.Change.{is_split};
+ghost use Rattle.wm_forest.specs.Change.{is_split};
 ghost use Rattle.wm_tree.specs.Move.{is_too_deep, moved, passed_by_move, share_in};
 ghost use Rattle.wm_tree.specs.Sound.{IsSound};
 ghost use Rattle.wm_tree.specs.TreeValue.{is_tiled_con};

@@ -4,7 +4,7 @@ ghost use Rattle.wm_shared.specs.Refusing.{IsCause};
 ghost use Rattle.wm_focus.specs.Splits.{asked_split, chosen, cycle_layout_refusal, cycle_layout_tree, gives_layout, has_no_second, is_plain_split, laid, layout_refusal, layouts_by, layouts_of, next_layout, other_split, set_layout_refusal, set_layout_tree, split_layouts, split_refusal, split_tree};
 ghost use Rattle.wm_shared.specs.Subject.{IsSubject};
 ghost use Rattle.wm_tree.specs.Sound.{IsSound};
-ghost use Rattle.wm_tree.specs.declared.part.ConPart.{ConPart};
+ghost use Rattle.wm_forest.specs.declared.part.ConPart.{ConPart};
 
 use wm_base::{ConId, ErrorText, Layout, Refusal};
 use wm_grammar::{Cycle, LayoutArg, SplitArg};

@@ -4,7 +4,7 @@ ghost use Rattle.wm_shared.specs.Refusing.{IsCause};
 ghost use Rattle.wm_shared.specs.Subject.{IsSubject};
 ghost use Rattle.wm_focus.specs.Swaps.{beside_refusal, exchange_refusal, exchanged_with, is_part, is_window_kind, moved_after, move_to_mark_refusal, move_to_mark_tree, partner, partner_text, swap_refusal, swap_tree};
 ghost use Rattle.wm_spaces.specs.Sending.{sent_some, sent_some_refusal};
-ghost use Rattle.wm_tree.specs.Look.{con_kind, has, kind_of, only};
+ghost use Rattle.wm_forest.specs.Look.{con_kind, has, kind_of, only};
 ghost use Rattle.wm_tree.specs.Sound.{IsSound};
 ghost use Rattle.wm_tree.specs.TreeValue.{workspace_of};
 

@@ -1,7 +1,7 @@
 //! Looking for a node below another one.
 ghost use Rattle.std.specs.Prelude.{◌≡◌};
 ghost use Rattle.wm_focus.specs.Within.{within};
-ghost use Rattle.wm_tree.specs.Look.{has, only};
+ghost use Rattle.wm_forest.specs.Look.{has, only};
 
 use wm_base::ConId;
 use wm_tree::{Cursor, Tree};

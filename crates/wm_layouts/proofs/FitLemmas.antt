@@ -5,7 +5,7 @@ use Rattle.std.specs.Prelude.{int_le, nat_le}
 use Rattle.std.specs.Int.Signed.{le_z_yes}
 use Rattle.wm_base.specs.declared.geometry.Rect.{Rect}
 use Rattle.wm_layouts.specs.Plan.{is_fit_place, is_fit_rect, is_fit_size}
-use Rattle.wm_tree.specs.Sound.{IsOutputRect}
+use Rattle.wm_forest.specs.SoundRow.{IsOutputRect}
 
 both : (a b : Bool) → (a && b) ≡ true → (a ≡ true) × (b ≡ true)
 both true b h = (refl, h)

@@ -42,11 +42,11 @@ use Rattle.wm_spaces.specs.Outs.{output_at}
 use Rattle.wm_spaces.specs.Renaming.{renamed_space}
 use Rattle.wm_spaces.specs.Sending.{sent_some}
 use Rattle.wm_spaces.specs.Targets.{goal_of}
-use Rattle.wm_tree.specs.declared.kind.KindEdit.TheVariants as edits
-use Rattle.wm_tree.specs.declared.place.Place.TheVariants.{After}
-use Rattle.wm_tree.proofs.ForestLemmas.{only_absent}
-use Rattle.wm_tree.specs.Forest.{Forest}
-use Rattle.wm_tree.specs.Look.{con_kind, first_part, has, kind_by, space_kind}
+use Rattle.wm_forest.specs.declared.kind.KindEdit.TheVariants as edits
+use Rattle.wm_forest.specs.declared.place.Place.TheVariants.{After}
+use Rattle.wm_forest.proofs.ForestLemmas.{only_absent}
+use Rattle.wm_forest.specs.Forest.{Forest}
+use Rattle.wm_forest.specs.Look.{con_kind, first_part, has, kind_by, space_kind}
 use Rattle.wm_tree.specs.Move.{exchanged, marks_in, moved, share_in, unmarked, with_marks, wrapped}
 use Rattle.wm_tree.specs.TreeValue.{TreeValue, is_tiled_con, leaf, parent, workspace_of}
 use Rattle.wm_tree.specs.Words.{edited, settled}

@@ -12,13 +12,13 @@ use Rattle.wm_floats.specs.Windows.{flag_set, full_set, restated, state_of, stic
 use Rattle.wm_opens.proofs.KeptLemmas.{Kept, kept_count, kept_edited, kept_moved, kept_raised, kept_refl, kept_trans}
 use Rattle.wm_shared.specs.Subject.{is_hidden}
 use Rattle.wm_shared.specs.Rects.{rect_of}
-use Rattle.wm_tree.proofs.CountLemmas.{count-same}
+use Rattle.wm_forest.proofs.CountLemmas.{count-same}
 use Rattle.wm_tree.proofs.RaiseLemmas.{count-unfull}
-use Rattle.wm_tree.specs.declared.kind.KindEdit.TheVariants as edits
-use Rattle.wm_tree.specs.declared.part.ConState.{ConState}
-use Rattle.wm_tree.specs.declared.place.Place.TheVariants.{Float, Scratchpad}
-use Rattle.wm_tree.specs.Change.{at}
-use Rattle.wm_tree.specs.Counts.{count}
+use Rattle.wm_forest.specs.declared.kind.KindEdit.TheVariants as edits
+use Rattle.wm_forest.specs.declared.part.ConState.{ConState}
+use Rattle.wm_forest.specs.declared.place.Place.TheVariants.{Float, Scratchpad}
+use Rattle.wm_forest.specs.Change.{at}
+use Rattle.wm_forest.specs.Counts.{count}
 use Rattle.wm_tree.specs.Move.{moved}
 use Rattle.wm_tree.specs.TreeValue.{TreeValue, focused, is_tiled_con, shown, workspace_of}
 use Rattle.wm_tree.specs.Words.{with_raised}

@@ -7,11 +7,11 @@ use Rattle.wm_opens.proofs.MeasureLemmas.{Fewer, IsMeasure, fewer_same, fewer_tr
 use Rattle.wm_opens.proofs.WordLemmas.{fewer_along, fewer_detached, fewer_edited, fewer_exchanged, fewer_moved, fewer_raised, fewer_settled, fewer_space_moved, fewer_unmarked, fewer_with_marks, fewer_with_output, fewer_with_space, fewer_without_output, fewer_wrapped}
 use Rattle.wm_opens.specs.Opens.{is_fill}
 use Rattle.wm_tree.specs.Along.{gone_along}
-use Rattle.wm_tree.specs.Counts.{count}
-use Rattle.wm_tree.specs.declared.kind.KindEdit.{KindEdit}
-use Rattle.wm_tree.specs.declared.part.Part.{Part}
-use Rattle.wm_tree.specs.declared.place.Place.{Place}
-use Rattle.wm_tree.specs.Look.{has}
+use Rattle.wm_forest.specs.Counts.{count}
+use Rattle.wm_forest.specs.declared.kind.KindEdit.{KindEdit}
+use Rattle.wm_forest.specs.declared.part.Part.{Part}
+use Rattle.wm_forest.specs.declared.place.Place.{Place}
+use Rattle.wm_forest.specs.Look.{has}
 use Rattle.wm_tree.specs.Move.{exchanged, moved, unmarked, with_marks, wrapped}
 use Rattle.wm_tree.specs.Outputs.{space_moved, with_output, with_space, without_output}
 use Rattle.wm_tree.specs.TreeValue.{TreeValue}

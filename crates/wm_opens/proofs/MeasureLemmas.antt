@@ -6,17 +6,17 @@ use Rattle.wm_base.specs.declared.ids.ConId.{ConId}
 use Rattle.wm_base.specs.declared.plan.Layout.{Layout}
 use Rattle.wm_focus.specs.Swaps.{is_window_kind}
 use Rattle.wm_opens.specs.Opens.{is_fill, window_at, windows}
-use Rattle.wm_tree.specs.declared.kind.KindEdit.{KindEdit}
-use Rattle.wm_tree.specs.declared.kind.KindEdit.TheVariants as edits
-use Rattle.wm_tree.specs.declared.part.ConKind.{ConKind}
-use Rattle.wm_tree.specs.declared.part.ConKind.TheVariants.{Split, Window, Placeholder}
-use Rattle.wm_tree.specs.declared.part.NodeKind.{NodeKind}
-use Rattle.wm_tree.specs.declared.part.NodeKind.TheVariants.{Root, Output, Space, Con}
-use Rattle.wm_tree.specs.declared.part.Part.{Part}
-use Rattle.wm_tree.specs.Change.{nobody, placed, unfull_kind}
-use Rattle.wm_tree.specs.Counts.{count, one_con}
-use Rattle.wm_tree.specs.Kinds.{changed, laid_out, titled}
-use Rattle.wm_tree.specs.Look.{same}
+use Rattle.wm_forest.specs.declared.kind.KindEdit.{KindEdit}
+use Rattle.wm_forest.specs.declared.kind.KindEdit.TheVariants as edits
+use Rattle.wm_forest.specs.declared.part.ConKind.{ConKind}
+use Rattle.wm_forest.specs.declared.part.ConKind.TheVariants.{Split, Window, Placeholder}
+use Rattle.wm_forest.specs.declared.part.NodeKind.{NodeKind}
+use Rattle.wm_forest.specs.declared.part.NodeKind.TheVariants.{Root, Output, Space, Con}
+use Rattle.wm_forest.specs.declared.part.Part.{Part}
+use Rattle.wm_forest.specs.Change.{nobody, placed, unfull_kind}
+use Rattle.wm_forest.specs.Counts.{count, one_con}
+use Rattle.wm_forest.specs.Kinds.{changed, laid_out, titled}
+use Rattle.wm_forest.specs.Look.{same}
 use Rattle.wm_tree.specs.TreeValue.{TreeValue}
 
 -- what changes in place keep of a node, and what the hole of an exchange has none of

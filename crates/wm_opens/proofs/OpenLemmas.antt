@@ -14,25 +14,27 @@ use Rattle.wm_opens.proofs.SpaceLemmas.{kept_output_removed}
 use Rattle.wm_opens.proofs.WordLemmas.{count-edited, count-with_raised, put_none}
 use Rattle.wm_opens.specs.Opens.{is_fill, is_window_of, is_window_part, window_at, windows, windows_at}
 use Rattle.wm_spaces.specs.Coming.{free_name, output_added_tree, output_removed_tree}
-use Rattle.wm_tree.proofs.CountLemmas.{count-put, count-without, found_counted, tally-absent}
-use Rattle.wm_tree.proofs.ForestLemmas.{only_absent}
+use Rattle.wm_forest.proofs.CountLemmas.{count-put, count-without, found_counted, tally-absent}
+use Rattle.wm_forest.proofs.ForestLemmas.{only_absent}
 use Rattle.wm_tree.proofs.PlaceLemmas.{place_fits}
 use Rattle.wm_tree.proofs.SoundLemmas.{gone-detached}
-use Rattle.wm_tree.specs.Change.{without}
-use Rattle.wm_tree.specs.Counts.{count}
-use Rattle.wm_tree.specs.declared.kind.KindEdit.{KindEdit}
-use Rattle.wm_tree.specs.declared.part.NodeKind.{NodeKind}
-use Rattle.wm_tree.specs.declared.part.NodeKind.TheVariants.{Root, Output, Space, Con}
-use Rattle.wm_tree.specs.declared.part.Part.{Part}
-use Rattle.wm_tree.specs.declared.place.NewCon.TheVariants as new
-use Rattle.wm_tree.specs.declared.place.Place.{Place}
-use Rattle.wm_tree.specs.declared.place.Place.TheVariants.{Last}
-use Rattle.wm_tree.specs.Forest.{Forest, end, con}
-use Rattle.wm_tree.specs.Look.{con_kind, first_part, has, kind_by, only, same}
+use Rattle.wm_forest.specs.Change.{without}
+use Rattle.wm_forest.specs.Counts.{count}
+use Rattle.wm_forest.specs.declared.kind.KindEdit.{KindEdit}
+use Rattle.wm_forest.specs.declared.part.NodeKind.{NodeKind}
+use Rattle.wm_forest.specs.declared.part.NodeKind.TheVariants.{Root, Output, Space, Con}
+use Rattle.wm_forest.specs.declared.part.Part.{Part}
+use Rattle.wm_forest.specs.declared.place.NewCon.TheVariants as new
+use Rattle.wm_forest.specs.declared.place.Place.{Place}
+use Rattle.wm_forest.specs.declared.place.Place.TheVariants.{Last}
+use Rattle.wm_forest.specs.Forest.{Forest, end, con}
+use Rattle.wm_forest.specs.Look.{con_kind, first_part, has, kind_by, only, same}
 use Rattle.wm_tree.specs.Outputs.{new_output}
-use Rattle.wm_tree.specs.Place.{new_part, rect_at, share_at}
-use Rattle.wm_tree.specs.Sound.{IsSound, one_of, tally}
-use Rattle.wm_tree.specs.TreeValue.{TreeValue, id, newcomer_place, root}
+use Rattle.wm_forest.specs.Place.{new_part, rect_at, share_at}
+use Rattle.wm_tree.specs.Sound.{IsSound}
+use Rattle.wm_forest.specs.SoundRow.{one_of, tally}
+use Rattle.wm_tree.specs.TreeValue.{TreeValue, newcomer_place}
+use Rattle.wm_forest.specs.RootId.{id, root}
 use Rattle.wm_tree.specs.Words.{attached, detached, edited, settled, with_raised}
 
 -- ---- no window is made

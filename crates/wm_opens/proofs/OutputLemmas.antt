@@ -20,20 +20,23 @@ use Rattle.wm_spaces.proofs.ComingLemmas.{heir_output, named_output, still_outpu
 use Rattle.wm_spaces.specs.Coming.{free_name, left_output, output_added_tree, output_gone, output_gone_some, output_removed_tree}
 use Rattle.wm_spaces.specs.Names.{output_named}
 use Rattle.wm_tree.proofs.AttachLemmas.{has_row}
-use Rattle.wm_tree.proofs.CountLemmas.{count-without, counted}
+use Rattle.wm_forest.proofs.CountLemmas.{count-without, counted}
 use Rattle.wm_tree.proofs.OutputLemmas.{sound-without_output}
-use Rattle.wm_tree.specs.Change.{append, without}
-use Rattle.wm_tree.specs.Counts.{one_con}
-use Rattle.wm_tree.specs.declared.kind.KindEdit.TheVariants as edits
-use Rattle.wm_tree.specs.declared.part.NodeKind.{NodeKind}
-use Rattle.wm_tree.specs.declared.part.NodeKind.TheVariants.{Root, Output, Space, Con}
-use Rattle.wm_tree.specs.declared.place.Place.TheVariants.{Last}
-use Rattle.wm_tree.specs.Forest.{Forest, end, con}
-use Rattle.wm_tree.specs.Look.{first_floats, first_kids, in_row, only, same}
-use Rattle.wm_tree.specs.Outputs.{IsOutput, handed_on, heir, left_to, new_output, taking_in, without_output, yielded}
-use Rattle.wm_tree.specs.Sound.{IsNode, IsSound, IsSoundRow, outputs, roots, tally}
-use Rattle.wm_tree.specs.Spot.{room_below}
-use Rattle.wm_tree.specs.TreeValue.{TreeValue, current, id, opening, opening_outputs, root}
+use Rattle.wm_forest.specs.Change.{append, without}
+use Rattle.wm_forest.specs.Counts.{one_con}
+use Rattle.wm_forest.specs.declared.kind.KindEdit.TheVariants as edits
+use Rattle.wm_forest.specs.declared.part.NodeKind.{NodeKind}
+use Rattle.wm_forest.specs.declared.part.NodeKind.TheVariants.{Root, Output, Space, Con}
+use Rattle.wm_forest.specs.declared.place.Place.TheVariants.{Last}
+use Rattle.wm_forest.specs.Forest.{Forest, end, con}
+use Rattle.wm_forest.specs.Look.{first_floats, first_kids, in_row, only, same}
+use Rattle.wm_tree.specs.Outputs.{IsOutput, handed_on, left_to, new_output, without_output, yielded}
+use Rattle.wm_forest.specs.Taking.{heir, taking_in}
+use Rattle.wm_forest.specs.SoundRow.{IsNode, IsSoundRow, outputs, roots, tally}
+use Rattle.wm_tree.specs.Sound.{IsSound}
+use Rattle.wm_forest.specs.Spot.{room_below}
+use Rattle.wm_tree.specs.TreeValue.{TreeValue, current, opening, opening_outputs}
+use Rattle.wm_forest.specs.RootId.{id, root}
 use Rattle.wm_tree.specs.Words.{edited}
 
 -- ---- outputs

@@ -9,21 +9,22 @@ use Rattle.wm_opens.proofs.KeptLemmas.{Kept}
 use Rattle.wm_opens.proofs.MeasureLemmas.{IsFresh, IsKept, kinds_at, kinds_measured}
 use Rattle.wm_opens.proofs.OpenLemmas.{IsAt, found_at, seen_same}
 use Rattle.wm_opens.specs.Opens.{is_fill, is_owned_kind, is_owned_of, is_owned_part, is_window_of, is_window_part, owned, windows, windows_at}
-use Rattle.wm_tree.proofs.CountLemmas.{count-without, found_counted, tally-absent}
-use Rattle.wm_tree.proofs.ForestLemmas.{only_absent}
-use Rattle.wm_tree.specs.Change.{placed, unfull_kind, without}
-use Rattle.wm_tree.specs.Counts.{count}
-use Rattle.wm_tree.specs.declared.kind.KindEdit.{KindEdit}
-use Rattle.wm_tree.specs.declared.kind.KindEdit.TheVariants as edits
-use Rattle.wm_tree.specs.declared.part.ConKind.{ConKind}
-use Rattle.wm_tree.specs.declared.part.ConKind.TheVariants.{Split, Window, Placeholder}
-use Rattle.wm_tree.specs.declared.part.ConPart.{ConPart}
-use Rattle.wm_tree.specs.declared.part.NodeKind.{NodeKind}
-use Rattle.wm_tree.specs.declared.part.NodeKind.TheVariants.{Root, Output, Space, Con}
-use Rattle.wm_tree.specs.Forest.{Forest, end, con}
-use Rattle.wm_tree.specs.Kinds.{changed, laid_out, titled}
-use Rattle.wm_tree.specs.Look.{con_kind, first_part, has, kind_by, kind_of, only, same}
-use Rattle.wm_tree.specs.Sound.{IsSound, one_of, tally}
+use Rattle.wm_forest.proofs.CountLemmas.{count-without, found_counted, tally-absent}
+use Rattle.wm_forest.proofs.ForestLemmas.{only_absent}
+use Rattle.wm_forest.specs.Change.{placed, unfull_kind, without}
+use Rattle.wm_forest.specs.Counts.{count}
+use Rattle.wm_forest.specs.declared.kind.KindEdit.{KindEdit}
+use Rattle.wm_forest.specs.declared.kind.KindEdit.TheVariants as edits
+use Rattle.wm_forest.specs.declared.part.ConKind.{ConKind}
+use Rattle.wm_forest.specs.declared.part.ConKind.TheVariants.{Split, Window, Placeholder}
+use Rattle.wm_forest.specs.declared.part.ConPart.{ConPart}
+use Rattle.wm_forest.specs.declared.part.NodeKind.{NodeKind}
+use Rattle.wm_forest.specs.declared.part.NodeKind.TheVariants.{Root, Output, Space, Con}
+use Rattle.wm_forest.specs.Forest.{Forest, end, con}
+use Rattle.wm_forest.specs.Kinds.{changed, laid_out, titled}
+use Rattle.wm_forest.specs.Look.{con_kind, first_part, has, kind_by, kind_of, only, same}
+use Rattle.wm_tree.specs.Sound.{IsSound}
+use Rattle.wm_forest.specs.SoundRow.{one_of, tally}
 use Rattle.wm_tree.specs.TreeValue.{TreeValue}
 
 -- ---- the measure

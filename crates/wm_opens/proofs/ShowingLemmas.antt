@@ -5,10 +5,11 @@ use Rattle.wm_opens.proofs.KeptLemmas.{Kept, kept_along, kept_edited, kept_nodes
 use Rattle.wm_shared.specs.Outputs.{output_of}
 use Rattle.wm_shared.specs.Showing.{current_some, entered, followed, focusing, output_focused, remembered, remembering, showing, showing_some, shown_on, shown_there, space_name, with_current}
 use Rattle.wm_tree.specs.Along.{gone_along}
-use Rattle.wm_tree.specs.declared.kind.KindEdit.TheVariants as edits
-use Rattle.wm_tree.specs.Look.{same}
+use Rattle.wm_forest.specs.declared.kind.KindEdit.TheVariants as edits
+use Rattle.wm_forest.specs.Look.{same}
 use Rattle.wm_tree.specs.Sets.{shown_by, with_shown}
-use Rattle.wm_tree.specs.TreeValue.{TreeValue, parent, root, shown, workspace_of}
+use Rattle.wm_tree.specs.TreeValue.{TreeValue, parent, shown, workspace_of}
+use Rattle.wm_forest.specs.RootId.{root}
 use Rattle.wm_tree.specs.Words.{with_raised}
 
 kept_remembered : (was : ConId) (name : Option (List ℕ)) (t : TreeValue) → Kept t (remembered was name t)

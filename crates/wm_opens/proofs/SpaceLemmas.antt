@@ -15,12 +15,14 @@ use Rattle.wm_spaces.specs.Renaming.{renamed}
 use Rattle.wm_spaces.specs.Sending.{goal_sent, sent, sent_new, sent_place, sent_some}
 use Rattle.wm_spaces.specs.Shows.{goal_shown, then_shown}
 use Rattle.wm_spaces.specs.Targets.{home}
-use Rattle.wm_tree.specs.declared.kind.KindEdit.TheVariants as edits
-use Rattle.wm_tree.specs.Change.{is_id}
-use Rattle.wm_tree.specs.Look.{same}
+use Rattle.wm_forest.specs.declared.kind.KindEdit.TheVariants as edits
+use Rattle.wm_forest.specs.Change.{is_id}
+use Rattle.wm_forest.specs.Look.{same}
 use Rattle.wm_tree.specs.Move.{apart, moved}
-use Rattle.wm_tree.specs.Outputs.{heir, space_moved, with_space, without_output}
-use Rattle.wm_tree.specs.TreeValue.{TreeValue, current, id, parent}
+use Rattle.wm_forest.specs.Taking.{heir}
+use Rattle.wm_tree.specs.Outputs.{space_moved, with_space, without_output}
+use Rattle.wm_tree.specs.TreeValue.{TreeValue, current, parent}
+use Rattle.wm_forest.specs.RootId.{id}
 
 kept_then_shown : (w : ConId) (t new : TreeValue) → Kept t new → Kept t (then_shown w t new)
 kept_then_shown w t new h = kept_remembering t t (shown_there w (parent new w) new) (kept_trans t new (shown_there w (parent new w) new) h (kept_there w (parent new w) new))

@@ -4,7 +4,7 @@ use Rattle.std.proofs.lemmas.Bool.Decides.{nat_tests}
 use Rattle.wm_opens.proofs.OwnerLemmas.{owned_found, owned_told, owners_kept, owned_window}
 use Rattle.wm_base.specs.declared.geometry.Edges.{Edges}
 use Rattle.wm_base.specs.declared.geometry.Size.{Size}
-use Rattle.wm_tree.specs.declared.part.ConPart.{ConPart}
+use Rattle.wm_forest.specs.declared.part.ConPart.{ConPart}
 use Rattle.wm_base.specs.declared.ids.ConId.{ConId}
 use Rattle.wm_base.specs.declared.properties.Props.{Props}
 use Rattle.wm_focus.specs.Swaps.{is_window_kind}
@@ -17,29 +17,30 @@ use Rattle.wm_opens.proofs.TextLemmas.{holds_settled, holds_sure}
 use Rattle.wm_opens.proofs.TidyLemmas.{IsFreeAt, tidy_put, tidy_without}
 use Rattle.wm_opens.specs.Opens.{ClosesOne, Holds, HoldsNone, IsGood, IsTidy, MapsOne, is_window_of, is_window_part, window_at, windows, windows_at, is_owned_of, owned}
 use Rattle.wm_tree.proofs.AttachLemmas.{sound-attached}
-use Rattle.wm_tree.proofs.ChangeLemmas.{by_change}
-use Rattle.wm_tree.proofs.CountLemmas.{count-put}
-use Rattle.wm_tree.proofs.ForestLemmas.{only_absent}
+use Rattle.wm_forest.proofs.ChangeLemmas.{by_change}
+use Rattle.wm_forest.proofs.CountLemmas.{count-put}
+use Rattle.wm_forest.proofs.ForestLemmas.{only_absent}
 use Rattle.wm_tree.proofs.PlaceLemmas.{place_fits}
-use Rattle.wm_tree.proofs.RecencyLemmas.{same_is, same_self}
+use Rattle.wm_forest.proofs.RecencyLemmas.{same_is, same_self}
 use Rattle.wm_tree.proofs.SoundLemmas.{sound-detached, sound-edited}
-use Rattle.wm_tree.specs.Change.{at}
-use Rattle.wm_tree.specs.Counts.{count}
-use Rattle.wm_tree.specs.declared.kind.KindEdit.TheVariants as edits
-use Rattle.wm_tree.specs.declared.part.ConKind.{ConKind}
-use Rattle.wm_tree.specs.declared.part.ConKind.TheVariants.{Split, Window, Placeholder}
-use Rattle.wm_tree.specs.declared.part.NodeKind.{NodeKind}
-use Rattle.wm_tree.specs.declared.part.NodeKind.TheVariants.{Root, Output, Space, Con}
-use Rattle.wm_tree.specs.declared.part.Part.{Part}
-use Rattle.wm_tree.specs.declared.place.NewCon.TheVariants as new
-use Rattle.wm_tree.specs.declared.place.Place.{Place}
-use Rattle.wm_tree.specs.declared.place.Place.TheVariants.{After, Last}
-use Rattle.wm_tree.specs.Forest.{Forest, end, con}
-use Rattle.wm_tree.specs.Look.{con_kind, first_kids, first_part, has, kind_by, kind_of, only, same}
-use Rattle.wm_tree.specs.Place.{new_part, passed_limit, rect_at, share_at}
-use Rattle.wm_tree.specs.Sound.{HasKids, IsNode, IsSoundRow, Level, below, containers, outputs, roots, spaces}
-use Rattle.wm_tree.specs.Spot.{room_below, spot_in, top}
-use Rattle.wm_tree.specs.TreeValue.{TreeValue, focused, id, is_tiled_con, leaf, newcomer_place, or_id, shown}
+use Rattle.wm_forest.specs.Change.{at}
+use Rattle.wm_forest.specs.Counts.{count}
+use Rattle.wm_forest.specs.declared.kind.KindEdit.TheVariants as edits
+use Rattle.wm_forest.specs.declared.part.ConKind.{ConKind}
+use Rattle.wm_forest.specs.declared.part.ConKind.TheVariants.{Split, Window, Placeholder}
+use Rattle.wm_forest.specs.declared.part.NodeKind.{NodeKind}
+use Rattle.wm_forest.specs.declared.part.NodeKind.TheVariants.{Root, Output, Space, Con}
+use Rattle.wm_forest.specs.declared.part.Part.{Part}
+use Rattle.wm_forest.specs.declared.place.NewCon.TheVariants as new
+use Rattle.wm_forest.specs.declared.place.Place.{Place}
+use Rattle.wm_forest.specs.declared.place.Place.TheVariants.{After, Last}
+use Rattle.wm_forest.specs.Forest.{Forest, end, con}
+use Rattle.wm_forest.specs.Look.{con_kind, first_kids, first_part, has, kind_by, kind_of, only, same}
+use Rattle.wm_forest.specs.Place.{new_part, passed_limit, rect_at, share_at}
+use Rattle.wm_forest.specs.SoundRow.{HasKids, IsNode, IsSoundRow, Level, below, containers, outputs, roots, spaces}
+use Rattle.wm_forest.specs.Spot.{room_below, spot_in, top}
+use Rattle.wm_tree.specs.TreeValue.{TreeValue, focused, is_tiled_con, leaf, newcomer_place, or_id, shown}
+use Rattle.wm_forest.specs.RootId.{id}
 use Rattle.wm_tree.specs.Words.{attached, detached, edited, settled, with_raised}
 
 -- ---- changes that keep all windows

@@ -48,15 +48,15 @@ use Rattle.wm_spaces.specs.Sending.{sent_some, sent_some_refusal}
 use Rattle.wm_tree.proofs.ExchangeSound.{sound-exchanged}
 use Rattle.wm_tree.proofs.SoundLemmas.{sound-edited}
 use Rattle.wm_tree.proofs.WrapLemmas.{sound-wrapped}
-use Rattle.wm_tree.specs.declared.kind.KindEdit.TheVariants as edits
-use Rattle.wm_tree.specs.declared.part.ConPart.{ConPart}
-use Rattle.wm_tree.specs.declared.part.SpacePart.{SpacePart}
-use Rattle.wm_tree.specs.declared.place.Place.TheVariants.{After}
-use Rattle.wm_tree.specs.Look.{con_kind, first_kids, has, kind_of, only, space_kind}
+use Rattle.wm_forest.specs.declared.kind.KindEdit.TheVariants as edits
+use Rattle.wm_forest.specs.declared.part.ConPart.{ConPart}
+use Rattle.wm_forest.specs.declared.part.SpacePart.{SpacePart}
+use Rattle.wm_forest.specs.declared.place.Place.TheVariants.{After}
+use Rattle.wm_forest.specs.Look.{con_kind, first_kids, has, kind_of, only, space_kind}
 use Rattle.wm_tree.specs.Move.{exchanged, is_too_deep, moved, passed_by_move, passed_by_wrap, share_in, wrapped}
 use Rattle.wm_tree.specs.Outputs.{IsOutput}
 use Rattle.wm_tree.specs.Sound.{IsSound}
-use Rattle.wm_tree.specs.Spot.{spot_in, top}
+use Rattle.wm_forest.specs.Spot.{spot_in, top}
 use Rattle.wm_tree.specs.TreeValue.{TreeValue, is_tiled_con, leaf, parent, workspace_of}
 use Rattle.wm_tree.specs.Words.{edited}
 

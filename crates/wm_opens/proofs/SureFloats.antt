@@ -23,13 +23,13 @@ use Rattle.wm_shared.specs.Refusing.{full_error}
 use Rattle.wm_shared.specs.Subject.{IsSubject, is_hidden}
 use Rattle.wm_shared.specs.Rects.{rect_of}
 use Rattle.wm_tree.proofs.SoundLemmas.{sound-edited}
-use Rattle.wm_tree.specs.declared.kind.KindEdit.TheVariants as edits
-use Rattle.wm_tree.specs.declared.part.ConState.{ConState}
-use Rattle.wm_tree.specs.declared.place.Place.TheVariants.{Float, Scratchpad}
-use Rattle.wm_tree.specs.Look.{con_kind, first_kids, kind_of, only}
+use Rattle.wm_forest.specs.declared.kind.KindEdit.TheVariants as edits
+use Rattle.wm_forest.specs.declared.part.ConState.{ConState}
+use Rattle.wm_forest.specs.declared.place.Place.TheVariants.{Float, Scratchpad}
+use Rattle.wm_forest.specs.Look.{con_kind, first_kids, kind_of, only}
 use Rattle.wm_tree.specs.Move.{moved, passed_by_move}
 use Rattle.wm_tree.specs.Sound.{IsSound}
-use Rattle.wm_tree.specs.Spot.{spot_in, top}
+use Rattle.wm_forest.specs.Spot.{spot_in, top}
 use Rattle.wm_tree.specs.TreeValue.{TreeValue, focused, is_tiled_con, shown, workspace_of}
 use Rattle.wm_tree.specs.Words.{with_raised}
 

@@ -12,30 +12,33 @@ use Rattle.wm_opens.proofs.WordLemmas.{count-loosened}
 use Rattle.wm_opens.specs.Opens.{IsTidy, is_fill, window_at, windows, windows_at}
 use Rattle.wm_shared.specs.Refusing.{full_error}
 use Rattle.wm_focus.specs.Swaps.{is_window_kind}
-use Rattle.wm_tree.proofs.CountLemmas.{count-without, found_counted, tally-absent}
-use Rattle.wm_tree.proofs.ForestLemmas.{only_absent}
+use Rattle.wm_forest.proofs.CountLemmas.{count-without, found_counted, tally-absent}
+use Rattle.wm_forest.proofs.ForestLemmas.{only_absent}
 use Rattle.wm_tree.proofs.MoveLemmas.{sound-moved}
 use Rattle.wm_tree.proofs.RaiseLemmas.{sound-raised}
-use Rattle.wm_tree.proofs.RecencyLemmas.{same_self}
-use Rattle.wm_tree.proofs.TimesLemmas.{times-append, times-raised}
-use Rattle.wm_tree.specs.Along.{gone_along, loosened, nowhere, sticky}
-use Rattle.wm_tree.specs.Change.{arriving, at, nobody, unfull, without}
-use Rattle.wm_tree.specs.Counts.{count, one_con}
-use Rattle.wm_tree.specs.declared.kind.KindEdit.{KindEdit}
-use Rattle.wm_tree.specs.declared.part.NodeKind.{NodeKind}
-use Rattle.wm_tree.specs.declared.part.NodeKind.TheVariants.{Root, Output, Space, Con}
-use Rattle.wm_tree.specs.declared.part.Part.{Part}
-use Rattle.wm_tree.specs.declared.place.NewCon.TheVariants as new
-use Rattle.wm_tree.specs.declared.place.Place.{Place}
-use Rattle.wm_tree.specs.declared.place.Place.TheVariants.{After, Before, First, Last, Float, Scratchpad}
-use Rattle.wm_tree.specs.Forest.{Forest, end, con}
-use Rattle.wm_tree.specs.Look.{con_kind, first_floats, first_part, has, kind_by, kind_of, only, same, space_kind}
+use Rattle.wm_forest.proofs.RecencyLemmas.{same_self}
+use Rattle.wm_forest.proofs.TimesLemmas.{times-append, times-raised}
+use Rattle.wm_tree.specs.Along.{gone_along, nowhere}
+use Rattle.wm_forest.specs.Sticky.{loosened, sticky}
+use Rattle.wm_forest.specs.Change.{arriving, at, nobody, unfull, without, raised_at}
+use Rattle.wm_forest.specs.Counts.{count, one_con}
+use Rattle.wm_forest.specs.declared.kind.KindEdit.{KindEdit}
+use Rattle.wm_forest.specs.declared.part.NodeKind.{NodeKind}
+use Rattle.wm_forest.specs.declared.part.NodeKind.TheVariants.{Root, Output, Space, Con}
+use Rattle.wm_forest.specs.declared.part.Part.{Part}
+use Rattle.wm_forest.specs.declared.place.NewCon.TheVariants as new
+use Rattle.wm_forest.specs.declared.place.Place.{Place}
+use Rattle.wm_forest.specs.declared.place.Place.TheVariants.{After, Before, First, Last, Float, Scratchpad}
+use Rattle.wm_forest.specs.Forest.{Forest, end, con}
+use Rattle.wm_forest.specs.Look.{con_kind, first_floats, first_part, has, kind_by, kind_of, only, same, space_kind}
 use Rattle.wm_tree.specs.Move.{IsMove, apart, exchanged, moved, moved_share, passed_by_move, share_in, wrapped}
 use Rattle.wm_tree.specs.Outputs.{new_space, space_moved, with_space}
-use Rattle.wm_tree.specs.Place.{IsPlace, named, new_part, rect_at}
-use Rattle.wm_tree.specs.Sound.{IsNode, IsSound, IsSoundRow, one_of, ranked, ranks, roots, tally, times}
-use Rattle.wm_tree.specs.TreeValue.{TreeValue, id, root, workspace_of}
-use Rattle.wm_tree.specs.Words.{edited, raised_at, with_raised}
+use Rattle.wm_forest.specs.Place.{IsPlace, named, new_part, rect_at}
+use Rattle.wm_forest.specs.SoundRow.{IsNode, IsSoundRow, one_of, ranked, ranks, roots, tally, times}
+use Rattle.wm_tree.specs.Sound.{IsSound}
+use Rattle.wm_tree.specs.TreeValue.{TreeValue, workspace_of}
+use Rattle.wm_forest.specs.RootId.{id, root}
+use Rattle.wm_tree.specs.Words.{edited, with_raised}
 
 -- the new tree is sound, counts no more by any measure, knows what the old one knew, and is as tidy
 pub record Sure (t new : TreeValue) : Type 0 where

@@ -15,23 +15,26 @@ use Rattle.wm_opens.proofs.SureLemmas.{Sure, sure_by, sure_trans}
 use Rattle.wm_opens.proofs.TidyLemmas.{tidy_bare, tidy_taken_off, tidy_unmarked, tidy_with_marks}
 use Rattle.wm_opens.proofs.WordLemmas.{count-bare, count-taken_off}
 use Rattle.wm_shared.specs.Subject.{is_container}
-use Rattle.wm_tree.proofs.ChangeLemmas.{by_change}
-use Rattle.wm_tree.proofs.CountLemmas.{count-same}
+use Rattle.wm_forest.proofs.ChangeLemmas.{by_change}
+use Rattle.wm_forest.proofs.CountLemmas.{count-same}
 use Rattle.wm_tree.proofs.MarkLemmas.{sound-marked, sound-unmarked}
-use Rattle.wm_tree.proofs.PutLemmas.{Here}
-use Rattle.wm_tree.proofs.RowLemmas.{Grows, behind_row, keeps_by, node_keeps, same_row}
-use Rattle.wm_tree.specs.Change.{at}
-use Rattle.wm_tree.specs.Counts.{con_of, mark_count, row_with, space_of}
-use Rattle.wm_tree.specs.declared.part.NodeKind.{NodeKind}
-use Rattle.wm_tree.specs.declared.part.NodeKind.TheVariants.{Root, Output, Space, Con}
-use Rattle.wm_tree.specs.declared.part.Part.{Part}
-use Rattle.wm_tree.specs.declared.spot.Spot.{Spot}
-use Rattle.wm_tree.specs.Forest.{Forest, end, con}
-use Rattle.wm_tree.specs.Look.{first_marks, has, only}
-use Rattle.wm_tree.specs.Move.{is_full_of_marks, marked, marks_in, marks_word, unmarked, with_marks}
-use Rattle.wm_tree.specs.Sound.{IsNode, IsSound, IsSoundRow, Level, containers, one_of, outputs, rank_of, roots, spaces}
-use Rattle.wm_tree.specs.Spot.{top}
-use Rattle.wm_tree.specs.TreeValue.{TreeValue, root}
+use Rattle.wm_forest.proofs.PutLemmas.{Here}
+use Rattle.wm_forest.proofs.RowLemmas.{Grows, behind_row, keeps_by, node_keeps, same_row}
+use Rattle.wm_forest.specs.Change.{at}
+use Rattle.wm_forest.specs.Counts.{con_of, mark_count, row_with, space_of}
+use Rattle.wm_forest.specs.declared.part.NodeKind.{NodeKind}
+use Rattle.wm_forest.specs.declared.part.NodeKind.TheVariants.{Root, Output, Space, Con}
+use Rattle.wm_forest.specs.declared.part.Part.{Part}
+use Rattle.wm_forest.specs.declared.spot.Spot.{Spot}
+use Rattle.wm_forest.specs.Forest.{Forest, end, con}
+use Rattle.wm_forest.specs.Look.{first_marks, has, only}
+use Rattle.wm_tree.specs.Move.{is_full_of_marks, marked, marks_in, unmarked, with_marks}
+use Rattle.wm_forest.specs.Marks.{marks_word}
+use Rattle.wm_forest.specs.SoundRow.{IsNode, IsSoundRow, Level, containers, one_of, outputs, rank_of, roots, spaces}
+use Rattle.wm_tree.specs.Sound.{IsSound}
+use Rattle.wm_forest.specs.Spot.{top}
+use Rattle.wm_tree.specs.TreeValue.{TreeValue}
+use Rattle.wm_forest.specs.RootId.{root}
 
 -- ---- taking off
 

@@ -37,13 +37,13 @@ use Rattle.wm_sizes.specs.Windows.{border_set}
 use Rattle.wm_shared.specs.Rects.{rect_of}
 use Rattle.wm_shared.specs.Subject.{is_hidden, is_space}
 use Rattle.wm_tree.proofs.SoundLemmas.{sound-edited}
-use Rattle.wm_tree.specs.declared.kind.KindEdit.{KindEdit}
-use Rattle.wm_tree.specs.declared.kind.KindEdit.TheVariants as edits
-use Rattle.wm_tree.specs.declared.part.ConState.{ConState}
-use Rattle.wm_tree.specs.declared.part.SpacePart.{SpacePart}
-use Rattle.wm_tree.specs.Look.{first_kids, kind_of, only, space_kind}
+use Rattle.wm_forest.specs.declared.kind.KindEdit.{KindEdit}
+use Rattle.wm_forest.specs.declared.kind.KindEdit.TheVariants as edits
+use Rattle.wm_forest.specs.declared.part.ConState.{ConState}
+use Rattle.wm_forest.specs.declared.part.SpacePart.{SpacePart}
+use Rattle.wm_forest.specs.Look.{first_kids, kind_of, only, space_kind}
 use Rattle.wm_tree.specs.Sound.{IsSound}
-use Rattle.wm_tree.specs.Spot.{spot_in, top}
+use Rattle.wm_forest.specs.Spot.{spot_in, top}
 use Rattle.wm_tree.specs.TreeValue.{TreeValue, is_tiled_con, workspace_of}
 use Rattle.wm_tree.specs.Words.{edited}
 

@@ -30,23 +30,24 @@ use Rattle.wm_spaces.specs.Renaming.{renamed}
 use Rattle.wm_spaces.specs.Sending.{goal_sent, goal_sent_refusal, sent, sent_new, sent_place, sent_refusal, sent_some, sent_some_refusal}
 use Rattle.wm_spaces.specs.Shows.{goal_refusal, goal_shown, then_shown}
 use Rattle.wm_spaces.specs.Targets.{IsGoal, home}
-use Rattle.wm_tree.proofs.EditLemmas.{FitsEdit, FitsEditAt}
+use Rattle.wm_forest.proofs.EditLemmas.{FitsEdit, FitsEditAt}
 use Rattle.wm_tree.proofs.SoundLemmas.{sound-edited}
 use Rattle.wm_tree.proofs.SpaceLemmas.{has_output, sound-space_moved, sound-with_space}
 use Rattle.wm_tree.specs.Along.{gone_along}
-use Rattle.wm_tree.specs.Change.{is_id}
-use Rattle.wm_tree.specs.Counts.{one_con}
-use Rattle.wm_tree.specs.declared.kind.KindEdit.{KindEdit}
-use Rattle.wm_tree.specs.declared.kind.KindEdit.TheVariants as edits
-use Rattle.wm_tree.specs.declared.spot.Spot.{Spot}
-use Rattle.wm_tree.specs.Forest.{Forest}
-use Rattle.wm_tree.specs.Look.{con_kind, first_kids, in_row, kind_of, only, same}
+use Rattle.wm_forest.specs.Change.{is_id}
+use Rattle.wm_forest.specs.Counts.{one_con}
+use Rattle.wm_forest.specs.declared.kind.KindEdit.{KindEdit}
+use Rattle.wm_forest.specs.declared.kind.KindEdit.TheVariants as edits
+use Rattle.wm_forest.specs.declared.spot.Spot.{Spot}
+use Rattle.wm_forest.specs.Forest.{Forest}
+use Rattle.wm_forest.specs.Look.{con_kind, first_kids, in_row, kind_of, only, same}
 use Rattle.wm_tree.specs.Move.{apart, moved, passed_by_move}
 use Rattle.wm_tree.specs.Outputs.{IsOutput, passed_by_space, space_moved, with_space}
 use Rattle.wm_tree.specs.Sets.{shown_by, with_shown}
 use Rattle.wm_tree.specs.Sound.{IsSound}
-use Rattle.wm_tree.specs.Spot.{spot_in, top}
-use Rattle.wm_tree.specs.TreeValue.{TreeValue, id, parent, root, shown, workspace_of}
+use Rattle.wm_forest.specs.Spot.{spot_in, top}
+use Rattle.wm_tree.specs.TreeValue.{TreeValue, parent, shown, workspace_of}
+use Rattle.wm_forest.specs.RootId.{id, root}
 use Rattle.wm_tree.specs.Words.{with_raised}
 
 -- ---- showing

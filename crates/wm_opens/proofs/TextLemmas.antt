@@ -39,8 +39,8 @@ use Rattle.wm_spaces.specs.Renaming.{renamed_space}
 use Rattle.wm_spaces.specs.Sending.{goal_sent_refusal}
 use Rattle.wm_spaces.specs.Targets.{goal_of}
 use Rattle.wm_tree.proofs.SettleLemmas.{sound-settled}
-use Rattle.wm_tree.specs.declared.part.ConPart.{ConPart}
-use Rattle.wm_tree.specs.Look.{con_kind, kind_of}
+use Rattle.wm_forest.specs.declared.part.ConPart.{ConPart}
+use Rattle.wm_forest.specs.Look.{con_kind, kind_of}
 use Rattle.wm_tree.specs.Sound.{IsSound}
 use Rattle.wm_tree.specs.TreeValue.{TreeValue, workspace_of}
 use Rattle.wm_tree.specs.Words.{settled}

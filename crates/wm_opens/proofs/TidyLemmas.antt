@@ -5,22 +5,24 @@ use Rattle.wm_base.specs.declared.ids.ConId.{ConId}
 use Rattle.wm_floats.specs.Fullscreen.{unfull_but}
 use Rattle.wm_focus.specs.Marks.{bare, taken_off}
 use Rattle.wm_opens.specs.Opens.{HoldsNone, IsTidy}
-use Rattle.wm_tree.proofs.ChangeLemmas.{by_change}
-use Rattle.wm_tree.specs.Along.{is_sticky, loose, loosened, sticky}
-use Rattle.wm_tree.specs.Change.{append, arriving, at, hole, in_place, is_id, is_vacant, placed, raised_in, replaced, settled_row, shown_of, to_end, unfull, unfull_kind, without}
-use Rattle.wm_tree.specs.Counts.{but}
-use Rattle.wm_tree.specs.declared.kind.KindEdit.{KindEdit}
-use Rattle.wm_tree.specs.declared.kind.KindEdit.TheVariants as edits
-use Rattle.wm_tree.specs.declared.part.NodeKind.{NodeKind}
-use Rattle.wm_tree.specs.declared.part.NodeKind.TheVariants.{Root, Output, Space, Con}
-use Rattle.wm_tree.specs.declared.part.Part.{Part}
-use Rattle.wm_tree.specs.declared.place.Place.{Place}
-use Rattle.wm_tree.specs.declared.place.Place.TheVariants.{After, Before, First, Last, Float, Scratchpad}
-use Rattle.wm_tree.specs.Forest.{Forest, end, con}
-use Rattle.wm_tree.specs.Kinds.{changed, kind_changed}
-use Rattle.wm_tree.specs.Look.{con_kind, first_alone, first_floats, first_kids, first_part, in_row, kind_by, kind_of, node_in, only, same}
-use Rattle.wm_tree.specs.Move.{exchanged_nodes, holed, marks_word, other_marks, unmark_word, wrap_word}
-use Rattle.wm_tree.specs.Place.{put, put_word}
+use Rattle.wm_forest.proofs.ChangeLemmas.{by_change}
+use Rattle.wm_forest.specs.Sticky.{is_sticky, loose, loosened, sticky}
+use Rattle.wm_forest.specs.Change.{append, arriving, at, hole, in_place, is_id, is_vacant, placed, raised_in, replaced, settled_row, shown_of, to_end, unfull, unfull_kind, without}
+use Rattle.wm_forest.specs.Counts.{but}
+use Rattle.wm_forest.specs.declared.kind.KindEdit.{KindEdit}
+use Rattle.wm_forest.specs.declared.kind.KindEdit.TheVariants as edits
+use Rattle.wm_forest.specs.declared.part.NodeKind.{NodeKind}
+use Rattle.wm_forest.specs.declared.part.NodeKind.TheVariants.{Root, Output, Space, Con}
+use Rattle.wm_forest.specs.declared.part.Part.{Part}
+use Rattle.wm_forest.specs.declared.place.Place.{Place}
+use Rattle.wm_forest.specs.declared.place.Place.TheVariants.{After, Before, First, Last, Float, Scratchpad}
+use Rattle.wm_forest.specs.Forest.{Forest, end, con}
+use Rattle.wm_forest.specs.Kinds.{changed, kind_changed}
+use Rattle.wm_forest.specs.Look.{con_kind, first_alone, first_floats, first_kids, first_part, in_row, kind_by, kind_of, node_in, only, same}
+use Rattle.wm_forest.specs.Exchange.{exchanged_nodes, holed}
+use Rattle.wm_forest.specs.Marks.{marks_word, other_marks, unmark_word}
+use Rattle.wm_tree.specs.Move.{wrap_word}
+use Rattle.wm_forest.specs.Place.{put, put_word}
 
 holds_as : (kind : NodeKind) (a b : Forest) → (a ≡ end → b ≡ end) → HoldsNone kind a → HoldsNone kind b
 holds_as (Root c) a b f h = tt

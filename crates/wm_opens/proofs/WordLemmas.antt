@@ -7,26 +7,31 @@ use Rattle.wm_base.specs.declared.plan.OutputPlan.{OutputPlan}
 use Rattle.wm_focus.specs.Marks.{bare, part_off, taken_off}
 use Rattle.wm_opens.proofs.MeasureLemmas.{Fewer, IsFresh, IsMeasure, fewer_refl, fewer_same, fewer_trans}
 use Rattle.wm_opens.specs.Opens.{is_fill}
-use Rattle.wm_tree.proofs.ChangeLemmas.{by_change}
-use Rattle.wm_tree.proofs.CountLemmas.{count-append, count-same, count-settled, count-without, found_counted}
+use Rattle.wm_forest.proofs.ChangeLemmas.{by_change}
+use Rattle.wm_forest.proofs.CountLemmas.{count-append, count-same, count-settled, count-without, found_counted}
 use Rattle.wm_tree.proofs.RaiseLemmas.{count-raised, count-unfull}
-use Rattle.wm_tree.specs.Along.{gone_along, is_sticky, loose, loosened, nowhere, sticky}
-use Rattle.wm_tree.specs.Change.{arriving, at, hole, in_place, is_end, is_id, nobody, placed, replaced, unfull, without}
-use Rattle.wm_tree.specs.Counts.{count}
-use Rattle.wm_tree.specs.declared.kind.KindEdit.{KindEdit}
-use Rattle.wm_tree.specs.declared.kind.KindEdit.TheVariants as edits
-use Rattle.wm_tree.specs.declared.part.Part.{Part}
-use Rattle.wm_tree.specs.declared.place.NewCon.TheVariants as new
-use Rattle.wm_tree.specs.declared.place.Place.{Place}
-use Rattle.wm_tree.specs.declared.place.Place.TheVariants.{After, Before, First, Last, Float, Scratchpad}
-use Rattle.wm_tree.specs.Forest.{Forest, end, con}
-use Rattle.wm_tree.specs.Kinds.{kind_changed}
-use Rattle.wm_tree.specs.Look.{first_floats, first_kids, has, only, same}
-use Rattle.wm_tree.specs.Move.{apart, exchanged, exchanged_nodes, holed, marks_word, moved, moved_share, other_marks, share_in, unmark_word, unmarked, with_marks, wrap_word, wrapped}
-use Rattle.wm_tree.specs.Outputs.{handed_on, heir, left_to, new_output, new_space, space_moved, taking_in, with_output, with_space, without_output, yielded}
-use Rattle.wm_tree.specs.Place.{named, new_part, put, put_word, rect_at}
-use Rattle.wm_tree.specs.Sound.{tally}
-use Rattle.wm_tree.specs.TreeValue.{TreeValue, current, id, output_part, root, space_part, workspace_of}
+use Rattle.wm_tree.specs.Along.{gone_along, nowhere}
+use Rattle.wm_forest.specs.Sticky.{is_sticky, loose, loosened, sticky}
+use Rattle.wm_forest.specs.Change.{arriving, at, hole, in_place, is_end, is_id, nobody, placed, replaced, unfull, without}
+use Rattle.wm_forest.specs.Counts.{count}
+use Rattle.wm_forest.specs.declared.kind.KindEdit.{KindEdit}
+use Rattle.wm_forest.specs.declared.kind.KindEdit.TheVariants as edits
+use Rattle.wm_forest.specs.declared.part.Part.{Part}
+use Rattle.wm_forest.specs.declared.place.NewCon.TheVariants as new
+use Rattle.wm_forest.specs.declared.place.Place.{Place}
+use Rattle.wm_forest.specs.declared.place.Place.TheVariants.{After, Before, First, Last, Float, Scratchpad}
+use Rattle.wm_forest.specs.Forest.{Forest, end, con}
+use Rattle.wm_forest.specs.Kinds.{kind_changed}
+use Rattle.wm_forest.specs.Look.{first_floats, first_kids, has, only, same}
+use Rattle.wm_tree.specs.Move.{apart, exchanged, moved, moved_share, share_in, unmarked, with_marks, wrap_word, wrapped}
+use Rattle.wm_forest.specs.Exchange.{exchanged_nodes, holed}
+use Rattle.wm_forest.specs.Marks.{marks_word, other_marks, unmark_word}
+use Rattle.wm_tree.specs.Outputs.{handed_on, left_to, new_output, new_space, space_moved, with_output, with_space, without_output, yielded}
+use Rattle.wm_forest.specs.Taking.{heir, taking_in}
+use Rattle.wm_forest.specs.Place.{named, new_part, put, put_word, rect_at}
+use Rattle.wm_forest.specs.SoundRow.{tally}
+use Rattle.wm_tree.specs.TreeValue.{TreeValue, current, output_part, space_part, workspace_of}
+use Rattle.wm_forest.specs.RootId.{id, root}
 use Rattle.wm_tree.specs.Words.{detached, edited, settled, with_raised}
 
 -- a forest in which a node is counted is not empty

@@ -9,13 +9,14 @@ use Rattle.wm_base.specs.declared.properties.Props.{Props}
 use Rattle.wm_criteria.specs.declared.verdict.Verdict.{Verdict}
 use Rattle.wm_opens.specs.Opens.{Holds, IsGood, IsTidy, is_fill, is_owned_of, is_window_of, window_at, windows_at}
 use Rattle.wm_spaces.specs.Coming.{output_added_tree, output_removed_tree}
-use Rattle.wm_tree.specs.Counts.{count}
-use Rattle.wm_tree.specs.declared.kind.KindEdit.{KindEdit}
-use Rattle.wm_tree.specs.declared.place.NewCon.TheVariants as new
-use Rattle.wm_tree.specs.Look.{con_kind, kind_of, only, same}
-use Rattle.wm_tree.specs.Place.{passed_limit}
+use Rattle.wm_forest.specs.Counts.{count}
+use Rattle.wm_forest.specs.declared.kind.KindEdit.{KindEdit}
+use Rattle.wm_forest.specs.declared.place.NewCon.TheVariants as new
+use Rattle.wm_forest.specs.Look.{con_kind, kind_of, only, same}
+use Rattle.wm_forest.specs.Place.{passed_limit}
 use Rattle.wm_tree.specs.Sound.{IsSound}
-use Rattle.wm_tree.specs.TreeValue.{TreeValue, id, newcomer_place, opening}
+use Rattle.wm_tree.specs.TreeValue.{TreeValue, newcomer_place, opening}
+use Rattle.wm_forest.specs.RootId.{id}
 use Rattle.wm_tree.specs.Words.{attached, detached, edited, settled, with_raised}
 
 -- no command of a text makes a window

@@ -2,17 +2,17 @@
 use Rattle.std.specs.Prelude.{◌≡◌, ℕ, ◌+◌, ◌==◌, Bool, true, false, if◌then◌else◌, Option, None, Some}
 use Rattle.wm_base.specs.declared.ids.ConId.{ConId}
 use Rattle.wm_focus.specs.Swaps.{is_window_kind}
-use Rattle.wm_tree.specs.declared.kind.KindEdit.{KindEdit}
-use Rattle.wm_tree.specs.declared.kind.KindEdit.TheVariants as edits
-use Rattle.wm_tree.specs.declared.part.ConKind.{ConKind}
-use Rattle.wm_tree.specs.declared.part.ConKind.TheVariants.{Split, Window, Placeholder}
-use Rattle.wm_tree.specs.declared.part.ConPart.{ConPart}
-use Rattle.wm_tree.specs.declared.part.NodeKind.{NodeKind}
-use Rattle.wm_tree.specs.declared.part.NodeKind.TheVariants.{Root, Output, Space, Con}
-use Rattle.wm_tree.specs.declared.part.Part.{Part}
-use Rattle.wm_tree.specs.Counts.{count}
-use Rattle.wm_tree.specs.Forest.{Forest, end, con}
-use Rattle.wm_tree.specs.Look.{con_kind, kind_of, same}
+use Rattle.wm_forest.specs.declared.kind.KindEdit.{KindEdit}
+use Rattle.wm_forest.specs.declared.kind.KindEdit.TheVariants as edits
+use Rattle.wm_forest.specs.declared.part.ConKind.{ConKind}
+use Rattle.wm_forest.specs.declared.part.ConKind.TheVariants.{Split, Window, Placeholder}
+use Rattle.wm_forest.specs.declared.part.ConPart.{ConPart}
+use Rattle.wm_forest.specs.declared.part.NodeKind.{NodeKind}
+use Rattle.wm_forest.specs.declared.part.NodeKind.TheVariants.{Root, Output, Space, Con}
+use Rattle.wm_forest.specs.declared.part.Part.{Part}
+use Rattle.wm_forest.specs.Counts.{count}
+use Rattle.wm_forest.specs.Forest.{Forest, end, con}
+use Rattle.wm_forest.specs.Look.{con_kind, kind_of, same}
 use Rattle.wm_tree.specs.Sound.{IsSound}
 use Rattle.wm_tree.specs.TreeValue.{TreeValue}
 

@@ -3,9 +3,10 @@ ghost use Rattle.std.specs.Prelude.{◌≡◌, true, IfErr, IfOk, IsTrue, OnErr,
 ghost use Rattle.wm_criteria.specs.Prepared.{is_built};
 ghost use Rattle.wm_opens.specs.Opens.{ClosesOne, Holds, IsGood, MapsOne, is_window_of};
 ghost use Rattle.wm_apply.specs.Batches.{outcome};
-ghost use Rattle.wm_tree.specs.TreeValue.{id, newcomer_place};
+ghost use Rattle.wm_forest.specs.RootId.{id};
+ghost use Rattle.wm_tree.specs.TreeValue.{newcomer_place};
 ghost use Rattle.wm_tree.specs.Words.{IsAttachCause, attached};
-ghost use Rattle.wm_tree.specs.declared.place.NewCon.TheVariants.{Window};
+ghost use Rattle.wm_forest.specs.declared.place.NewCon.TheVariants.{Window};
 
 use std::alloc::Global;
 use wm_apply::{Applied, apply};

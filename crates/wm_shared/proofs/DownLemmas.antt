@@ -2,17 +2,17 @@
 use Rattle.std.proofs.Common.{◌≡◌, ◌+◌, ◌≤◌, Bool, true, false, cond, ◌||◌, ◌⊎◌, inl, inr, Option, Some, refl, ap, sym, ◌∙◌, arith}
 use Rattle.std.specs.Prelude.{option_and_then}
 use Rattle.wm_base.specs.declared.ids.ConId.{ConId}
-use Rattle.wm_tree.proofs.CountLemmas.{count-without, counted, there}
-use Rattle.wm_tree.proofs.ForestLemmas.{only_absent}
-use Rattle.wm_tree.proofs.RecencyLemmas.{same_is, same_self}
-use Rattle.wm_tree.specs.declared.part.NodeKind.{NodeKind}
-use Rattle.wm_tree.specs.declared.part.NodeKind.TheVariants.{Root, Output, Space, Con}
-use Rattle.wm_tree.specs.declared.part.Part.{Part}
-use Rattle.wm_tree.specs.declared.spot.Spot.{Spot}
-use Rattle.wm_tree.specs.Forest.{Forest, end, con}
-use Rattle.wm_tree.specs.Look.{has, only, same}
-use Rattle.wm_tree.specs.Sound.{one_of, tally}
-use Rattle.wm_tree.specs.Spot.{holder_by, spot_below, spot_in, spot_of}
+use Rattle.wm_forest.proofs.CountLemmas.{count-without, counted, there}
+use Rattle.wm_forest.proofs.ForestLemmas.{only_absent}
+use Rattle.wm_forest.proofs.RecencyLemmas.{same_is, same_self}
+use Rattle.wm_forest.specs.declared.part.NodeKind.{NodeKind}
+use Rattle.wm_forest.specs.declared.part.NodeKind.TheVariants.{Root, Output, Space, Con}
+use Rattle.wm_forest.specs.declared.part.Part.{Part}
+use Rattle.wm_forest.specs.declared.spot.Spot.{Spot}
+use Rattle.wm_forest.specs.Forest.{Forest, end, con}
+use Rattle.wm_forest.specs.Look.{has, only, same}
+use Rattle.wm_forest.specs.SoundRow.{one_of, tally}
+use Rattle.wm_forest.specs.Spot.{holder_by, spot_below, spot_in, spot_of}
 
 abbrev pub Once : Forest → Type 0
 Once f = (i : ConId) → tally i f ≤ 1

@@ -8,11 +8,11 @@ use Rattle.wm_base.specs.declared.geometry.Rect.{Rect}
 use Rattle.wm_shared.specs.declared.keys.Key.{Key}
 use Rattle.wm_shared.specs.Keys.{comes_before, least, lesser, with_key}
 use Rattle.wm_shared.specs.Outputs.{gap, is_beyond, key_beyond, keys_beyond}
-use Rattle.wm_tree.specs.declared.part.Part.{Part}
-use Rattle.wm_tree.specs.Forest.{Forest, end, con}
-use Rattle.wm_tree.specs.Look.{first_part, in_row, output_kind, rest_of, same}
-use Rattle.wm_tree.specs.declared.part.OutputPart.{OutputPart}
-use Rattle.wm_tree.proofs.RecencyLemmas.{same_self}
+use Rattle.wm_forest.specs.declared.part.Part.{Part}
+use Rattle.wm_forest.specs.Forest.{Forest, end, con}
+use Rattle.wm_forest.specs.Look.{first_part, in_row, output_kind, rest_of, same}
+use Rattle.wm_forest.specs.declared.part.OutputPart.{OutputPart}
+use Rattle.wm_forest.proofs.RecencyLemmas.{same_self}
 
 before_trans : (a b c : Key) → comes_before c b ≡ true → comes_before b a ≡ true → comes_before c a ≡ true
 before_trans a b c h k = grind (arith, nat_tests)

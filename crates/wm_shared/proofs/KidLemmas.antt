@@ -3,18 +3,19 @@ use Rattle.std.proofs.Common.{◌≡◌, ◌≢◌, ℕ, Bool, true, false, cond
 use Rattle.wm_base.specs.declared.ids.ConId.{ConId}
 use Rattle.wm_shared.proofs.DownLemmas.{Once, down_floats, down_kids, down_rest, in_floats, in_kids, in_rest, once_floats, once_kids, once_rest}
 use Rattle.wm_tree.proofs.AttachLemmas.{has_row}
-use Rattle.wm_tree.proofs.ForestLemmas.{only_absent}
-use Rattle.wm_tree.proofs.RecencyLemmas.{same_self}
-use Rattle.wm_tree.specs.declared.part.NodeKind.{NodeKind}
-use Rattle.wm_tree.specs.declared.part.NodeKind.TheVariants.{Root, Output, Space, Con}
-use Rattle.wm_tree.specs.declared.part.Part.{Part}
-use Rattle.wm_tree.specs.declared.spot.Spot.{Spot}
-use Rattle.wm_tree.specs.Forest.{Forest, end, con}
-use Rattle.wm_tree.specs.Look.{con_kind, first_part, has, in_row, kind_by, only, same}
-use Rattle.wm_tree.specs.Place.{IsTiled, is_tiled}
-use Rattle.wm_tree.specs.Sound.{IsNode, IsSoundRow, Level, below, containers, outputs, roots, spaces}
-use Rattle.wm_tree.specs.Spot.{room_below, spot_below, spot_in, spot_of, top}
-use Rattle.wm_tree.specs.TreeValue.{or_id, row_holder, tiled_by, tiled_kids}
+use Rattle.wm_forest.proofs.ForestLemmas.{only_absent}
+use Rattle.wm_forest.proofs.RecencyLemmas.{same_self}
+use Rattle.wm_forest.specs.declared.part.NodeKind.{NodeKind}
+use Rattle.wm_forest.specs.declared.part.NodeKind.TheVariants.{Root, Output, Space, Con}
+use Rattle.wm_forest.specs.declared.part.Part.{Part}
+use Rattle.wm_forest.specs.declared.spot.Spot.{Spot}
+use Rattle.wm_forest.specs.Forest.{Forest, end, con}
+use Rattle.wm_forest.specs.Look.{con_kind, first_part, has, in_row, kind_by, only, same}
+use Rattle.wm_forest.specs.Place.{IsTiled, is_tiled}
+use Rattle.wm_forest.specs.SoundRow.{IsNode, IsSoundRow, Level, below, containers, outputs, roots, spaces}
+use Rattle.wm_forest.specs.Spot.{room_below, spot_below, spot_in, spot_of, top}
+use Rattle.wm_tree.specs.TreeValue.{or_id}
+use Rattle.wm_forest.specs.Focus.{row_holder, tiled_by, tiled_kids}
 
 -- a container is there
 pub con_there : (c : ConId) (f : Forest) → kind_by con_kind (first_part (only c f)) ≢ None → has c f ≡ true

@@ -6,7 +6,7 @@ use Rattle.wm_shared.specs.Showing.{current_some, entered, followed, focusing, o
 use Rattle.wm_tree.proofs.IdLemmas.{ids_raised, ids_trans}
 use Rattle.wm_tree.specs.Along.{gone_along}
 use Rattle.wm_tree.specs.Ids.{IdsRise}
-use Rattle.wm_tree.specs.Look.{same}
+use Rattle.wm_forest.specs.Look.{same}
 use Rattle.wm_tree.specs.Sets.{shown_by, with_shown}
 use Rattle.wm_tree.specs.Words.{with_raised}
 use Rattle.wm_tree.specs.TreeValue.{TreeValue, parent, shown, workspace_of}

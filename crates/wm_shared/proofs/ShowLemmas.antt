@@ -7,25 +7,26 @@ use Rattle.wm_shared.specs.Outputs.{output_of}
 use Rattle.wm_shared.specs.Showing.{current_some, entered, followed, focusing, output_focused, remembering, showing, showing_some, shown_there, space_name, with_current}
 use Rattle.wm_shared.specs.Subject.{is_space}
 use Rattle.wm_tree.proofs.AlongLemmas.{sound-along}
-use Rattle.wm_tree.proofs.EditLemmas.{fits_current}
+use Rattle.wm_forest.proofs.EditLemmas.{fits_current}
 use Rattle.wm_tree.proofs.FocusLemmas.{root_kids}
 use Rattle.wm_tree.proofs.RaiseLemmas.{sound-raised}
 use Rattle.wm_tree.proofs.SoundLemmas.{sound-edited, sound-shown}
 use Rattle.wm_tree.specs.Along.{gone_along}
-use Rattle.wm_tree.specs.Change.{at}
-use Rattle.wm_tree.specs.declared.kind.KindEdit.{KindEdit}
-use Rattle.wm_tree.specs.declared.kind.KindEdit.TheVariants as edits
-use Rattle.wm_tree.specs.declared.part.NodeKind.{NodeKind}
-use Rattle.wm_tree.specs.declared.part.NodeKind.TheVariants.{Root, Output, Space, Con}
-use Rattle.wm_tree.specs.declared.part.Part.{Part}
-use Rattle.wm_tree.specs.declared.part.SpacePart.{SpacePart}
-use Rattle.wm_tree.specs.Forest.{Forest, end, con}
-use Rattle.wm_tree.specs.Kinds.{changed, kind_changed}
-use Rattle.wm_tree.specs.Look.{first_kids, first_part, has, in_row, kind_by, only, same, space_kind}
+use Rattle.wm_forest.specs.Change.{at}
+use Rattle.wm_forest.specs.declared.kind.KindEdit.{KindEdit}
+use Rattle.wm_forest.specs.declared.kind.KindEdit.TheVariants as edits
+use Rattle.wm_forest.specs.declared.part.NodeKind.{NodeKind}
+use Rattle.wm_forest.specs.declared.part.NodeKind.TheVariants.{Root, Output, Space, Con}
+use Rattle.wm_forest.specs.declared.part.Part.{Part}
+use Rattle.wm_forest.specs.declared.part.SpacePart.{SpacePart}
+use Rattle.wm_forest.specs.Forest.{Forest, end, con}
+use Rattle.wm_forest.specs.Kinds.{changed, kind_changed}
+use Rattle.wm_forest.specs.Look.{first_kids, first_part, has, in_row, kind_by, only, same, space_kind}
 use Rattle.wm_tree.specs.Sets.{IsShowable, shown_by, with_shown}
 use Rattle.wm_tree.specs.Sound.{IsSound}
-use Rattle.wm_tree.specs.Spot.{spot_in, top}
-use Rattle.wm_tree.specs.TreeValue.{TreeValue, parent, root, shown, workspace_of}
+use Rattle.wm_forest.specs.Spot.{spot_in, top}
+use Rattle.wm_tree.specs.TreeValue.{TreeValue, parent, shown, workspace_of}
+use Rattle.wm_forest.specs.RootId.{root}
 
 -- ---- edits that leave workspaces as they are
 

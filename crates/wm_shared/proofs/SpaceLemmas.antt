@@ -5,23 +5,25 @@ use Rattle.wm_base.specs.declared.ids.ConId.{ConId}
 use Rattle.wm_shared.proofs.DownLemmas.{once_only, only_below}
 use Rattle.wm_shared.specs.Showing.{shown_on}
 use Rattle.wm_tree.proofs.AttachLemmas.{has_row}
-use Rattle.wm_tree.proofs.ForestLemmas.{only_absent}
+use Rattle.wm_forest.proofs.ForestLemmas.{only_absent}
 use Rattle.wm_tree.proofs.MoveLemmas.{SoundFound, found_sound}
-use Rattle.wm_tree.proofs.PutLemmas.{IsConFirst}
-use Rattle.wm_tree.proofs.StandLemmas.{HasSpot, has_spot}
-use Rattle.wm_tree.proofs.OnceLemmas.{in_kids, only_floats, only_kids, only_rest}
-use Rattle.wm_tree.proofs.RecencyLemmas.{same_self}
-use Rattle.wm_tree.specs.Change.{shown_of}
-use Rattle.wm_tree.specs.declared.part.NodeKind.{NodeKind}
-use Rattle.wm_tree.specs.declared.part.NodeKind.TheVariants.{Root, Output, Space, Con}
-use Rattle.wm_tree.specs.declared.part.Part.{Part}
-use Rattle.wm_tree.specs.declared.spot.Spot.{Spot}
-use Rattle.wm_tree.specs.Forest.{Forest, end, con}
-use Rattle.wm_tree.specs.Look.{first_kids, first_part, has, in_row, con_kind, kind_by, only, same, space_kind}
-use Rattle.wm_tree.proofs.ChangeLemmas.{by_place}
-use Rattle.wm_tree.specs.Sound.{IsNode, IsSound, IsSoundRow, Level, below as level_below, containers, outputs, roots, spaces, tally}
-use Rattle.wm_tree.specs.Spot.{room_below, space_at, space_by, spot_below, spot_in, spot_of, top}
-use Rattle.wm_tree.specs.TreeValue.{TreeValue, parent, root, workspace_of}
+use Rattle.wm_forest.proofs.PutLemmas.{IsConFirst}
+use Rattle.wm_forest.proofs.StandLemmas.{HasSpot, has_spot}
+use Rattle.wm_forest.proofs.OnceLemmas.{in_kids, only_floats, only_kids, only_rest}
+use Rattle.wm_forest.proofs.RecencyLemmas.{same_self}
+use Rattle.wm_forest.specs.Change.{shown_of}
+use Rattle.wm_forest.specs.declared.part.NodeKind.{NodeKind}
+use Rattle.wm_forest.specs.declared.part.NodeKind.TheVariants.{Root, Output, Space, Con}
+use Rattle.wm_forest.specs.declared.part.Part.{Part}
+use Rattle.wm_forest.specs.declared.spot.Spot.{Spot}
+use Rattle.wm_forest.specs.Forest.{Forest, end, con}
+use Rattle.wm_forest.specs.Look.{first_kids, first_part, has, in_row, con_kind, kind_by, only, same, space_kind}
+use Rattle.wm_forest.proofs.ChangeLemmas.{by_place}
+use Rattle.wm_forest.specs.SoundRow.{IsNode, IsSoundRow, Level, below as level_below, containers, outputs, roots, spaces, tally}
+use Rattle.wm_tree.specs.Sound.{IsSound}
+use Rattle.wm_forest.specs.Spot.{room_below, space_at, space_by, spot_below, spot_in, spot_of, top}
+use Rattle.wm_tree.specs.TreeValue.{TreeValue, parent, workspace_of}
+use Rattle.wm_forest.specs.RootId.{root}
 
 abbrev Once : Forest → Type 0
 Once f = (i : ConId) → tally i f ≤ 1

@@ -5,16 +5,17 @@ use Rattle.wm_base.specs.declared.ids.ConId.{ConId}
 use Rattle.wm_shared.specs.Subject.{is_space}
 use Rattle.wm_tree.proofs.AttachLemmas.{has_row}
 use Rattle.wm_tree.proofs.FocusLemmas.{current_there, outputs_of}
-use Rattle.wm_tree.proofs.OnceLemmas.{in_kids, in_rest, only_kids, only_rest}
+use Rattle.wm_forest.proofs.OnceLemmas.{in_kids, in_rest, only_kids, only_rest}
 use Rattle.wm_tree.proofs.OutputRows.{by_row}
-use Rattle.wm_tree.specs.declared.part.NodeKind.{NodeKind}
-use Rattle.wm_tree.specs.declared.part.NodeKind.TheVariants.{Root, Output, Space, Con}
-use Rattle.wm_tree.specs.declared.part.SpacePart.{SpacePart}
-use Rattle.wm_tree.specs.Change.{shown_of}
-use Rattle.wm_tree.specs.Forest.{Forest, end, con}
-use Rattle.wm_tree.specs.Look.{first_kids, first_part, has, in_row, kind_by, node_in, only, same, space_kind}
-use Rattle.wm_tree.specs.Sound.{IsNode, IsSound, IsSoundRow, outputs, roots, spaces, tally}
-use Rattle.wm_tree.specs.Spot.{room_below}
+use Rattle.wm_forest.specs.declared.part.NodeKind.{NodeKind}
+use Rattle.wm_forest.specs.declared.part.NodeKind.TheVariants.{Root, Output, Space, Con}
+use Rattle.wm_forest.specs.declared.part.SpacePart.{SpacePart}
+use Rattle.wm_forest.specs.Change.{shown_of}
+use Rattle.wm_forest.specs.Forest.{Forest, end, con}
+use Rattle.wm_forest.specs.Look.{first_kids, first_part, has, in_row, kind_by, node_in, only, same, space_kind}
+use Rattle.wm_forest.specs.SoundRow.{IsNode, IsSoundRow, outputs, roots, spaces, tally}
+use Rattle.wm_tree.specs.Sound.{IsSound}
+use Rattle.wm_forest.specs.Spot.{room_below}
 use Rattle.wm_tree.specs.TreeValue.{TreeValue, current, or_id, shown}
 
 pub either : (a b : Bool) → b ≡ true → (a || b) ≡ true

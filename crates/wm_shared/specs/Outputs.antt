@@ -8,9 +8,9 @@ use Rattle.wm_base.specs.declared.geometry.Rect.{Rect}
 use Rattle.wm_base.specs.declared.ids.ConId.{ConId}
 use Rattle.wm_shared.specs.declared.keys.Key.{Key}
 use Rattle.wm_shared.specs.Keys.{least, with_key}
-use Rattle.wm_tree.specs.declared.part.OutputPart.{OutputPart}
-use Rattle.wm_tree.specs.Forest.{Forest, end, con}
-use Rattle.wm_tree.specs.Look.{first_kids, kind_of, output_kind}
+use Rattle.wm_forest.specs.declared.part.OutputPart.{OutputPart}
+use Rattle.wm_forest.specs.Forest.{Forest, end, con}
+use Rattle.wm_forest.specs.Look.{first_kids, kind_of, output_kind}
 use Rattle.wm_tree.specs.TreeValue.{TreeValue, parent, workspace_of}
 
 -- the place behind the last of a span

@@ -3,10 +3,10 @@ use Rattle.std.specs.Prelude.{ℤ, pos, negsuc, int_lt, if◌then◌else◌, Opt
 use Rattle.wm_base.specs.declared.geometry.Rect.{Rect}
 use Rattle.wm_base.specs.declared.ids.ConId.{ConId}
 use Rattle.wm_shared.specs.Outputs.{output_of}
-use Rattle.wm_tree.specs.declared.part.ConPart.{ConPart}
-use Rattle.wm_tree.specs.declared.part.OutputPart.{OutputPart}
+use Rattle.wm_forest.specs.declared.part.ConPart.{ConPart}
+use Rattle.wm_forest.specs.declared.part.OutputPart.{OutputPart}
 use Rattle.wm_tree.specs.Along.{nowhere}
-use Rattle.wm_tree.specs.Look.{con_kind, kind_of, output_kind}
+use Rattle.wm_forest.specs.Look.{con_kind, kind_of, output_kind}
 use Rattle.wm_tree.specs.TreeValue.{TreeValue}
 
 -- the nearest number that a place may have

@@ -5,8 +5,8 @@ use Rattle.wm_base.specs.declared.errors.ErrorText.TheVariants as texts
 use Rattle.wm_base.specs.declared.errors.Limit.{Limit}
 use Rattle.wm_base.specs.declared.errors.Refusal.{Refusal}
 use Rattle.wm_base.specs.declared.errors.Refusal.TheVariants.{Full, NameTaken, NoMemory, NoTarget}
-use Rattle.wm_tree.specs.declared.place.TreeRefusal.{TreeRefusal}
-use Rattle.wm_tree.specs.declared.place.TreeRefusal.TheVariants as tree
+use Rattle.wm_tree.specs.declared.refusal.TreeRefusal.{TreeRefusal}
+use Rattle.wm_tree.specs.declared.refusal.TreeRefusal.TheVariants as tree
 
 -- a refusal is the first error, or memory ran out
 abbrev pub IsCause : Option Refusal → Refusal → Type 0

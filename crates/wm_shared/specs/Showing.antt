@@ -3,13 +3,14 @@ use Rattle.std.specs.Prelude.{ℕ, if◌then◌else◌, List, Option, None, Some
 use Rattle.std.specs.Option.{option_map}
 use Rattle.wm_base.specs.declared.ids.ConId.{ConId}
 use Rattle.wm_shared.specs.Outputs.{output_of}
-use Rattle.wm_tree.specs.declared.kind.KindEdit.TheVariants as edits
-use Rattle.wm_tree.specs.declared.part.SpacePart.{SpacePart}
+use Rattle.wm_forest.specs.declared.kind.KindEdit.TheVariants as edits
+use Rattle.wm_forest.specs.declared.part.SpacePart.{SpacePart}
 use Rattle.wm_tree.specs.Along.{gone_along}
-use Rattle.wm_tree.specs.Change.{shown_of}
-use Rattle.wm_tree.specs.Look.{first_part, kind_by, kind_of, only, same, space_kind}
+use Rattle.wm_forest.specs.Change.{shown_of}
+use Rattle.wm_forest.specs.Look.{first_part, kind_by, kind_of, only, same, space_kind}
 use Rattle.wm_tree.specs.Sets.{with_shown}
-use Rattle.wm_tree.specs.TreeValue.{TreeValue, parent, root, shown, workspace_of}
+use Rattle.wm_tree.specs.TreeValue.{TreeValue, parent, shown, workspace_of}
+use Rattle.wm_forest.specs.RootId.{root}
 use Rattle.wm_tree.specs.Words.{edited, with_raised}
 
 -- the name of the workspace w

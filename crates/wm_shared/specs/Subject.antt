@@ -1,7 +1,7 @@
 -- The container or workspace that a command is done to.
 use Rattle.std.specs.Prelude.{◌≡◌, true, false, Bool, Option, None, Some, is_none, is_some}
 use Rattle.wm_base.specs.declared.ids.ConId.{ConId}
-use Rattle.wm_tree.specs.Look.{con_kind, kind_of, space_kind}
+use Rattle.wm_forest.specs.Look.{con_kind, kind_of, space_kind}
 use Rattle.wm_tree.specs.Sound.{IsSound}
 use Rattle.wm_tree.specs.TreeValue.{TreeValue, workspace_of}
 

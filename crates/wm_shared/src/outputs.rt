@@ -2,7 +2,7 @@
 ghost use Rattle.std.specs.Prelude.{◌≡◌, true, IfSome};
 ghost use Rattle.wm_shared.specs.Outputs.{end_of, gap, key_beyond, keys_beyond, output_from, output_in, output_of, spans_meet, stands_beside};
 ghost use Rattle.wm_shared.specs.Keys.{least};
-ghost use Rattle.wm_tree.specs.Look.{first_kids, in_row, output_kind};
+ghost use Rattle.wm_forest.specs.Look.{first_kids, in_row, output_kind};
 
 use crate::keys::{Key, lesser};
 use wm_base::{ConId, Dir, Rect};

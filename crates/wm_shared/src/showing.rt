@@ -2,7 +2,7 @@
 ghost use Rattle.std.specs.Prelude.{◌≡◌, true, IfOk, OnOk, OnErr};
 ghost use Rattle.wm_shared.specs.Showing.{entered, focusing, followed, output_focused, remembered, showing, shown_on, shown_there, space_name};
 ghost use Rattle.wm_shared.specs.Subject.{is_space};
-ghost use Rattle.wm_tree.specs.Look.{first_kids, in_row};
+ghost use Rattle.wm_forest.specs.Look.{first_kids, in_row};
 ghost use Rattle.wm_tree.specs.Sound.{IsSound};
 ghost use Rattle.wm_tree.specs.TreeValue.{parent};
 

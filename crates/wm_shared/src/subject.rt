@@ -1,7 +1,7 @@
 //! What the subject of a command is.
 ghost use Rattle.std.specs.Prelude.{◌≡◌, true};
 ghost use Rattle.wm_shared.specs.Subject.{IsSubject, is_hidden, is_space, is_subject_kind};
-ghost use Rattle.wm_tree.specs.Look.{con_kind, kind_of, space_kind};
+ghost use Rattle.wm_forest.specs.Look.{con_kind, kind_of, space_kind};
 ghost use Rattle.wm_tree.specs.Sound.{IsSound};
 
 use wm_base::ConId;

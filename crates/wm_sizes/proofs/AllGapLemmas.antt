@@ -5,18 +5,19 @@ use Rattle.wm_base.specs.declared.ids.ConId.{ConId}
 use Rattle.wm_sizes.proofs.SetLemmas.{edited_stays}
 use Rattle.wm_sizes.specs.declared.gaps.Change.{Change}
 use Rattle.wm_sizes.specs.Gaps.{AllGapped, all_gapped, each_gapped, gapped, regapped, space_after, space_gapped}
-use Rattle.wm_tree.proofs.RecencyLemmas.{same_is, same_self}
+use Rattle.wm_forest.proofs.RecencyLemmas.{same_is, same_self}
 use Rattle.wm_tree.proofs.SoundLemmas.{rank_le}
-use Rattle.wm_tree.specs.Change.{at}
-use Rattle.wm_tree.specs.declared.kind.KindEdit.TheVariants as edits
-use Rattle.wm_tree.specs.declared.part.NodeKind.{NodeKind}
-use Rattle.wm_tree.specs.declared.part.NodeKind.TheVariants.{Root, Output, Space, Con}
-use Rattle.wm_tree.specs.declared.part.Part.{Part}
-use Rattle.wm_tree.specs.declared.part.SpacePart.{SpacePart}
-use Rattle.wm_tree.specs.Forest.{Forest, end, con}
-use Rattle.wm_tree.specs.Kinds.{changed, kind_changed}
-use Rattle.wm_tree.specs.Look.{first_part, has, kind_by, only, same, space_kind}
-use Rattle.wm_tree.specs.Sound.{IsSound, ranked, ranks, times}
+use Rattle.wm_forest.specs.Change.{at}
+use Rattle.wm_forest.specs.declared.kind.KindEdit.TheVariants as edits
+use Rattle.wm_forest.specs.declared.part.NodeKind.{NodeKind}
+use Rattle.wm_forest.specs.declared.part.NodeKind.TheVariants.{Root, Output, Space, Con}
+use Rattle.wm_forest.specs.declared.part.Part.{Part}
+use Rattle.wm_forest.specs.declared.part.SpacePart.{SpacePart}
+use Rattle.wm_forest.specs.Forest.{Forest, end, con}
+use Rattle.wm_forest.specs.Kinds.{changed, kind_changed}
+use Rattle.wm_forest.specs.Look.{first_part, has, kind_by, only, same, space_kind}
+use Rattle.wm_tree.specs.Sound.{IsSound}
+use Rattle.wm_forest.specs.SoundRow.{ranked, ranks, times}
 use Rattle.wm_tree.specs.TreeValue.{TreeValue}
 
 -- a node as a workspace

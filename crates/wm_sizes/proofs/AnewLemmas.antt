@@ -21,17 +21,18 @@ use Rattle.wm_sizes.specs.Climbing.{has_two}
 use Rattle.wm_sizes.specs.Deals.{dealt, fits, fits_all, gained, is_partner, share_after, siblings, turn_after}
 use Rattle.wm_sizes.specs.Laws.{SharesAnew, share_among}
 use Rattle.wm_sizes.specs.Tiled.{HasFamily, cannot, children_of, lacks, partner_of, partners_of, rung_deal, shares_set}
-use Rattle.wm_tree.proofs.RecencyLemmas.{same_is, same_self}
-use Rattle.wm_tree.specs.Change.{at}
-use Rattle.wm_tree.specs.Counts.{row_length, share_of, share_sum}
-use Rattle.wm_tree.specs.declared.kind.KindEdit.TheVariants as edits
-use Rattle.wm_tree.specs.declared.part.NodeKind.{NodeKind}
-use Rattle.wm_tree.specs.declared.part.NodeKind.TheVariants.{Root, Output, Space, Con}
-use Rattle.wm_tree.specs.declared.part.Part.{Part}
-use Rattle.wm_tree.specs.Forest.{Forest, end, con}
-use Rattle.wm_tree.specs.Kinds.{changed, kind_changed}
-use Rattle.wm_tree.specs.Look.{con_kind, first_kids, first_part, has, in_row, kind_by, only, same}
-use Rattle.wm_tree.specs.Sound.{IsSound, roots}
+use Rattle.wm_forest.proofs.RecencyLemmas.{same_is, same_self}
+use Rattle.wm_forest.specs.Change.{at}
+use Rattle.wm_forest.specs.Counts.{row_length, share_of, share_sum}
+use Rattle.wm_forest.specs.declared.kind.KindEdit.TheVariants as edits
+use Rattle.wm_forest.specs.declared.part.NodeKind.{NodeKind}
+use Rattle.wm_forest.specs.declared.part.NodeKind.TheVariants.{Root, Output, Space, Con}
+use Rattle.wm_forest.specs.declared.part.Part.{Part}
+use Rattle.wm_forest.specs.Forest.{Forest, end, con}
+use Rattle.wm_forest.specs.Kinds.{changed, kind_changed}
+use Rattle.wm_forest.specs.Look.{con_kind, first_kids, first_part, has, in_row, kind_by, only, same}
+use Rattle.wm_tree.specs.Sound.{IsSound}
+use Rattle.wm_forest.specs.SoundRow.{roots}
 use Rattle.wm_tree.specs.TreeValue.{TreeValue, is_con, is_con_kind}
 
 -- ---- containers stay containers

@@ -9,15 +9,17 @@ use Rattle.wm_sizes.specs.Climbing.{climb, has_two, rung_at, rung_of, runs, up_f
 use Rattle.wm_sizes.specs.declared.climbing.Climbed.{Climbed}
 use Rattle.wm_sizes.specs.declared.climbing.Rung.{Rung}
 use Rattle.wm_sizes.specs.Tiled.{HasFamily}
-use Rattle.wm_tree.proofs.RecencyLemmas.{same_self}
-use Rattle.wm_tree.specs.declared.part.NodeKind.{NodeKind}
-use Rattle.wm_tree.specs.declared.part.NodeKind.TheVariants.{Root, Output, Space, Con}
-use Rattle.wm_tree.specs.declared.part.Part.{Part}
-use Rattle.wm_tree.specs.Forest.{Forest, end, con}
-use Rattle.wm_tree.specs.Look.{has, in_row, same}
-use Rattle.wm_tree.specs.Sound.{IsNode, IsSound, IsSoundRow, Level, below, containers, outputs, roots, spaces}
-use Rattle.wm_tree.specs.Spot.{room_below}
-use Rattle.wm_tree.specs.TreeValue.{TreeValue, tiled_by}
+use Rattle.wm_forest.proofs.RecencyLemmas.{same_self}
+use Rattle.wm_forest.specs.declared.part.NodeKind.{NodeKind}
+use Rattle.wm_forest.specs.declared.part.NodeKind.TheVariants.{Root, Output, Space, Con}
+use Rattle.wm_forest.specs.declared.part.Part.{Part}
+use Rattle.wm_forest.specs.Forest.{Forest, end, con}
+use Rattle.wm_forest.specs.Look.{has, in_row, same}
+use Rattle.wm_forest.specs.SoundRow.{IsNode, IsSoundRow, Level, below, containers, outputs, roots, spaces}
+use Rattle.wm_tree.specs.Sound.{IsSound}
+use Rattle.wm_forest.specs.Spot.{room_below}
+use Rattle.wm_tree.specs.TreeValue.{TreeValue}
+use Rattle.wm_forest.specs.Focus.{tiled_by}
 
 -- what has an axis holds tiled containers
 holds_tiled : (a : Axis) (l : Level) (tiled : Bool) (room : ℕ) (part : Part) (kids : Forest) → IsNode l tiled room part.id part.kind part.marks kids → runs a part.kind ≡ true → (below l ≡ containers) × (tiled_by part.kind kids ≡ kids)

@@ -5,8 +5,8 @@ use Rattle.std.specs.Prelude.{drop}
 use Rattle.wm_base.specs.declared.ids.ConId.{ConId}
 use Rattle.wm_sizes.specs.declared.gaps.Change.{Change}
 use Rattle.wm_sizes.specs.Gaps.{each_gapped, regapped, space_gapped}
-use Rattle.wm_tree.specs.declared.part.SpacePart.{SpacePart}
-use Rattle.wm_tree.specs.Look.{kind_of, space_kind}
+use Rattle.wm_forest.specs.declared.part.SpacePart.{SpacePart}
+use Rattle.wm_forest.specs.Look.{kind_of, space_kind}
 use Rattle.wm_tree.specs.TreeValue.{TreeValue}
 
 get_some : {A : Type 0} (n : ℕ) (l : List A) (x : A) → slice_get l n ≡ Some x → (n < length l) × (drop n l ≡ x ∷ drop (suc n) l)

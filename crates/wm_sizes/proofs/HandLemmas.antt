@@ -9,10 +9,10 @@ use Rattle.wm_sizes.specs.declared.deals.Sibling.{Sibling}
 use Rattle.wm_sizes.specs.Deals.{fits, fits_all, gives, is_partner, share_after, siblings, turn_after}
 use Rattle.wm_sizes.specs.declared.tiled.Growth.{Growth}
 use Rattle.wm_sizes.specs.Tiled.{IsReady, cannot, nth_sibling}
-use Rattle.wm_tree.specs.Counts.{row_length}
-use Rattle.wm_tree.proofs.ForestLemmas.{only_absent}
-use Rattle.wm_tree.specs.Forest.{Forest, end, con}
-use Rattle.wm_tree.specs.Look.{first_kids, has, only}
+use Rattle.wm_forest.specs.Counts.{row_length}
+use Rattle.wm_forest.proofs.ForestLemmas.{only_absent}
+use Rattle.wm_forest.specs.Forest.{Forest, end, con}
+use Rattle.wm_forest.specs.Look.{first_kids, has, only}
 
 -- a node that is not there has no children
 pub no_child : (n : ℕ) (p : ConId) (f : Forest) → has p f ≡ false → nth_sibling n (siblings (first_kids (only p f))) ≡ None

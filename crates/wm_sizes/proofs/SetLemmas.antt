@@ -10,17 +10,18 @@ use Rattle.wm_sizes.specs.declared.deals.Deal.{Deal}
 use Rattle.wm_sizes.specs.declared.deals.Sibling.{Sibling}
 use Rattle.wm_sizes.specs.Deals.{dealt, fits, fits_all, share_after, siblings, turn_after}
 use Rattle.wm_sizes.specs.Tiled.{HasFamily, IsReady, children_of, shares_set}
-use Rattle.wm_tree.proofs.EditLemmas.{fits_share}
-use Rattle.wm_tree.proofs.RecencyLemmas.{same_self}
+use Rattle.wm_forest.proofs.EditLemmas.{fits_share}
+use Rattle.wm_forest.proofs.RecencyLemmas.{same_self}
 use Rattle.wm_tree.proofs.SoundLemmas.{sound-edited}
-use Rattle.wm_tree.specs.Change.{at}
-use Rattle.wm_tree.specs.declared.kind.KindEdit.{KindEdit}
-use Rattle.wm_tree.specs.declared.kind.KindEdit.TheVariants as edits
-use Rattle.wm_tree.specs.Forest.{Forest, end, con}
-use Rattle.wm_tree.specs.Kinds.{changed, kind_changed}
-use Rattle.wm_tree.specs.Look.{first_kids, has, in_row, only, same}
-use Rattle.wm_tree.specs.Sound.{IsSound, roots}
-use Rattle.wm_tree.specs.Spot.{spot_in, top}
+use Rattle.wm_forest.specs.Change.{at}
+use Rattle.wm_forest.specs.declared.kind.KindEdit.{KindEdit}
+use Rattle.wm_forest.specs.declared.kind.KindEdit.TheVariants as edits
+use Rattle.wm_forest.specs.Forest.{Forest, end, con}
+use Rattle.wm_forest.specs.Kinds.{changed, kind_changed}
+use Rattle.wm_forest.specs.Look.{first_kids, has, in_row, only, same}
+use Rattle.wm_tree.specs.Sound.{IsSound}
+use Rattle.wm_forest.specs.SoundRow.{roots}
+use Rattle.wm_forest.specs.Spot.{spot_in, top}
 use Rattle.wm_tree.specs.TreeValue.{TreeValue}
 use Rattle.wm_tree.specs.Words.{edited}
 

@@ -6,17 +6,17 @@ use Rattle.wm_sizes.specs.declared.deals.Deal.{Deal}
 use Rattle.wm_sizes.specs.declared.deals.Sibling.{Sibling}
 use Rattle.wm_sizes.specs.Deals.{dealt, share_after, siblings, turn_after}
 use Rattle.wm_tree.proofs.AttachLemmas.{has_row}
-use Rattle.wm_tree.proofs.ForestLemmas.{at_absent}
-use Rattle.wm_tree.proofs.RecencyLemmas.{same_is, same_self}
-use Rattle.wm_tree.specs.Change.{at}
-use Rattle.wm_tree.specs.Counts.{share_of}
-use Rattle.wm_tree.specs.declared.kind.KindEdit.TheVariants as edits
-use Rattle.wm_tree.specs.declared.part.NodeKind.{NodeKind}
-use Rattle.wm_tree.specs.declared.part.NodeKind.TheVariants.{Root, Output, Space, Con}
-use Rattle.wm_tree.specs.declared.part.Part.{Part}
-use Rattle.wm_tree.specs.Forest.{Forest, end, con}
-use Rattle.wm_tree.specs.Kinds.{changed, kind_changed}
-use Rattle.wm_tree.specs.Look.{first_kids, first_part, has, in_row, only, same}
+use Rattle.wm_forest.proofs.ForestLemmas.{at_absent}
+use Rattle.wm_forest.proofs.RecencyLemmas.{same_is, same_self}
+use Rattle.wm_forest.specs.Change.{at}
+use Rattle.wm_forest.specs.Counts.{share_of}
+use Rattle.wm_forest.specs.declared.kind.KindEdit.TheVariants as edits
+use Rattle.wm_forest.specs.declared.part.NodeKind.{NodeKind}
+use Rattle.wm_forest.specs.declared.part.NodeKind.TheVariants.{Root, Output, Space, Con}
+use Rattle.wm_forest.specs.declared.part.Part.{Part}
+use Rattle.wm_forest.specs.Forest.{Forest, end, con}
+use Rattle.wm_forest.specs.Kinds.{changed, kind_changed}
+use Rattle.wm_forest.specs.Look.{first_kids, first_part, has, in_row, only, same}
 use Rattle.wm_tree.specs.TreeValue.{is_con, is_con_kind}
 
 -- ---- siblings

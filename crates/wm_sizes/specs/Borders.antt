@@ -9,7 +9,7 @@ use Rattle.wm_base.specs.declared.plan.Border.TheVariants.{Normal, Pixel, Bare}
 use Rattle.wm_floats.specs.Windows.{state_of}
 use Rattle.wm_shared.specs.Refusing.{error_if}
 use Rattle.wm_sizes.specs.Windows.{border_set, look_refusal}
-use Rattle.wm_tree.specs.declared.part.ConState.{ConState}
+use Rattle.wm_forest.specs.declared.part.ConState.{ConState}
 use Rattle.wm_tree.specs.TreeValue.{TreeValue}
 
 -- the border is wider than 64 pixels

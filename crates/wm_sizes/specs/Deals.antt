@@ -3,9 +3,9 @@ use Rattle.std.specs.Prelude.{ℕ, ◌+◌, ◌-◌, ◌*◌, ◌/◌, ◌%◌, 
 use Rattle.wm_base.specs.declared.ids.ConId.{ConId}
 use Rattle.wm_sizes.specs.declared.deals.Deal.{Deal}
 use Rattle.wm_sizes.specs.declared.deals.Sibling.{Sibling}
-use Rattle.wm_tree.specs.Counts.{share_of}
-use Rattle.wm_tree.specs.Forest.{Forest, end, con}
-use Rattle.wm_tree.specs.Look.{same}
+use Rattle.wm_forest.specs.Counts.{share_of}
+use Rattle.wm_forest.specs.Forest.{Forest, end, con}
+use Rattle.wm_forest.specs.Look.{same}
 
 -- the amount that goes over: so many hundredths of all shares, or else the shares that so many pixels of the length have
 abbrev pub amount : ℕ → ℕ → ℕ → ℕ → ℕ

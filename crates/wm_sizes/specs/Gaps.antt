@@ -9,9 +9,9 @@ use Rattle.wm_grammar.specs.declared.arguments.GapOp.TheVariants.{Set, Plus, Min
 use Rattle.wm_shared.specs.Refusing.{error_if}
 use Rattle.wm_shared.specs.Subject.{is_hidden}
 use Rattle.wm_sizes.specs.declared.gaps.Change.{Change}
-use Rattle.wm_tree.specs.declared.kind.KindEdit.TheVariants as edits
-use Rattle.wm_tree.specs.declared.part.SpacePart.{SpacePart}
-use Rattle.wm_tree.specs.Look.{kind_of, space_kind}
+use Rattle.wm_forest.specs.declared.kind.KindEdit.TheVariants as edits
+use Rattle.wm_forest.specs.declared.part.SpacePart.{SpacePart}
+use Rattle.wm_forest.specs.Look.{kind_of, space_kind}
 use Rattle.wm_tree.specs.TreeValue.{TreeValue, workspace_of}
 use Rattle.wm_tree.specs.Words.{edited}
 

@@ -6,8 +6,8 @@ use Rattle.wm_sizes.specs.declared.climbing.Rung.{Rung}
 use Rattle.wm_sizes.specs.declared.deals.Sibling.{Sibling}
 use Rattle.wm_sizes.specs.declared.tiled.Growth.{Growth}
 use Rattle.wm_sizes.specs.Tiled.{children_of, rung_deal}
-use Rattle.wm_tree.specs.Counts.{share_sum}
-use Rattle.wm_tree.specs.Look.{same}
+use Rattle.wm_forest.specs.Counts.{share_sum}
+use Rattle.wm_forest.specs.Look.{same}
 use Rattle.wm_tree.specs.TreeValue.{TreeValue}
 
 -- the share of the node among siblings

@@ -16,12 +16,13 @@ use Rattle.wm_sizes.specs.declared.climbing.Rung.{Rung}
 use Rattle.wm_sizes.specs.declared.deals.Deal.{Deal}
 use Rattle.wm_sizes.specs.declared.deals.Sibling.{Sibling}
 use Rattle.wm_sizes.specs.declared.tiled.Growth.{Growth}
-use Rattle.wm_tree.specs.declared.kind.KindEdit.TheVariants as edits
-use Rattle.wm_tree.specs.Counts.{row_length, share_sum}
-use Rattle.wm_tree.specs.Forest.{Forest}
-use Rattle.wm_tree.specs.Look.{first_kids, has, in_row, only}
-use Rattle.wm_tree.specs.Sound.{IsSoundRow, containers}
-use Rattle.wm_tree.specs.TreeValue.{TreeValue, tiled_kids}
+use Rattle.wm_forest.specs.declared.kind.KindEdit.TheVariants as edits
+use Rattle.wm_forest.specs.Counts.{row_length, share_sum}
+use Rattle.wm_forest.specs.Forest.{Forest}
+use Rattle.wm_forest.specs.Look.{first_kids, has, in_row, only}
+use Rattle.wm_forest.specs.SoundRow.{IsSoundRow, containers}
+use Rattle.wm_tree.specs.TreeValue.{TreeValue}
+use Rattle.wm_forest.specs.Focus.{tiled_kids}
 use Rattle.wm_tree.specs.Words.{edited}
 
 -- the children of the node p

@@ -8,7 +8,7 @@ use Rattle.wm_base.specs.declared.plan.Border.{Border}
 use Rattle.wm_floats.specs.Windows.{natural_of, restated, state_of}
 use Rattle.wm_shared.specs.Refusing.{error_if}
 use Rattle.wm_shared.specs.Subject.{is_space}
-use Rattle.wm_tree.specs.declared.part.ConState.{ConState}
+use Rattle.wm_forest.specs.declared.part.ConState.{ConState}
 use Rattle.wm_tree.specs.TreeValue.{TreeValue}
 
 -- neither a workspace nor a split or placeholder is a window; one of the scratchpad is one too

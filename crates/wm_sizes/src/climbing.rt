@@ -1,6 +1,6 @@
 //! Climbing from a container to the nearest node above it whose children stand along an axis.
 ghost use Rattle.std.specs.Prelude.{◌≡◌, true, false, MatchOption};
-ghost use Rattle.wm_tree.specs.Look.{first_kids, has, only};
+ghost use Rattle.wm_forest.specs.Look.{first_kids, has, only};
 ghost use Rattle.wm_sizes.specs.Climbing.{climb, has_two, rung_at, rung_of, runs, runs_con, side_axis};
 
 use wm_base::{Axis, ConId, Dir};

@@ -1,7 +1,7 @@
 //! What the children of a container give to one of them, and what it gives to them.
 ghost use Rattle.std.specs.Prelude.{◌≡◌, ◌≤◌, ◌+◌};
 ghost use Rattle.wm_sizes.specs.Deals.{amount, fits, fits_all, gained, gives, is_partner, part, share_after, siblings, turn_after};
-ghost use Rattle.wm_tree.specs.Counts.{row_length};
+ghost use Rattle.wm_forest.specs.Counts.{row_length};
 
 use wm_base::ConId;
 use wm_tree::{Cursor, NodeKind};

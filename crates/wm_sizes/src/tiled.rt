@@ -5,8 +5,8 @@ ghost use Rattle.wm_sizes.specs.Deals.{dealt, fits_all, siblings};
 ghost use Rattle.wm_sizes.specs.Climbing.{rung_of, side_axis};
 ghost use Rattle.wm_sizes.specs.Laws.{IsSharedAnew, SharesAnew};
 ghost use Rattle.wm_sizes.specs.Tiled.{IsFamily, IsReady, HasFamily, cannot, children_of, deal_of, lacks, length_of, nth_sibling, partner_of, partners_of, rung_refusal, rung_tree, shares_set, tiled_refusal, tiled_tree};
-ghost use Rattle.wm_tree.specs.Counts.{row_length};
-ghost use Rattle.wm_tree.specs.Look.{has, first_kids, only};
+ghost use Rattle.wm_forest.specs.Counts.{row_length};
+ghost use Rattle.wm_forest.specs.Look.{has, first_kids, only};
 ghost use Rattle.wm_tree.specs.Sound.{IsSound};
 
 use crate::climbing::{Rung, kids_in, rung_of, side_axis};

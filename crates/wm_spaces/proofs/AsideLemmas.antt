@@ -3,22 +3,23 @@ use Rattle.std.proofs.Common.{◌≡◌, ℕ, ◌+◌, ◌≤◌, Bool, true, fa
 use Rattle.wm_base.specs.declared.ids.ConId.{ConId}
 use Rattle.wm_shared.proofs.StandingLemmas.{stands_has, stands_on, of_output}
 use Rattle.wm_tree.proofs.AttachLemmas.{has_row}
-use Rattle.wm_tree.proofs.CountLemmas.{counted}
+use Rattle.wm_forest.proofs.CountLemmas.{counted}
 use Rattle.wm_tree.proofs.FocusLemmas.{outputs_of}
-use Rattle.wm_tree.proofs.OnceLemmas.{at_kids, only_kids}
+use Rattle.wm_forest.proofs.OnceLemmas.{at_kids, only_kids}
 use Rattle.wm_tree.proofs.OutputRows.{by_row}
-use Rattle.wm_tree.proofs.RecencyLemmas.{same_is}
-use Rattle.wm_tree.specs.declared.kind.KindEdit.TheVariants as edits
-use Rattle.wm_tree.specs.declared.part.NodeKind.{NodeKind}
-use Rattle.wm_tree.specs.declared.part.NodeKind.TheVariants.{Root, Output, Space, Con}
-use Rattle.wm_tree.specs.Change.{at, is_id, shown_of}
-use Rattle.wm_tree.specs.Counts.{count}
-use Rattle.wm_tree.specs.Forest.{Forest, end, con}
-use Rattle.wm_tree.specs.Kinds.{changed, kind_changed}
-use Rattle.wm_tree.specs.Look.{first_kids, first_part, in_row, kind_by, node_in, only, same}
+use Rattle.wm_forest.proofs.RecencyLemmas.{same_is}
+use Rattle.wm_forest.specs.declared.kind.KindEdit.TheVariants as edits
+use Rattle.wm_forest.specs.declared.part.NodeKind.{NodeKind}
+use Rattle.wm_forest.specs.declared.part.NodeKind.TheVariants.{Root, Output, Space, Con}
+use Rattle.wm_forest.specs.Change.{at, is_id, shown_of}
+use Rattle.wm_forest.specs.Counts.{count}
+use Rattle.wm_forest.specs.Forest.{Forest, end, con}
+use Rattle.wm_forest.specs.Kinds.{changed, kind_changed}
+use Rattle.wm_forest.specs.Look.{first_kids, first_part, in_row, kind_by, node_in, only, same}
 use Rattle.wm_tree.specs.Outputs.{IsNotShown, IsOutput, shows}
-use Rattle.wm_tree.specs.Sound.{Level, roots, outputs, spaces, containers, below, IsNode, IsSound, IsSoundRow, tally}
-use Rattle.wm_tree.specs.Spot.{room_below}
+use Rattle.wm_forest.specs.SoundRow.{Level, roots, outputs, spaces, containers, below, IsNode, IsSoundRow, tally}
+use Rattle.wm_tree.specs.Sound.{IsSound}
+use Rattle.wm_forest.specs.Spot.{room_below}
 use Rattle.wm_tree.specs.TreeValue.{TreeValue}
 
 -- ---- how many outputs show a workspace

@@ -8,11 +8,12 @@ use Rattle.wm_spaces.specs.Coming.{free_from, left_output}
 use Rattle.wm_spaces.specs.Names.{output_called, output_in_row, output_named, space_named}
 use Rattle.wm_tree.proofs.OutputLemmas.{yields}
 use Rattle.wm_tree.proofs.OutputRows.{but_only, first_there}
-use Rattle.wm_tree.proofs.RecencyLemmas.{same_self}
-use Rattle.wm_tree.specs.Counts.{but}
-use Rattle.wm_tree.specs.Forest.{Forest, end, con}
-use Rattle.wm_tree.specs.Look.{first_kids, in_row, output_kind, same}
-use Rattle.wm_tree.specs.Outputs.{IsOutput, heir}
+use Rattle.wm_forest.proofs.RecencyLemmas.{same_self}
+use Rattle.wm_forest.specs.Counts.{but}
+use Rattle.wm_forest.specs.Forest.{Forest, end, con}
+use Rattle.wm_forest.specs.Look.{first_kids, in_row, output_kind, same}
+use Rattle.wm_tree.specs.Outputs.{IsOutput}
+use Rattle.wm_forest.specs.Taking.{heir}
 use Rattle.wm_tree.specs.Sound.{IsSound}
 use Rattle.wm_tree.specs.TreeValue.{TreeValue, current, shown}
 

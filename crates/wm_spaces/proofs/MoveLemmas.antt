@@ -12,25 +12,27 @@ use Rattle.wm_shared.proofs.StandingLemmas.{of_output, stands_has, stands_space}
 use Rattle.wm_spaces.specs.Moving.{IsFree, aside_refusal, other_refusal, other_space, set_aside, showing_other}
 use Rattle.wm_spaces.specs.Targets.{spaces_of}
 use Rattle.wm_tree.proofs.AttachLemmas.{has_row}
-use Rattle.wm_tree.proofs.CountLemmas.{counted, count-without}
+use Rattle.wm_forest.proofs.CountLemmas.{counted, count-without}
 use Rattle.wm_tree.proofs.FocusLemmas.{has_kids}
-use Rattle.wm_tree.proofs.OnceLemmas.{at_kids}
+use Rattle.wm_forest.proofs.OnceLemmas.{at_kids}
 use Rattle.wm_tree.proofs.OutputRows.{by_row, in_row-append, in_row-last}
-use Rattle.wm_tree.proofs.RecencyLemmas.{same_is, same_self}
+use Rattle.wm_forest.proofs.RecencyLemmas.{same_is, same_self}
 use Rattle.wm_tree.proofs.SoundLemmas.{sound-shown}
 use Rattle.wm_tree.proofs.AlongLemmas.{space_there}
 use Rattle.wm_tree.proofs.SpaceLemmas.{sound-space_moved}
 use Rattle.wm_tree.proofs.SpaceRows.{sound-left}
-use Rattle.wm_tree.specs.Change.{at, is_id, without}
-use Rattle.wm_tree.specs.declared.kind.KindEdit.TheVariants as edits
-use Rattle.wm_tree.specs.declared.place.Place.TheVariants.{Last}
-use Rattle.wm_tree.specs.Forest.{Forest, end, con}
-use Rattle.wm_tree.specs.Look.{first_kids, has, in_row, node_in, only, same}
+use Rattle.wm_forest.specs.Change.{at, is_id, without}
+use Rattle.wm_forest.specs.declared.kind.KindEdit.TheVariants as edits
+use Rattle.wm_forest.specs.declared.place.Place.TheVariants.{Last}
+use Rattle.wm_forest.specs.Forest.{Forest, end, con}
+use Rattle.wm_forest.specs.Look.{first_kids, has, in_row, node_in, only, same}
 use Rattle.wm_tree.specs.Outputs.{IsNotShown, IsOutput, IsSpaceMove, new_space, space_moved, with_space}
-use Rattle.wm_tree.specs.Place.{put, put_word}
+use Rattle.wm_forest.specs.Place.{put, put_word}
 use Rattle.wm_tree.specs.Sets.{shown_by, with_shown}
-use Rattle.wm_tree.specs.Sound.{IsSound, one_of, tally}
-use Rattle.wm_tree.specs.TreeValue.{TreeValue, id, parent}
+use Rattle.wm_tree.specs.Sound.{IsSound}
+use Rattle.wm_forest.specs.SoundRow.{one_of, tally}
+use Rattle.wm_tree.specs.TreeValue.{TreeValue, parent}
+use Rattle.wm_forest.specs.RootId.{id}
 use Rattle.wm_tree.specs.Words.{edited}
 
 -- the workspace w stands on the output o

@@ -14,9 +14,9 @@ use Rattle.wm_shared.specs.Outputs.{keys_beyond, nearest_to, output_from, output
 use Rattle.wm_spaces.proofs.ComingLemmas.{named_output}
 use Rattle.wm_spaces.specs.Outs.{next_in, output_at}
 use Rattle.wm_tree.proofs.OutputRows.{first_there}
-use Rattle.wm_tree.specs.declared.part.OutputPart.{OutputPart}
-use Rattle.wm_tree.specs.Forest.{Forest, end, con}
-use Rattle.wm_tree.specs.Look.{first_kids, in_row, kind_of, node_in, nth_id, output_kind, rest_of, same}
+use Rattle.wm_forest.specs.declared.part.OutputPart.{OutputPart}
+use Rattle.wm_forest.specs.Forest.{Forest, end, con}
+use Rattle.wm_forest.specs.Look.{first_kids, in_row, kind_of, node_in, nth_id, output_kind, rest_of, same}
 use Rattle.wm_tree.specs.Outputs.{IsOutput}
 use Rattle.wm_tree.specs.Sound.{IsSound}
 use Rattle.wm_tree.specs.TreeValue.{TreeValue, parent, workspace_of}

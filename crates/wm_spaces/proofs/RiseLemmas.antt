@@ -14,14 +14,16 @@ use Rattle.wm_spaces.specs.Sending.{goal_sent, sent, sent_new, sent_place, sent_
 use Rattle.wm_spaces.specs.Shows.{goal_shown, showing_new, then_shown}
 use Rattle.wm_spaces.specs.Targets.{home}
 use Rattle.wm_tree.proofs.IdLemmas.{ids_edited, ids_moved, ids_refl, ids_space_moved, ids_trans, ids_with_output, ids_with_space, ids_without_output}
-use Rattle.wm_tree.specs.declared.kind.KindEdit.TheVariants as edits
+use Rattle.wm_forest.specs.declared.kind.KindEdit.TheVariants as edits
 use Rattle.wm_tree.specs.Ids.{IdsRise}
-use Rattle.wm_tree.specs.Look.{same}
+use Rattle.wm_forest.specs.Look.{same}
 use Rattle.wm_tree.specs.Move.{apart, moved}
-use Rattle.wm_tree.specs.Change.{is_id}
-use Rattle.wm_tree.specs.Outputs.{heir, space_moved, with_space, without_output}
+use Rattle.wm_forest.specs.Change.{is_id}
+use Rattle.wm_forest.specs.Taking.{heir}
+use Rattle.wm_tree.specs.Outputs.{space_moved, with_space, without_output}
 use Rattle.wm_tree.specs.Sets.{shown_by, with_shown}
-use Rattle.wm_tree.specs.TreeValue.{TreeValue, current, id, parent, root, shown}
+use Rattle.wm_tree.specs.TreeValue.{TreeValue, current, parent, shown}
+use Rattle.wm_forest.specs.RootId.{id, root}
 
 ids_new : (o : ConId) (n : List ℕ) (t : TreeValue) → IdsRise t (showing_new o n t)
 ids_new o n t =

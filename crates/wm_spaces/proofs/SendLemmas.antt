@@ -13,25 +13,26 @@ use Rattle.wm_shared.proofs.StandingLemmas.{stands_space}
 use Rattle.wm_spaces.specs.Sending.{sent_place, sent_refusal, shifted}
 use Rattle.wm_shared.specs.Rects.{output_part_of, rect_of}
 use Rattle.wm_tree.proofs.AlongLemmas.{space_there}
-use Rattle.wm_tree.proofs.ForestLemmas.{first_held_end, only_absent}
+use Rattle.wm_forest.proofs.ForestLemmas.{first_held_end, only_absent}
 use Rattle.wm_tree.proofs.LeafLaws.{first_there}
-use Rattle.wm_tree.proofs.OnceLemmas.{in_kids, in_rest}
+use Rattle.wm_forest.proofs.OnceLemmas.{in_kids, in_rest}
 use Rattle.wm_tree.proofs.PlaceLemmas.{after_fits}
-use Rattle.wm_tree.proofs.RecencyLemmas.{same_self}
-use Rattle.wm_tree.specs.declared.part.NodeKind.{NodeKind}
-use Rattle.wm_tree.specs.declared.part.NodeKind.TheVariants.{Root, Output, Space, Con}
-use Rattle.wm_tree.specs.declared.part.Part.{Part}
-use Rattle.wm_tree.specs.declared.place.Place.{Place}
-use Rattle.wm_tree.specs.declared.place.Place.TheVariants.{After, Last, Float}
-use Rattle.wm_tree.specs.declared.place.TreeRefusal.{TreeRefusal}
-use Rattle.wm_tree.specs.declared.place.TreeRefusal.TheVariants as refusals
-use Rattle.wm_tree.specs.Forest.{Forest, end, con}
-use Rattle.wm_tree.specs.Look.{con_kind, first_kids, first_part, has, in_row, kind_by, kind_of, only, same, space_kind}
+use Rattle.wm_forest.proofs.RecencyLemmas.{same_self}
+use Rattle.wm_forest.specs.declared.part.NodeKind.{NodeKind}
+use Rattle.wm_forest.specs.declared.part.NodeKind.TheVariants.{Root, Output, Space, Con}
+use Rattle.wm_forest.specs.declared.part.Part.{Part}
+use Rattle.wm_forest.specs.declared.place.Place.{Place}
+use Rattle.wm_forest.specs.declared.place.Place.TheVariants.{After, Last, Float}
+use Rattle.wm_tree.specs.declared.refusal.TreeRefusal.{TreeRefusal}
+use Rattle.wm_tree.specs.declared.refusal.TreeRefusal.TheVariants as refusals
+use Rattle.wm_forest.specs.Forest.{Forest, end, con}
+use Rattle.wm_forest.specs.Look.{con_kind, first_kids, first_part, has, in_row, kind_by, kind_of, only, same, space_kind}
 use Rattle.wm_tree.specs.Move.{IsMove, IsMoveCause, apart, passed_by_move, same_space}
-use Rattle.wm_tree.specs.Place.{IsPlace, TakesFirst, TakesKids, named}
-use Rattle.wm_tree.specs.Recency.{first_held}
+use Rattle.wm_forest.specs.Place.{IsPlace, TakesFirst, TakesKids, named}
+use Rattle.wm_forest.specs.Recency.{first_held}
 use Rattle.wm_tree.specs.Sound.{IsSound}
-use Rattle.wm_tree.specs.TreeValue.{TreeValue, follow, is_tiled_con, leaf, leaf_at, leaf_of, or_id, tiled_by, workspace_of}
+use Rattle.wm_tree.specs.TreeValue.{TreeValue, is_tiled_con, leaf, or_id, workspace_of}
+use Rattle.wm_forest.specs.Focus.{follow, leaf_at, leaf_of, tiled_by}
 
 -- ---- the leaf is below its node
 

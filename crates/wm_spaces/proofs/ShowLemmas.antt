@@ -7,12 +7,13 @@ use Rattle.wm_shared.specs.Refusing.{IsCause, full_error, refusal_by}
 use Rattle.wm_shared.specs.Subject.{is_space}
 use Rattle.wm_spaces.proofs.StandLemmas.{new_stands}
 use Rattle.wm_shared.proofs.StandingLemmas.{stands_space}
-use Rattle.wm_tree.specs.declared.place.TreeRefusal.{TreeRefusal}
-use Rattle.wm_tree.specs.declared.place.TreeRefusal.TheVariants as refusals
-use Rattle.wm_tree.specs.Look.{has}
+use Rattle.wm_tree.specs.declared.refusal.TreeRefusal.{TreeRefusal}
+use Rattle.wm_tree.specs.declared.refusal.TreeRefusal.TheVariants as refusals
+use Rattle.wm_forest.specs.Look.{has}
 use Rattle.wm_tree.specs.Outputs.{IsOutput, IsSpaceCause, passed_by_space, with_space}
 use Rattle.wm_tree.specs.Sound.{IsSound}
-use Rattle.wm_tree.specs.TreeValue.{TreeValue, id}
+use Rattle.wm_tree.specs.TreeValue.{TreeValue}
+use Rattle.wm_forest.specs.RootId.{id}
 
 -- a new workspace is one
 pub new_is : (o w : ConId) (n : List ℕ) (t new : TreeValue) → new ≡ with_space o n t → w ≡ id t.next_id → IsSound new → IsSound t → IsOutput o t.nodes → is_space new w ≡ true

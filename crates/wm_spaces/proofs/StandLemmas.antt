@@ -22,22 +22,24 @@ use Rattle.wm_spaces.proofs.ComingLemmas.{named_output}
 use Rattle.wm_spaces.proofs.OrderLemmas.{best_step}
 use Rattle.wm_tree.proofs.AttachLemmas.{has_row}
 use Rattle.wm_tree.proofs.FocusLemmas.{current_there, outputs_of}
-use Rattle.wm_tree.proofs.OnceLemmas.{at_kids, in_kids, in_rest, only_kids, only_rest}
+use Rattle.wm_forest.proofs.OnceLemmas.{at_kids, in_kids, in_rest, only_kids, only_rest}
 use Rattle.wm_tree.proofs.OutputRows.{by_row, in_row-last}
-use Rattle.wm_tree.proofs.RecencyLemmas.{same_self}
-use Rattle.wm_tree.specs.declared.part.NodeKind.{NodeKind}
-use Rattle.wm_tree.specs.declared.part.NodeKind.TheVariants.{Root, Output, Space, Con}
-use Rattle.wm_tree.specs.declared.part.Part.{Part}
-use Rattle.wm_tree.specs.declared.part.SpacePart.{SpacePart}
-use Rattle.wm_tree.specs.declared.place.Place.TheVariants.{Last}
-use Rattle.wm_tree.specs.Change.{at, shown_of}
-use Rattle.wm_tree.specs.Forest.{Forest, end, con}
-use Rattle.wm_tree.specs.Look.{first_kids, first_part, has, in_row, kind_by, node_in, only, same, space_kind}
+use Rattle.wm_forest.proofs.RecencyLemmas.{same_self}
+use Rattle.wm_forest.specs.declared.part.NodeKind.{NodeKind}
+use Rattle.wm_forest.specs.declared.part.NodeKind.TheVariants.{Root, Output, Space, Con}
+use Rattle.wm_forest.specs.declared.part.Part.{Part}
+use Rattle.wm_forest.specs.declared.part.SpacePart.{SpacePart}
+use Rattle.wm_forest.specs.declared.place.Place.TheVariants.{Last}
+use Rattle.wm_forest.specs.Change.{at, shown_of}
+use Rattle.wm_forest.specs.Forest.{Forest, end, con}
+use Rattle.wm_forest.specs.Look.{first_kids, first_part, has, in_row, kind_by, node_in, only, same, space_kind}
 use Rattle.wm_tree.specs.Outputs.{IsOutput, new_space, with_space}
-use Rattle.wm_tree.specs.Place.{put, put_word}
-use Rattle.wm_tree.specs.Sound.{IsNode, IsSound, IsSoundRow, outputs, roots, spaces, tally}
-use Rattle.wm_tree.specs.Spot.{room_below}
-use Rattle.wm_tree.specs.TreeValue.{TreeValue, current, id, or_id, shown}
+use Rattle.wm_forest.specs.Place.{put, put_word}
+use Rattle.wm_forest.specs.SoundRow.{IsNode, IsSoundRow, outputs, roots, spaces, tally}
+use Rattle.wm_tree.specs.Sound.{IsSound}
+use Rattle.wm_forest.specs.Spot.{room_below}
+use Rattle.wm_tree.specs.TreeValue.{TreeValue, current, or_id, shown}
+use Rattle.wm_forest.specs.RootId.{id}
 
 -- ---- what is found
 

@@ -9,8 +9,9 @@ use Rattle.wm_base.specs.declared.plan.OutputPlan.{OutputPlan}
 use Rattle.wm_shared.specs.Refusing.{full_error}
 use Rattle.wm_shared.specs.Showing.{output_focused}
 use Rattle.wm_spaces.specs.Names.{output_named, space_named}
-use Rattle.wm_tree.specs.Look.{same}
-use Rattle.wm_tree.specs.Outputs.{heir, passed_by_output, with_output, without_output}
+use Rattle.wm_forest.specs.Look.{same}
+use Rattle.wm_forest.specs.Taking.{heir}
+use Rattle.wm_tree.specs.Outputs.{passed_by_output, with_output, without_output}
 use Rattle.wm_tree.specs.TreeValue.{TreeValue, current}
 
 -- the least number from k on, and below k + n, that is no workspace's name; k + n where each is one's

@@ -11,12 +11,13 @@ use Rattle.wm_spaces.specs.Coming.{free_name}
 use Rattle.wm_spaces.specs.Order.{best_with, keys_in}
 use Rattle.wm_spaces.specs.Shows.{then_shown}
 use Rattle.wm_spaces.specs.Targets.{spaces_of}
-use Rattle.wm_tree.specs.Change.{is_id}
-use Rattle.wm_tree.specs.Look.{same}
+use Rattle.wm_forest.specs.Change.{is_id}
+use Rattle.wm_forest.specs.Look.{same}
 use Rattle.wm_tree.specs.Outputs.{IsNotShown, IsOutput, passed_by_space, space_moved, with_space}
 use Rattle.wm_tree.specs.Sets.{with_shown}
 use Rattle.wm_tree.specs.Sound.{IsSound}
-use Rattle.wm_tree.specs.TreeValue.{TreeValue, id, parent}
+use Rattle.wm_tree.specs.TreeValue.{TreeValue, parent}
+use Rattle.wm_forest.specs.RootId.{id}
 
 -- the first of the output's other workspaces
 abbrev pub other_space : ConId → ConId → TreeValue → Option Key

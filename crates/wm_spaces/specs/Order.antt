@@ -5,9 +5,9 @@ use Rattle.wm_shared.specs.declared.keys.Key.{Key}
 use Rattle.wm_shared.specs.Keys.{comes_before, lesser, with_key}
 use Rattle.wm_spaces.specs.declared.order.Pick.{Pick}
 use Rattle.wm_spaces.specs.declared.order.Pick.TheVariants as picking
-use Rattle.wm_tree.specs.declared.part.SpacePart.{SpacePart}
-use Rattle.wm_tree.specs.Forest.{Forest, end, con}
-use Rattle.wm_tree.specs.Look.{same, space_kind}
+use Rattle.wm_forest.specs.declared.part.SpacePart.{SpacePart}
+use Rattle.wm_forest.specs.Forest.{Forest, end, con}
+use Rattle.wm_forest.specs.Look.{same, space_kind}
 
 -- ---- the number of a name
 

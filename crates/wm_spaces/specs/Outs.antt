@@ -6,8 +6,8 @@ use Rattle.wm_grammar.specs.declared.arguments.OutArg.{OutArg}
 use Rattle.wm_grammar.specs.declared.arguments.OutArg.TheVariants as outs
 use Rattle.wm_shared.specs.Outputs.{output_from, output_of}
 use Rattle.wm_spaces.specs.Names.{output_named}
-use Rattle.wm_tree.specs.Forest.{Forest}
-use Rattle.wm_tree.specs.Look.{first_kids, node_in, nth_id, rest_of}
+use Rattle.wm_forest.specs.Forest.{Forest}
+use Rattle.wm_forest.specs.Look.{first_kids, node_in, nth_id, rest_of}
 use Rattle.wm_tree.specs.TreeValue.{TreeValue}
 
 -- the node of a row after c, the first after the last

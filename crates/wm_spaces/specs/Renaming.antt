@@ -6,7 +6,7 @@ use Rattle.wm_base.specs.declared.errors.Refusal.TheVariants.{NameTaken, NoTarge
 use Rattle.wm_base.specs.declared.ids.ConId.{ConId}
 use Rattle.wm_shared.specs.Refusing.{error_if}
 use Rattle.wm_spaces.specs.Names.{is_reserved, other_has, space_named}
-use Rattle.wm_tree.specs.declared.kind.KindEdit.TheVariants as edits
+use Rattle.wm_forest.specs.declared.kind.KindEdit.TheVariants as edits
 use Rattle.wm_tree.specs.TreeValue.{TreeValue, shown}
 use Rattle.wm_tree.specs.Words.{edited}
 

@@ -14,12 +14,13 @@ use Rattle.wm_shared.specs.Subject.{is_hidden, is_space}
 use Rattle.wm_spaces.specs.declared.targets.Goal.{Goal}
 use Rattle.wm_spaces.specs.declared.targets.Goal.TheVariants.{There, Absent, Refused}
 use Rattle.wm_spaces.specs.Targets.{goal_of, home}
-use Rattle.wm_tree.specs.declared.part.OutputPart.{OutputPart}
-use Rattle.wm_tree.specs.declared.place.Place.{Place}
-use Rattle.wm_tree.specs.declared.place.Place.TheVariants.{After, Last, Float}
+use Rattle.wm_forest.specs.declared.part.OutputPart.{OutputPart}
+use Rattle.wm_forest.specs.declared.place.Place.{Place}
+use Rattle.wm_forest.specs.declared.place.Place.TheVariants.{After, Last, Float}
 use Rattle.wm_tree.specs.Move.{apart, moved, passed_by_move}
 use Rattle.wm_tree.specs.Outputs.{passed_by_space, with_space}
-use Rattle.wm_tree.specs.TreeValue.{TreeValue, id, is_tiled_con, leaf, or_id}
+use Rattle.wm_tree.specs.TreeValue.{TreeValue, is_tiled_con, leaf, or_id}
+use Rattle.wm_forest.specs.RootId.{id}
 
 -- ---- rectangles
 

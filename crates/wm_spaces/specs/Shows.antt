@@ -10,7 +10,8 @@ use Rattle.wm_spaces.specs.declared.targets.Goal.{Goal}
 use Rattle.wm_spaces.specs.declared.targets.Goal.TheVariants.{There, Absent, Refused}
 use Rattle.wm_spaces.specs.Targets.{goal_of, home}
 use Rattle.wm_tree.specs.Outputs.{passed_by_space, with_space}
-use Rattle.wm_tree.specs.TreeValue.{TreeValue, id, parent}
+use Rattle.wm_tree.specs.TreeValue.{TreeValue, parent}
+use Rattle.wm_forest.specs.RootId.{id}
 
 -- the tree `new`, which has the workspace w, shows it; the name of the workspace that was focused is kept
 abbrev pub then_shown : ConId → TreeValue → TreeValue → TreeValue

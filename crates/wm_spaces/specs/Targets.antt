@@ -14,9 +14,9 @@ use Rattle.wm_spaces.specs.declared.targets.Goal.{Goal}
 use Rattle.wm_spaces.specs.declared.targets.Goal.TheVariants.{There, Absent, Refused}
 use Rattle.wm_spaces.specs.Names.{is_reserved, output_named, space_named}
 use Rattle.wm_spaces.specs.Order.{best_on, best_with, keys_in, num, space_key}
-use Rattle.wm_tree.specs.declared.part.SpacePart.{SpacePart}
-use Rattle.wm_tree.specs.Forest.{Forest}
-use Rattle.wm_tree.specs.Look.{first_kids, kind_of, node_in, space_kind}
+use Rattle.wm_forest.specs.declared.part.SpacePart.{SpacePart}
+use Rattle.wm_forest.specs.Forest.{Forest}
+use Rattle.wm_forest.specs.Look.{first_kids, kind_of, node_in, space_kind}
 use Rattle.wm_tree.specs.TreeValue.{TreeValue, current, or_id, shown}
 
 -- ---- the output of a new workspace

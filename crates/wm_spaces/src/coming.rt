@@ -5,10 +5,12 @@ ghost use Rattle.wm_base.specs.declared.errors.Refusal.TheVariants as refusals;
 ghost use Rattle.wm_shared.specs.Refusing.{IsCause};
 ghost use Rattle.wm_shared.specs.Showing.{output_focused};
 ghost use Rattle.wm_spaces.specs.Coming.{free_from, free_name, left_output, output_added_refusal, output_added_tree, output_gone, output_removed_refusal, output_removed_tree};
-ghost use Rattle.wm_tree.specs.Counts.{but};
-ghost use Rattle.wm_tree.specs.Look.{nth_id};
-ghost use Rattle.wm_tree.specs.Outputs.{IsOutput, heir, without_output};
-ghost use Rattle.wm_tree.specs.Sound.{IsOutputRect, IsSound};
+ghost use Rattle.wm_forest.specs.Counts.{but};
+ghost use Rattle.wm_forest.specs.Look.{nth_id};
+ghost use Rattle.wm_tree.specs.Outputs.{IsOutput, without_output};
+ghost use Rattle.wm_forest.specs.Taking.{heir};
+ghost use Rattle.wm_forest.specs.SoundRow.{IsOutputRect};
+ghost use Rattle.wm_tree.specs.Sound.{IsSound};
 
 use crate::names::{output_named, space_named};
 use std::alloc::Global;

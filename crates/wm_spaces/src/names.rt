@@ -1,7 +1,7 @@
 //! Outputs and workspaces by their names.
 ghost use Rattle.std.specs.Prelude.{◌≡◌};
 ghost use Rattle.wm_spaces.specs.Names.{is_reserved, other_has, other_in_row, other_on, output_called, output_in_row, output_named, space_called, space_in_row, space_named, space_on};
-ghost use Rattle.wm_tree.specs.Look.{output_kind, space_kind};
+ghost use Rattle.wm_forest.specs.Look.{output_kind, space_kind};
 
 use wm_base::ConId;
 use wm_tree::{Cursor, NodeKind, Tree};

@@ -2,7 +2,7 @@
 ghost use Rattle.std.specs.Prelude.{◌≡◌};
 ghost use Rattle.wm_shared.specs.Keys.{comes_before};
 ghost use Rattle.wm_spaces.specs.Order.{best_on, best_with, better, greater, is_digit, key_if, keys_in, num, number_on, picks, place_of, small, space_key};
-ghost use Rattle.wm_tree.specs.Look.{space_kind};
+ghost use Rattle.wm_forest.specs.Look.{space_kind};
 
 use wm_base::ConId;
 use wm_shared::{Key, lesser};

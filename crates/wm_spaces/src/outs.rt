@@ -1,7 +1,7 @@
 //! The output that a command names.
 ghost use Rattle.std.specs.Prelude.{◌≡◌, IfSome};
 ghost use Rattle.wm_spaces.specs.Outs.{next_in, output_at};
-ghost use Rattle.wm_tree.specs.Look.{first_kids, node_in, nth_id, rest_of};
+ghost use Rattle.wm_forest.specs.Look.{first_kids, node_in, nth_id, rest_of};
 ghost use Rattle.wm_tree.specs.Outputs.{IsOutput};
 ghost use Rattle.wm_tree.specs.Sound.{IsSound};
 

@@ -5,29 +5,31 @@ use Rattle.wm_base.specs.declared.errors.Limit.TheVariants.{Containers, Children
 use Rattle.wm_base.specs.declared.geometry.Rect.{Rect}
 use Rattle.wm_base.specs.declared.ids.ConId.{ConId}
 use Rattle.wm_base.specs.declared.plan.Border.{Border}
-use Rattle.wm_tree.specs.declared.part.Part.{Part}
-use Rattle.wm_tree.specs.declared.part.NodeKind.{NodeKind}
-use Rattle.wm_tree.specs.declared.part.NodeKind.TheVariants.{Root, Output, Space, Con}
-use Rattle.wm_tree.specs.declared.place.Place.{Place}
-use Rattle.wm_tree.specs.declared.place.Place.TheVariants.{After, Before, First, Last, Float, Scratchpad}
-use Rattle.wm_tree.specs.declared.place.NewCon.{NewCon}
-use Rattle.wm_tree.specs.declared.place.NewCon.TheVariants as new
-use Rattle.wm_tree.specs.declared.spot.Spot.{Spot}
-use Rattle.wm_tree.specs.Forest.{Forest, end, con}
-use Rattle.wm_tree.specs.Change.{nobody}
-use Rattle.wm_tree.specs.Counts.{con_of, con_count, count, marks_of, newcomer_share, row_length, row_with, space_count, space_of}
-use Rattle.wm_tree.specs.Look.{first_kids, first_part, has, in_row, kind_by, only, same, space_kind}
-use Rattle.wm_tree.specs.Place.{IsPlace, TakesFirst, is_tiled, named, new_kind, new_part, passed_limit, put, rect_at, room_at, room_by, room_under, row_room, share_at, siblings, tiles}
-use Rattle.wm_tree.specs.Sound.{HasKids, HasShare, IsNode, IsSound, IsSoundRow, containers, one_of, rank_of, roots, tally}
-use Rattle.wm_tree.specs.Spot.{room_below, spot_in, top}
-use Rattle.wm_tree.specs.TreeValue.{TreeValue, id, root}
+use Rattle.wm_forest.specs.declared.part.Part.{Part}
+use Rattle.wm_forest.specs.declared.part.NodeKind.{NodeKind}
+use Rattle.wm_forest.specs.declared.part.NodeKind.TheVariants.{Root, Output, Space, Con}
+use Rattle.wm_forest.specs.declared.place.Place.{Place}
+use Rattle.wm_forest.specs.declared.place.Place.TheVariants.{After, Before, First, Last, Float, Scratchpad}
+use Rattle.wm_forest.specs.declared.place.NewCon.{NewCon}
+use Rattle.wm_forest.specs.declared.place.NewCon.TheVariants as new
+use Rattle.wm_forest.specs.declared.spot.Spot.{Spot}
+use Rattle.wm_forest.specs.Forest.{Forest, end, con}
+use Rattle.wm_forest.specs.Change.{nobody}
+use Rattle.wm_forest.specs.Counts.{con_of, con_count, count, marks_of, newcomer_share, row_length, row_with, space_count, space_of}
+use Rattle.wm_forest.specs.Look.{first_kids, first_part, has, in_row, kind_by, only, same, space_kind}
+use Rattle.wm_forest.specs.Place.{IsPlace, TakesFirst, is_tiled, named, new_kind, new_part, passed_limit, put, rect_at, room_at, room_by, room_under, row_room, share_at, siblings, tiles}
+use Rattle.wm_forest.specs.SoundRow.{HasKids, HasShare, IsNode, IsSoundRow, containers, one_of, rank_of, roots, tally}
+use Rattle.wm_tree.specs.Sound.{IsSound}
+use Rattle.wm_forest.specs.Spot.{room_below, spot_in, top}
+use Rattle.wm_tree.specs.TreeValue.{TreeValue}
+use Rattle.wm_forest.specs.RootId.{id, root}
 use Rattle.wm_tree.specs.Words.{attached}
-use Rattle.wm_tree.proofs.CountLemmas.{count-put, counted, there}
-use Rattle.wm_tree.proofs.PutLemmas.{Above, Beside, IsConFirst, Under, sound-put_after, sound-put_before, sound-put_first, sound-put_float, sound-put_last}
-use Rattle.wm_tree.proofs.RecencyLemmas.{same_self}
-use Rattle.wm_tree.proofs.RowLemmas.{KeepsRow}
-use Rattle.wm_tree.proofs.StandLemmas.{HasSpot, SoundKids, SoundStanding, has_spot, mean_bounds, stands}
-use Rattle.wm_tree.proofs.TimesLemmas.{times-append}
+use Rattle.wm_forest.proofs.CountLemmas.{count-put, counted, there}
+use Rattle.wm_forest.proofs.PutLemmas.{Above, Beside, IsConFirst, Under, sound-put_after, sound-put_before, sound-put_first, sound-put_float, sound-put_last}
+use Rattle.wm_forest.proofs.RecencyLemmas.{same_self}
+use Rattle.wm_forest.proofs.RowLemmas.{KeepsRow}
+use Rattle.wm_forest.proofs.StandLemmas.{HasSpot, SoundKids, SoundStanding, has_spot, mean_bounds, stands}
+use Rattle.wm_forest.proofs.TimesLemmas.{times-append}
 
 -- ---- putting a row at a place
 

@@ -2,21 +2,23 @@
 use Rattle.std.proofs.Common.{◌≡◌, ℕ, ◌≤◌, Bool, true, false, cond, ◌||◌, Option, None, refl, ap, ◌∙◌, arith}
 use Rattle.std.specs.Prelude.{option_and_then}
 use Rattle.wm_base.specs.declared.ids.ConId.{ConId}
-use Rattle.wm_tree.specs.declared.part.Part.{Part}
-use Rattle.wm_tree.specs.declared.spot.Spot.{Spot}
-use Rattle.wm_tree.specs.Forest.{Forest, end, con}
-use Rattle.wm_tree.specs.Change.{arriving, hole, in_place, nobody, replaced}
-use Rattle.wm_tree.specs.Look.{has, only, same}
-use Rattle.wm_tree.specs.Move.{apart, exchanged, exchanged_nodes, holed, share_in}
-use Rattle.wm_tree.specs.Sound.{Level, containers, IsSound, one_of, tally}
-use Rattle.wm_tree.specs.Spot.{spot_in, top}
+use Rattle.wm_forest.specs.declared.part.Part.{Part}
+use Rattle.wm_forest.specs.declared.spot.Spot.{Spot}
+use Rattle.wm_forest.specs.Forest.{Forest, end, con}
+use Rattle.wm_forest.specs.Change.{arriving, hole, in_place, nobody, replaced}
+use Rattle.wm_forest.specs.Look.{has, only, same}
+use Rattle.wm_tree.specs.Move.{apart, exchanged, share_in}
+use Rattle.wm_forest.specs.Exchange.{exchanged_nodes, holed}
+use Rattle.wm_forest.specs.SoundRow.{Level, containers, one_of, tally}
+use Rattle.wm_tree.specs.Sound.{IsSound}
+use Rattle.wm_forest.specs.Spot.{spot_in, top}
 use Rattle.wm_tree.specs.TreeValue.{TreeValue, parent}
-use Rattle.wm_tree.proofs.ChangeLemmas.{by_place}
-use Rattle.wm_tree.proofs.CountLemmas.{found_counted, tally-absent}
+use Rattle.wm_forest.proofs.ChangeLemmas.{by_place}
+use Rattle.wm_forest.proofs.CountLemmas.{found_counted, tally-absent}
 use Rattle.wm_tree.proofs.ExchangeSound.{Apart, Steps, count_filled, found_one, other_than_nobody, seen_any, steps, zero_has}
-use Rattle.wm_tree.proofs.LookLemmas.{none_of_four}
+use Rattle.wm_forest.proofs.LookLemmas.{none_of_four}
 use Rattle.wm_tree.proofs.MoveLemmas.{count-arriving, row_length-arriving}
-use Rattle.wm_tree.proofs.StandLemmas.{HasSpot, has_spot}
+use Rattle.wm_forest.proofs.StandLemmas.{HasSpot, has_spot}
 
 -- what holds the node that stands there
 abbrev pub held_by : Option Spot → Option ConId

@@ -1,29 +1,32 @@
 -- An exchange keeps what holds of every tree: what is counted, and what stands in each place.
 use Rattle.std.proofs.Common.{◌≡◌, ℕ, ◌+◌, ◌≤◌, Bool, true, false, cond, ◌||◌, ◌&&◌, not, Option, None, Some, refl, ap, sym, ◌∙◌, subst, arith}
 use Rattle.wm_base.specs.declared.ids.ConId.{ConId}
-use Rattle.wm_tree.specs.declared.part.Part.{Part}
-use Rattle.wm_tree.specs.declared.spot.Spot.{Spot}
-use Rattle.wm_tree.specs.Forest.{Forest, end, con}
-use Rattle.wm_tree.specs.Change.{arriving, hole, in_place, nobody, placed, replaced, unfull_kind}
-use Rattle.wm_tree.specs.Counts.{con_of, count, marks_of, row_length, share_of, space_of}
-use Rattle.wm_tree.specs.Look.{first_part, has, only, same}
-use Rattle.wm_tree.specs.Move.{apart, exchanged, exchanged_nodes, holed, is_too_deep, share_by, share_in}
-use Rattle.wm_tree.specs.Place.{IsTiled, is_tiled, room_by, row_room}
-use Rattle.wm_tree.specs.Sound.{below, containers, HasShare, IsSound, IsSoundRow, RowOf, one_of, rank_of, roots, tally}
-use Rattle.wm_tree.specs.Spot.{fits, spot_in, top}
-use Rattle.wm_tree.specs.TreeValue.{TreeValue, root}
-use Rattle.wm_tree.proofs.ChangeLemmas.{by_change}
-use Rattle.wm_tree.proofs.CountLemmas.{count-without, counted, found_counted, tally-absent}
-use Rattle.wm_tree.proofs.HoleLooks.{hole_stands, stays}
-use Rattle.wm_tree.proofs.HoleLemmas.{IsHoley, IsHoleyAt, sound-filled, sound-holed, sound-unholed, strengthen, weaken}
-use Rattle.wm_tree.proofs.LookLemmas.{SeenAs, seen-replaced}
+use Rattle.wm_forest.specs.declared.part.Part.{Part}
+use Rattle.wm_forest.specs.declared.spot.Spot.{Spot}
+use Rattle.wm_forest.specs.Forest.{Forest, end, con}
+use Rattle.wm_forest.specs.Change.{arriving, hole, in_place, nobody, placed, replaced, unfull_kind}
+use Rattle.wm_forest.specs.Counts.{con_of, count, marks_of, row_length, share_of, space_of}
+use Rattle.wm_forest.specs.Look.{first_part, has, only, same}
+use Rattle.wm_tree.specs.Move.{apart, exchanged, is_too_deep, share_by, share_in}
+use Rattle.wm_forest.specs.Exchange.{exchanged_nodes, holed}
+use Rattle.wm_forest.specs.Place.{IsTiled, is_tiled, room_by, row_room}
+use Rattle.wm_forest.specs.SoundRow.{below, containers, HasShare, IsSoundRow, RowOf, one_of, rank_of, roots, tally}
+use Rattle.wm_tree.specs.Sound.{IsSound}
+use Rattle.wm_forest.specs.Spot.{fits, spot_in, top}
+use Rattle.wm_tree.specs.TreeValue.{TreeValue}
+use Rattle.wm_forest.specs.RootId.{root}
+use Rattle.wm_forest.proofs.ChangeLemmas.{by_change}
+use Rattle.wm_forest.proofs.CountLemmas.{count-without, counted, found_counted, tally-absent}
+use Rattle.wm_forest.proofs.HoleLooks.{hole_stands, stays}
+use Rattle.wm_forest.proofs.HoleLemmas.{IsHoley, IsHoleyAt, sound-filled, sound-holed, sound-unholed, strengthen, weaken}
+use Rattle.wm_forest.proofs.LookLemmas.{SeenAs, seen-replaced}
 use Rattle.wm_tree.proofs.MoveLemmas.{SoundFound, arrived, count-arriving, found_alone, found_sound, placed_one, placed_ranks, placed_space, row_length-arriving}
-use Rattle.wm_tree.proofs.PutLemmas.{IsConFirst}
-use Rattle.wm_tree.proofs.RecencyLemmas.{same_is}
-use Rattle.wm_tree.proofs.RowLemmas.{KeepsRow}
+use Rattle.wm_forest.proofs.PutLemmas.{IsConFirst}
+use Rattle.wm_forest.proofs.RecencyLemmas.{same_is}
+use Rattle.wm_forest.proofs.RowLemmas.{KeepsRow}
 use Rattle.wm_tree.proofs.WrapLemmas.{node_share}
 use Rattle.wm_tree.proofs.RaiseLemmas.{unfull_one, unfull_ranks, unfull_space}
-use Rattle.wm_tree.proofs.StandLemmas.{HasSpot, has_spot}
+use Rattle.wm_forest.proofs.StandLemmas.{HasSpot, has_spot}
 
 -- ---- counts
 

@@ -1,17 +1,19 @@
 -- The focused node is there, and so is the root where it is looked for.
 use Rattle.std.proofs.Common.{◌≡◌, Bool, true, false, cond, ◌||◌, List, [], ◌∷◌, Some, refl}
 use Rattle.wm_base.specs.declared.ids.ConId.{ConId}
-use Rattle.wm_tree.specs.declared.part.NodeKind.{NodeKind}
-use Rattle.wm_tree.specs.declared.part.NodeKind.TheVariants.{Root, Output, Space, Con}
-use Rattle.wm_tree.specs.Forest.{Forest, end, con}
-use Rattle.wm_tree.specs.Change.{shown_of}
-use Rattle.wm_tree.specs.Look.{first_alone, first_kids, first_part, has, in_row, kind_by, node_in, only, same}
-use Rattle.wm_tree.specs.Recency.{first_held}
-use Rattle.wm_tree.specs.Sound.{IsNode, IsSound, IsSoundRow, outputs, roots}
-use Rattle.wm_tree.specs.Spot.{room_below}
-use Rattle.wm_tree.specs.TreeValue.{TreeValue, current, current_in, current_of, current_row, focused, or_id, root, shown, shown_space}
+use Rattle.wm_forest.specs.declared.part.NodeKind.{NodeKind}
+use Rattle.wm_forest.specs.declared.part.NodeKind.TheVariants.{Root, Output, Space, Con}
+use Rattle.wm_forest.specs.Forest.{Forest, end, con}
+use Rattle.wm_forest.specs.Change.{shown_of}
+use Rattle.wm_forest.specs.Look.{first_alone, first_kids, first_part, has, in_row, kind_by, node_in, only, same}
+use Rattle.wm_forest.specs.Recency.{first_held}
+use Rattle.wm_forest.specs.SoundRow.{IsNode, IsSoundRow, outputs, roots}
+use Rattle.wm_tree.specs.Sound.{IsSound}
+use Rattle.wm_forest.specs.Spot.{room_below}
+use Rattle.wm_tree.specs.TreeValue.{TreeValue, current, current_in, current_row, focused, or_id, shown, shown_space}
+use Rattle.wm_forest.specs.RootId.{current_of, root}
 use Rattle.wm_tree.proofs.AttachLemmas.{has_row}
-use Rattle.wm_tree.proofs.RecencyLemmas.{same_self}
+use Rattle.wm_forest.proofs.RecencyLemmas.{same_self}
 
 has_alone : (i : ConId) (f : Forest) → has i (first_alone f) ≡ true → has i f ≡ true
 has_alone i end h = h

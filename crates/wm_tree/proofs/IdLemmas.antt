@@ -4,20 +4,23 @@ use Rattle.std.proofs.lemmas.Bool.Decides.{nat_tests}
 use Rattle.wm_base.specs.declared.ids.ConId.{ConId}
 use Rattle.wm_base.specs.declared.plan.Layout.{Layout}
 use Rattle.wm_base.specs.declared.plan.OutputPlan.{OutputPlan}
-use Rattle.wm_tree.specs.declared.kind.KindEdit.{KindEdit}
-use Rattle.wm_tree.specs.declared.kind.KindEdit.TheVariants as edits
-use Rattle.wm_tree.specs.declared.place.NewCon.{NewCon}
-use Rattle.wm_tree.specs.declared.place.Place.{Place}
+use Rattle.wm_forest.specs.declared.kind.KindEdit.{KindEdit}
+use Rattle.wm_forest.specs.declared.kind.KindEdit.TheVariants as edits
+use Rattle.wm_forest.specs.declared.place.NewCon.{NewCon}
+use Rattle.wm_forest.specs.declared.place.Place.{Place}
 use Rattle.wm_tree.specs.Ids.{IdsRise}
-use Rattle.wm_tree.specs.Look.{has, only, same}
+use Rattle.wm_forest.specs.Look.{has, only, same}
 use Rattle.wm_tree.specs.Move.{moved, wrapped}
-use Rattle.wm_tree.specs.Outputs.{handed_on, heir, left_to, space_moved, with_output, with_space, without_output, yielded}
-use Rattle.wm_tree.specs.Settle.{vacated}
-use Rattle.wm_tree.specs.Sound.{IsSound, times}
-use Rattle.wm_tree.specs.TreeValue.{TreeValue, current, id, root}
+use Rattle.wm_tree.specs.Outputs.{handed_on, left_to, space_moved, with_output, with_space, without_output, yielded}
+use Rattle.wm_forest.specs.Taking.{heir}
+use Rattle.wm_forest.specs.Settle.{vacated}
+use Rattle.wm_tree.specs.Sound.{IsSound}
+use Rattle.wm_forest.specs.SoundRow.{times}
+use Rattle.wm_tree.specs.TreeValue.{TreeValue, current}
+use Rattle.wm_forest.specs.RootId.{id, root}
 use Rattle.wm_tree.specs.Words.{attached, detached, edited, settled, with_raised}
-use Rattle.wm_tree.proofs.CountLemmas.{counted, found_counted, there}
-use Rattle.wm_tree.proofs.TimesLemmas.{times-append, times-dropped, times-raised}
+use Rattle.wm_forest.proofs.CountLemmas.{counted, found_counted, there}
+use Rattle.wm_forest.proofs.TimesLemmas.{times-append, times-dropped, times-raised}
 
 pub ids_refl : (t : TreeValue) → IdsRise t t
 ids_refl t = record { next = omega arith; known = λ v below. omega arith }

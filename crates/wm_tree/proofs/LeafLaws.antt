@@ -2,21 +2,23 @@
 use Rattle.std.proofs.Common.{◌≡◌, ℕ, ◌+◌, ◌-◌, ◌≤◌, Bool, true, false, cond, ◌||◌, List, [], ◌∷◌, Option, None, Some, refl, ap, sym, ◌∙◌, subst, arith}
 use Rattle.std.specs.Prelude.{IfSome}
 use Rattle.wm_base.specs.declared.ids.ConId.{ConId}
-use Rattle.wm_tree.specs.declared.part.Part.{Part}
-use Rattle.wm_tree.specs.declared.part.NodeKind.{NodeKind}
-use Rattle.wm_tree.specs.declared.part.NodeKind.TheVariants.{Root, Output, Space, Con}
-use Rattle.wm_tree.specs.declared.spot.Spot.{Spot}
-use Rattle.wm_tree.specs.Forest.{Forest, end, con}
-use Rattle.wm_tree.specs.Look.{has, only, same}
-use Rattle.wm_tree.specs.Recency.{first_held, lists}
-use Rattle.wm_tree.specs.Sound.{Level, roots, outputs, spaces, containers, below, IsNode, IsSound, IsSoundRow, one_of, rank_of, ranked, tally, times}
-use Rattle.wm_tree.specs.Spot.{room_below, top}
-use Rattle.wm_tree.specs.TreeValue.{TreeValue, follow, leaf, leaf_at, leaf_of, tiled_by, tiled_kids}
-use Rattle.wm_tree.proofs.ChangeLemmas.{by_place}
-use Rattle.wm_tree.proofs.CountLemmas.{count-without, counted}
-use Rattle.wm_tree.proofs.ForestLemmas.{first_held_end, or_false}
-use Rattle.wm_tree.proofs.OnceLemmas.{in_kids, in_rest, only_kids, only_rest, within}
-use Rattle.wm_tree.proofs.RecencyLemmas.{same_is, same_self}
+use Rattle.wm_forest.specs.declared.part.Part.{Part}
+use Rattle.wm_forest.specs.declared.part.NodeKind.{NodeKind}
+use Rattle.wm_forest.specs.declared.part.NodeKind.TheVariants.{Root, Output, Space, Con}
+use Rattle.wm_forest.specs.declared.spot.Spot.{Spot}
+use Rattle.wm_forest.specs.Forest.{Forest, end, con}
+use Rattle.wm_forest.specs.Look.{has, only, same}
+use Rattle.wm_forest.specs.Recency.{first_held, lists}
+use Rattle.wm_forest.specs.SoundRow.{Level, roots, outputs, spaces, containers, below, IsNode, IsSoundRow, one_of, rank_of, ranked, tally, times}
+use Rattle.wm_tree.specs.Sound.{IsSound}
+use Rattle.wm_forest.specs.Spot.{room_below, top}
+use Rattle.wm_tree.specs.TreeValue.{TreeValue, leaf}
+use Rattle.wm_forest.specs.Focus.{follow, leaf_at, leaf_of, tiled_by, tiled_kids}
+use Rattle.wm_forest.proofs.ChangeLemmas.{by_place}
+use Rattle.wm_forest.proofs.CountLemmas.{count-without, counted}
+use Rattle.wm_forest.proofs.ForestLemmas.{first_held_end, or_false}
+use Rattle.wm_forest.proofs.OnceLemmas.{in_kids, in_rest, only_kids, only_rest, within}
+use Rattle.wm_forest.proofs.RecencyLemmas.{same_is, same_self}
 
 -- ---- the first of some ids that a forest holds
 

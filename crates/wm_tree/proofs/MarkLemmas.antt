@@ -3,22 +3,25 @@ use Rattle.std.proofs.Common.{◌≡◌, ℕ, suc, ◌+◌, ◌≤◌, ◌<◌, 
 use Rattle.std.proofs.lemmas.Bool.Decides.{nat_tests}
 use Rattle.std.specs.Str.{bytes_eq}
 use Rattle.wm_base.specs.declared.ids.ConId.{ConId}
-use Rattle.wm_tree.specs.declared.part.Part.{Part}
-use Rattle.wm_tree.specs.declared.part.NodeKind.{NodeKind}
-use Rattle.wm_tree.specs.declared.part.NodeKind.TheVariants.{Root, Output, Space, Con}
-use Rattle.wm_tree.specs.declared.spot.Spot.{Spot}
-use Rattle.wm_tree.specs.Forest.{Forest, end, con}
-use Rattle.wm_tree.specs.Change.{at, nobody}
-use Rattle.wm_tree.specs.Counts.{con_of, mark_count, row_with, space_of}
-use Rattle.wm_tree.specs.Look.{first_marks, only}
-use Rattle.wm_tree.specs.Move.{is_full_of_marks, marked, marks_in, marks_word, other_marks, unmark_word, unmarked}
-use Rattle.wm_tree.specs.Sound.{Level, roots, outputs, spaces, containers, IsNode, IsSound, IsSoundRow, one_of, rank_of}
-use Rattle.wm_tree.specs.Spot.{top}
-use Rattle.wm_tree.specs.TreeValue.{TreeValue, root}
-use Rattle.wm_tree.proofs.ChangeLemmas.{by_change}
-use Rattle.wm_tree.proofs.CountLemmas.{count-same}
-use Rattle.wm_tree.proofs.PutLemmas.{Here, IsConFirst, con_level}
-use Rattle.wm_tree.proofs.RowLemmas.{same_row, behind_row, Grows, keeps_by, node_keeps}
+use Rattle.wm_forest.specs.declared.part.Part.{Part}
+use Rattle.wm_forest.specs.declared.part.NodeKind.{NodeKind}
+use Rattle.wm_forest.specs.declared.part.NodeKind.TheVariants.{Root, Output, Space, Con}
+use Rattle.wm_forest.specs.declared.spot.Spot.{Spot}
+use Rattle.wm_forest.specs.Forest.{Forest, end, con}
+use Rattle.wm_forest.specs.Change.{at, nobody}
+use Rattle.wm_forest.specs.Counts.{con_of, mark_count, row_with, space_of}
+use Rattle.wm_forest.specs.Look.{first_marks, only}
+use Rattle.wm_tree.specs.Move.{is_full_of_marks, marked, marks_in, unmarked}
+use Rattle.wm_forest.specs.Marks.{marks_word, other_marks, unmark_word}
+use Rattle.wm_forest.specs.SoundRow.{Level, roots, outputs, spaces, containers, IsNode, IsSoundRow, one_of, rank_of}
+use Rattle.wm_tree.specs.Sound.{IsSound}
+use Rattle.wm_forest.specs.Spot.{top}
+use Rattle.wm_tree.specs.TreeValue.{TreeValue}
+use Rattle.wm_forest.specs.RootId.{root}
+use Rattle.wm_forest.proofs.ChangeLemmas.{by_change}
+use Rattle.wm_forest.proofs.CountLemmas.{count-same}
+use Rattle.wm_forest.proofs.PutLemmas.{Here, IsConFirst, con_level}
+use Rattle.wm_forest.proofs.RowLemmas.{same_row, behind_row, Grows, keeps_by, node_keeps}
 
 other_shorter : (n : List ℕ) (marks : List (List ℕ)) → length (other_marks n marks) ≤ length marks
 other_shorter n [] = omega arith

@@ -4,29 +4,31 @@ use Rattle.std.proofs.lemmas.Bool.Decides.{nat_tests}
 use Rattle.wm_base.specs.declared.errors.Limit.TheVariants.{Children, Depth}
 use Rattle.wm_base.specs.declared.geometry.Rect.{Rect}
 use Rattle.wm_base.specs.declared.ids.ConId.{ConId}
-use Rattle.wm_tree.specs.declared.part.Part.{Part}
-use Rattle.wm_tree.specs.declared.part.NodeKind.{NodeKind}
-use Rattle.wm_tree.specs.declared.part.NodeKind.TheVariants.{Root, Output, Space, Con}
-use Rattle.wm_tree.specs.declared.place.Place.{Place}
-use Rattle.wm_tree.specs.declared.place.Place.TheVariants.{After, Before, First, Last, Float, Scratchpad}
-use Rattle.wm_tree.specs.declared.spot.Spot.{Spot}
-use Rattle.wm_tree.specs.Forest.{Forest, end, con}
-use Rattle.wm_tree.specs.Change.{arriving, nobody, placed, unfull, unfull_kind, without}
-use Rattle.wm_tree.specs.Counts.{but, con_of, count, marks_of, newcomer_share, one_con, one_space, row_length, row_with, space_of}
-use Rattle.wm_tree.specs.Look.{con_kind, first_kids, first_part, has, kind_by, only, same}
+use Rattle.wm_forest.specs.declared.part.Part.{Part}
+use Rattle.wm_forest.specs.declared.part.NodeKind.{NodeKind}
+use Rattle.wm_forest.specs.declared.part.NodeKind.TheVariants.{Root, Output, Space, Con}
+use Rattle.wm_forest.specs.declared.place.Place.{Place}
+use Rattle.wm_forest.specs.declared.place.Place.TheVariants.{After, Before, First, Last, Float, Scratchpad}
+use Rattle.wm_forest.specs.declared.spot.Spot.{Spot}
+use Rattle.wm_forest.specs.Forest.{Forest, end, con}
+use Rattle.wm_forest.specs.Change.{arriving, nobody, placed, unfull, unfull_kind, without}
+use Rattle.wm_forest.specs.Counts.{but, con_of, count, marks_of, newcomer_share, one_con, one_space, row_length, row_with, space_of}
+use Rattle.wm_forest.specs.Look.{con_kind, first_kids, first_part, has, kind_by, only, same}
 use Rattle.wm_tree.specs.Move.{apart, moved, moved_share, passed_by_move}
-use Rattle.wm_tree.specs.Place.{IsPlace, TakesFirst, is_tiled, named, rect_at, room_by, room_under, row_room, siblings}
-use Rattle.wm_tree.specs.Sound.{Level, containers, HasShare, IsNode, IsSound, IsSoundRow, one_of, rank_of, ranks, tally, roots}
-use Rattle.wm_tree.specs.Spot.{fits, room_below, spot_in, spot_of, top}
-use Rattle.wm_tree.specs.TreeValue.{TreeValue, root}
+use Rattle.wm_forest.specs.Place.{IsPlace, TakesFirst, is_tiled, named, rect_at, room_by, room_under, row_room, siblings}
+use Rattle.wm_forest.specs.SoundRow.{Level, containers, HasShare, IsNode, IsSoundRow, one_of, rank_of, ranks, tally, roots}
+use Rattle.wm_tree.specs.Sound.{IsSound}
+use Rattle.wm_forest.specs.Spot.{fits, room_below, spot_in, spot_of, top}
+use Rattle.wm_tree.specs.TreeValue.{TreeValue}
+use Rattle.wm_forest.specs.RootId.{root}
 use Rattle.wm_tree.proofs.AttachLemmas.{Ready, root_room, sound-put, space_room}
-use Rattle.wm_tree.proofs.ChangeLemmas.{by_change, by_place}
-use Rattle.wm_tree.proofs.CountLemmas.{count-put, count-without}
-use Rattle.wm_tree.proofs.LookLemmas.{kids-without, row-without, seen-without}
-use Rattle.wm_tree.proofs.PutLemmas.{Above, Beside, IsConFirst, IsSoundAt, IsSoundBelow, Under, con_level, sound-without}
+use Rattle.wm_forest.proofs.ChangeLemmas.{by_change, by_place}
+use Rattle.wm_forest.proofs.CountLemmas.{count-put, count-without}
+use Rattle.wm_forest.proofs.LookLemmas.{kids-without, row-without, seen-without}
+use Rattle.wm_forest.proofs.PutLemmas.{Above, Beside, IsConFirst, IsSoundAt, IsSoundBelow, Under, con_level, sound-without}
 use Rattle.wm_tree.proofs.RaiseLemmas.{count-unfull, ends-unfull, row_length-unfull, sound-unfull, unfull_node, unfull_one, unfull_ranks, unfull_room, unfull_space}
-use Rattle.wm_tree.proofs.RowLemmas.{node_keeps}
-use Rattle.wm_tree.proofs.StandLemmas.{HasSpot, SoundKids, SoundStanding, has_spot, mean_bounds, sound-but, stands}
+use Rattle.wm_forest.proofs.RowLemmas.{node_keeps}
+use Rattle.wm_forest.proofs.StandLemmas.{HasSpot, SoundKids, SoundStanding, has_spot, mean_bounds, sound-but, stands}
 use Rattle.wm_tree.proofs.WrapLemmas.{resound}
 
 -- ---- what is moved

@@ -4,35 +4,38 @@ use Rattle.std.proofs.lemmas.Bool.Decides.{nat_tests}
 use Rattle.wm_base.specs.declared.errors.Limit.TheVariants.{Ids, Outputs, Workspaces}
 use Rattle.wm_base.specs.declared.ids.ConId.{ConId}
 use Rattle.wm_base.specs.declared.plan.OutputPlan.{OutputPlan}
-use Rattle.wm_tree.specs.declared.kind.KindEdit.TheVariants as edits
-use Rattle.wm_tree.specs.declared.part.Part.{Part}
-use Rattle.wm_tree.specs.declared.part.NodeKind.{NodeKind}
-use Rattle.wm_tree.specs.declared.part.NodeKind.TheVariants.{Root, Output, Space, Con}
-use Rattle.wm_tree.specs.declared.place.Place.TheVariants.{Last}
-use Rattle.wm_tree.specs.Forest.{Forest, end, con}
-use Rattle.wm_tree.specs.Change.{append, at, nobody, without}
-use Rattle.wm_tree.specs.Counts.{but, con_of, count, marks_of, row_length, space_count, space_of}
-use Rattle.wm_tree.specs.Kinds.{changed, kind_changed}
-use Rattle.wm_tree.specs.Look.{first_floats, first_kids, first_part, has, in_row, kind_by, only, output_kind, same}
-use Rattle.wm_tree.specs.Outputs.{IsOutput, handed_on, heir, left_to, new_output, passed_by_output, taking_in, with_output, without_output, yielded}
-use Rattle.wm_tree.specs.Place.{put}
-use Rattle.wm_tree.specs.Sound.{IsNode, IsOutputRect, IsSound, IsSoundRow, one_of, outputs, rank_of, ranks, roots, tally}
-use Rattle.wm_tree.specs.TreeValue.{TreeValue, current, current_in, current_of, id, root}
+use Rattle.wm_forest.specs.declared.kind.KindEdit.TheVariants as edits
+use Rattle.wm_forest.specs.declared.part.Part.{Part}
+use Rattle.wm_forest.specs.declared.part.NodeKind.{NodeKind}
+use Rattle.wm_forest.specs.declared.part.NodeKind.TheVariants.{Root, Output, Space, Con}
+use Rattle.wm_forest.specs.declared.place.Place.TheVariants.{Last}
+use Rattle.wm_forest.specs.Forest.{Forest, end, con}
+use Rattle.wm_forest.specs.Change.{append, at, nobody, without}
+use Rattle.wm_forest.specs.Counts.{but, con_of, count, marks_of, row_length, space_count, space_of}
+use Rattle.wm_forest.specs.Kinds.{changed, kind_changed}
+use Rattle.wm_forest.specs.Look.{first_floats, first_kids, first_part, has, in_row, kind_by, only, output_kind, same}
+use Rattle.wm_tree.specs.Outputs.{IsOutput, handed_on, left_to, new_output, passed_by_output, with_output, without_output, yielded}
+use Rattle.wm_forest.specs.Taking.{heir, taking_in}
+use Rattle.wm_forest.specs.Place.{put}
+use Rattle.wm_forest.specs.SoundRow.{IsNode, IsOutputRect, IsSoundRow, one_of, outputs, rank_of, ranks, roots, tally}
+use Rattle.wm_tree.specs.Sound.{IsSound}
+use Rattle.wm_tree.specs.TreeValue.{TreeValue, current, current_in}
+use Rattle.wm_forest.specs.RootId.{current_of, id, root}
 use Rattle.wm_tree.specs.Words.{edited}
 use Rattle.wm_tree.proofs.AttachLemmas.{has_row, hits, one_node}
-use Rattle.wm_tree.proofs.CountLemmas.{count-append, count-more, count-put, count-without}
-use Rattle.wm_tree.proofs.EditLemmas.{fits_current}
+use Rattle.wm_forest.proofs.CountLemmas.{count-append, count-more, count-put, count-without}
+use Rattle.wm_forest.proofs.EditLemmas.{fits_current}
 use Rattle.wm_tree.proofs.FocusLemmas.{current_there, has_kids, outputs_of, root_kids}
 use Rattle.wm_tree.proofs.MoveLemmas.{found_alone}
-use Rattle.wm_tree.proofs.OnceLemmas.{at_kids}
+use Rattle.wm_forest.proofs.OnceLemmas.{at_kids}
 use Rattle.wm_tree.proofs.OutputRows.{OutputFound, Taken, but_keeps, but_only, first_there, in_row-append, output_found, row_left, sound-taking, sound_top}
 use Rattle.wm_tree.proofs.PlaceLemmas.{count_kids}
-use Rattle.wm_tree.proofs.PutLemmas.{row_length-append, sound-append}
-use Rattle.wm_tree.proofs.RecencyLemmas.{same_self}
-use Rattle.wm_tree.proofs.RowLemmas.{KeepsRow, behind_row, same_row}
+use Rattle.wm_forest.proofs.PutLemmas.{row_length-append, sound-append}
+use Rattle.wm_forest.proofs.RecencyLemmas.{same_self}
+use Rattle.wm_forest.proofs.RowLemmas.{KeepsRow, behind_row, same_row}
 use Rattle.wm_tree.proofs.SoundLemmas.{sound-edited}
-use Rattle.wm_tree.proofs.StandLemmas.{sound-but}
-use Rattle.wm_tree.proofs.TimesLemmas.{times-append}
+use Rattle.wm_forest.proofs.StandLemmas.{sound-but}
+use Rattle.wm_forest.proofs.TimesLemmas.{times-append}
 
 -- the first node of a tree is the root
 is_root : (part : Part) (kids floats rest : Forest) → IsSoundRow roots false 0 (con part kids floats rest) → same part.id root ≡ true

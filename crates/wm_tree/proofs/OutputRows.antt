@@ -1,22 +1,22 @@
 -- Outputs in their row: what one is over, and what a change of one keeps.
 use Rattle.std.proofs.Common.{◌≡◌, ◌≢◌, ℕ, ◌+◌, ◌≤◌, Bool, true, false, cond, ◌||◌, List, None, Some, refl, ap, sym, subst, arith}
 use Rattle.wm_base.specs.declared.ids.ConId.{ConId}
-use Rattle.wm_tree.specs.declared.part.Part.{Part}
-use Rattle.wm_tree.specs.declared.part.NodeKind.{NodeKind}
-use Rattle.wm_tree.specs.declared.part.NodeKind.TheVariants.{Root, Output, Space, Con}
-use Rattle.wm_tree.specs.Forest.{Forest, end, con}
-use Rattle.wm_tree.specs.Change.{append, at, without}
-use Rattle.wm_tree.specs.Counts.{but, row_length, space_count}
-use Rattle.wm_tree.specs.Look.{first_floats, first_kids, first_part, has, in_row, kind_by, nth_id, only, output_kind, same}
-use Rattle.wm_tree.specs.Sound.{IsNode, IsSoundRow, containers, outputs, roots, spaces, tally}
-use Rattle.wm_tree.specs.Spot.{room_below}
-use Rattle.wm_tree.specs.TreeValue.{current_of, root}
+use Rattle.wm_forest.specs.declared.part.Part.{Part}
+use Rattle.wm_forest.specs.declared.part.NodeKind.{NodeKind}
+use Rattle.wm_forest.specs.declared.part.NodeKind.TheVariants.{Root, Output, Space, Con}
+use Rattle.wm_forest.specs.Forest.{Forest, end, con}
+use Rattle.wm_forest.specs.Change.{append, at, without}
+use Rattle.wm_forest.specs.Counts.{but, row_length, space_count}
+use Rattle.wm_forest.specs.Look.{first_floats, first_kids, first_part, has, in_row, kind_by, nth_id, only, output_kind, same}
+use Rattle.wm_forest.specs.SoundRow.{IsNode, IsSoundRow, containers, outputs, roots, spaces, tally}
+use Rattle.wm_forest.specs.Spot.{room_below}
+use Rattle.wm_forest.specs.RootId.{current_of, root}
 use Rattle.wm_tree.proofs.AttachLemmas.{has_row}
 use Rattle.wm_tree.proofs.FocusLemmas.{current_there, outputs_of}
-use Rattle.wm_tree.proofs.OnceLemmas.{at_kids, at_rest, only_kids, only_rest}
-use Rattle.wm_tree.proofs.PutLemmas.{row_length-append, sound-append}
-use Rattle.wm_tree.proofs.RecencyLemmas.{same_self}
-use Rattle.wm_tree.proofs.RowLemmas.{KeepsRow, behind_row, or_keeps, same_row}
+use Rattle.wm_forest.proofs.OnceLemmas.{at_kids, at_rest, only_kids, only_rest}
+use Rattle.wm_forest.proofs.PutLemmas.{row_length-append, sound-append}
+use Rattle.wm_forest.proofs.RecencyLemmas.{same_self}
+use Rattle.wm_forest.proofs.RowLemmas.{KeepsRow, behind_row, or_keeps, same_row}
 
 -- ---- a node of the row itself
 

@@ -1,22 +1,23 @@
 -- A new window's place is in the tree.
 use Rattle.std.proofs.Common.{◌≡◌, ◌≢◌, ℕ, ◌+◌, ◌≤◌, Bool, true, false, cond, ◌&&◌, ◌||◌, Option, None, Some, refl, arith}
 use Rattle.wm_base.specs.declared.ids.ConId.{ConId}
-use Rattle.wm_tree.specs.declared.part.Part.{Part}
-use Rattle.wm_tree.specs.declared.part.NodeKind.{NodeKind}
-use Rattle.wm_tree.specs.declared.part.NodeKind.TheVariants.{Root, Output, Space, Con}
-use Rattle.wm_tree.specs.declared.place.Place.{Place}
-use Rattle.wm_tree.specs.declared.place.Place.TheVariants.{After, Last}
-use Rattle.wm_tree.specs.Forest.{Forest, end, con}
-use Rattle.wm_tree.specs.Change.{shown_of, without}
-use Rattle.wm_tree.specs.Counts.{count, one_space}
-use Rattle.wm_tree.specs.Look.{con_kind, first_kids, first_part, has, in_row, kind_by, node_in, only, same}
-use Rattle.wm_tree.specs.Place.{IsPlace, TakesFirst, TakesKids, is_tiled, named}
-use Rattle.wm_tree.specs.Sound.{IsNode, IsSound, IsSoundRow, one_of, outputs, spaces, tally}
-use Rattle.wm_tree.specs.Spot.{room_below, spot_in, top}
+use Rattle.wm_forest.specs.declared.part.Part.{Part}
+use Rattle.wm_forest.specs.declared.part.NodeKind.{NodeKind}
+use Rattle.wm_forest.specs.declared.part.NodeKind.TheVariants.{Root, Output, Space, Con}
+use Rattle.wm_forest.specs.declared.place.Place.{Place}
+use Rattle.wm_forest.specs.declared.place.Place.TheVariants.{After, Last}
+use Rattle.wm_forest.specs.Forest.{Forest, end, con}
+use Rattle.wm_forest.specs.Change.{shown_of, without}
+use Rattle.wm_forest.specs.Counts.{count, one_space}
+use Rattle.wm_forest.specs.Look.{con_kind, first_kids, first_part, has, in_row, kind_by, node_in, only, same}
+use Rattle.wm_forest.specs.Place.{IsPlace, TakesFirst, TakesKids, is_tiled, named}
+use Rattle.wm_forest.specs.SoundRow.{IsNode, IsSoundRow, one_of, outputs, spaces, tally}
+use Rattle.wm_tree.specs.Sound.{IsSound}
+use Rattle.wm_forest.specs.Spot.{room_below, spot_in, top}
 use Rattle.wm_tree.specs.TreeValue.{TreeValue, current, current_row, focused, is_con, is_tiled_con, leaf, newcomer_place, or_id, shown}
-use Rattle.wm_tree.proofs.CountLemmas.{count-without, found_counted}
+use Rattle.wm_forest.proofs.CountLemmas.{count-without, found_counted}
 use Rattle.wm_tree.proofs.FocusLemmas.{current_there, outputs_of, shown_has}
-use Rattle.wm_tree.proofs.ForestLemmas.{only_absent}
+use Rattle.wm_forest.proofs.ForestLemmas.{only_absent}
 
 -- ---- a workspace is found under its id
 

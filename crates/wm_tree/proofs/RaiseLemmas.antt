@@ -1,23 +1,25 @@
 -- Raising a container in its workspace keeps what holds of every tree.
 use Rattle.std.proofs.Common.{◌≡◌, ℕ, ◌+◌, Bool, true, false, cond, ◌||◌, inl, List, Option, None, Some, refl, ap, ◌∙◌, arith}
 use Rattle.wm_base.specs.declared.ids.ConId.{ConId}
-use Rattle.wm_tree.specs.declared.part.Part.{Part}
-use Rattle.wm_tree.specs.declared.part.NodeKind.{NodeKind}
-use Rattle.wm_tree.specs.declared.part.NodeKind.TheVariants.{Root, Output, Space, Con}
-use Rattle.wm_tree.specs.declared.spot.Spot.{Spot}
-use Rattle.wm_tree.specs.Forest.{Forest, end, con}
-use Rattle.wm_tree.specs.Change.{append, at, nobody, raised_in, to_end, unfull, unfull_kind}
-use Rattle.wm_tree.specs.Counts.{but, con_of, count, marks_of, one_con, one_space, row_length, row_with, space_of}
-use Rattle.wm_tree.specs.Look.{first_alone, in_row, node_in, same}
-use Rattle.wm_tree.specs.Sound.{Level, roots, outputs, spaces, containers, below, IsNode, IsSound, IsSoundRow, one_of, rank_of, ranks}
-use Rattle.wm_tree.specs.Spot.{room_below, top}
-use Rattle.wm_tree.specs.TreeValue.{TreeValue, root, workspace_of}
-use Rattle.wm_tree.specs.Words.{raised_at, with_raised}
-use Rattle.wm_tree.proofs.CountLemmas.{count-append, count-same}
-use Rattle.wm_tree.proofs.PutLemmas.{Here, sound-append}
-use Rattle.wm_tree.proofs.RowLemmas.{KeepsRow, same_row, behind_row, node_keeps, Grows, keeps_by}
-use Rattle.wm_tree.proofs.StandLemmas.{sound-but}
-use Rattle.wm_tree.proofs.TimesLemmas.{times-raised}
+use Rattle.wm_forest.specs.declared.part.Part.{Part}
+use Rattle.wm_forest.specs.declared.part.NodeKind.{NodeKind}
+use Rattle.wm_forest.specs.declared.part.NodeKind.TheVariants.{Root, Output, Space, Con}
+use Rattle.wm_forest.specs.declared.spot.Spot.{Spot}
+use Rattle.wm_forest.specs.Forest.{Forest, end, con}
+use Rattle.wm_forest.specs.Change.{append, at, nobody, raised_in, to_end, unfull, unfull_kind, raised_at}
+use Rattle.wm_forest.specs.Counts.{but, con_of, count, marks_of, one_con, one_space, row_length, row_with, space_of}
+use Rattle.wm_forest.specs.Look.{first_alone, in_row, node_in, same}
+use Rattle.wm_forest.specs.SoundRow.{Level, roots, outputs, spaces, containers, below, IsNode, IsSoundRow, one_of, rank_of, ranks}
+use Rattle.wm_tree.specs.Sound.{IsSound}
+use Rattle.wm_forest.specs.Spot.{room_below, top}
+use Rattle.wm_tree.specs.TreeValue.{TreeValue, workspace_of}
+use Rattle.wm_forest.specs.RootId.{root}
+use Rattle.wm_tree.specs.Words.{with_raised}
+use Rattle.wm_forest.proofs.CountLemmas.{count-append, count-same}
+use Rattle.wm_forest.proofs.PutLemmas.{Here, sound-append}
+use Rattle.wm_forest.proofs.RowLemmas.{KeepsRow, same_row, behind_row, node_keeps, Grows, keeps_by}
+use Rattle.wm_forest.proofs.StandLemmas.{sound-but}
+use Rattle.wm_forest.proofs.TimesLemmas.{times-raised}
 
 -- ---- no other container is fullscreen
 

@@ -1,24 +1,26 @@
 -- Settling keeps what holds of every tree.
 use Rattle.std.proofs.Common.{◌≡◌, ℕ, ◌+◌, ◌≤◌, Bool, true, false, cond, ◌||◌, ◌&&◌, not, List, Option, None, Some, refl, ap, ◌∙◌, arith}
 use Rattle.wm_base.specs.declared.ids.ConId.{ConId}
-use Rattle.wm_tree.specs.declared.part.Part.{Part}
-use Rattle.wm_tree.specs.declared.part.ConKind.{ConKind}
-use Rattle.wm_tree.specs.declared.part.ConKind.TheVariants.{Split, Window, Placeholder}
-use Rattle.wm_tree.specs.declared.part.NodeKind.{NodeKind}
-use Rattle.wm_tree.specs.declared.part.NodeKind.TheVariants.{Root, Output, Space, Con}
-use Rattle.wm_tree.specs.Forest.{Forest, end, con}
-use Rattle.wm_tree.specs.Change.{is_end, is_vacant, append, nobody, settled_row, shown_of}
-use Rattle.wm_tree.specs.Counts.{con_of, count, marks_of, row_length, space_of}
-use Rattle.wm_tree.specs.Look.{has, in_row, same}
-use Rattle.wm_tree.specs.Recency.{outside}
-use Rattle.wm_tree.specs.Settle.{vacated}
-use Rattle.wm_tree.specs.Sound.{Level, roots, outputs, spaces, containers, below, HasKids, IsNode, IsSound, IsSoundRow, one_of, rank_of, ranked, tally, times}
-use Rattle.wm_tree.specs.Spot.{room_below}
-use Rattle.wm_tree.specs.TreeValue.{TreeValue, root}
+use Rattle.wm_forest.specs.declared.part.Part.{Part}
+use Rattle.wm_forest.specs.declared.part.ConKind.{ConKind}
+use Rattle.wm_forest.specs.declared.part.ConKind.TheVariants.{Split, Window, Placeholder}
+use Rattle.wm_forest.specs.declared.part.NodeKind.{NodeKind}
+use Rattle.wm_forest.specs.declared.part.NodeKind.TheVariants.{Root, Output, Space, Con}
+use Rattle.wm_forest.specs.Forest.{Forest, end, con}
+use Rattle.wm_forest.specs.Change.{is_end, is_vacant, append, nobody, settled_row, shown_of}
+use Rattle.wm_forest.specs.Counts.{con_of, count, marks_of, row_length, space_of}
+use Rattle.wm_forest.specs.Look.{has, in_row, same}
+use Rattle.wm_forest.specs.Recency.{outside}
+use Rattle.wm_forest.specs.Settle.{vacated}
+use Rattle.wm_forest.specs.SoundRow.{Level, roots, outputs, spaces, containers, below, HasKids, IsNode, IsSoundRow, one_of, rank_of, ranked, tally, times}
+use Rattle.wm_tree.specs.Sound.{IsSound}
+use Rattle.wm_forest.specs.Spot.{room_below}
+use Rattle.wm_tree.specs.TreeValue.{TreeValue}
+use Rattle.wm_forest.specs.RootId.{root}
 use Rattle.wm_tree.specs.Words.{settled}
-use Rattle.wm_tree.proofs.CountLemmas.{count-append, count-settled, counted, tally-absent}
+use Rattle.wm_forest.proofs.CountLemmas.{count-append, count-settled, counted, tally-absent}
 use Rattle.wm_tree.proofs.SoundLemmas.{rank_le}
-use Rattle.wm_tree.proofs.TimesLemmas.{times-dropped, times-kept}
+use Rattle.wm_forest.proofs.TimesLemmas.{times-dropped, times-kept}
 
 length_step : (b : Bool) (shown : Option ConId) (part : Part) (kids floats rest : Forest) → row_length (settled_row shown rest) ≤ row_length rest
     → row_length (cond b (settled_row shown rest) (con part (settled_row (shown_of part.kind) kids) floats (settled_row shown rest))) ≤ 1 + row_length rest

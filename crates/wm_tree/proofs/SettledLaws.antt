@@ -2,18 +2,19 @@
 use Rattle.std.proofs.Common.{◌≡◌, ◌+◌, ◌≤◌, Bool, true, false, cond, ◌&&◌, not, List, [], ◌∷◌, Option, None, filter, refl, ap, ap₂, ◌∙◌, arith}
 use Rattle.std.proofs.lemmas.Bool.{and_parts}
 use Rattle.wm_base.specs.declared.ids.ConId.{ConId}
-use Rattle.wm_tree.specs.declared.part.Part.{Part}
-use Rattle.wm_tree.specs.Forest.{Forest, end, con}
-use Rattle.wm_tree.specs.Change.{is_vacant, settled_row, shown_of}
-use Rattle.wm_tree.specs.Settle.{is_settled, vacated}
-use Rattle.wm_tree.specs.Look.{has}
-use Rattle.wm_tree.specs.Recency.{inside, outside}
-use Rattle.wm_tree.specs.Sound.{IsSound, one_of, ranked, tally, times}
+use Rattle.wm_forest.specs.declared.part.Part.{Part}
+use Rattle.wm_forest.specs.Forest.{Forest, end, con}
+use Rattle.wm_forest.specs.Change.{is_vacant, settled_row, shown_of}
+use Rattle.wm_forest.specs.Settle.{is_settled, vacated}
+use Rattle.wm_forest.specs.Look.{has}
+use Rattle.wm_forest.specs.Recency.{inside, outside}
+use Rattle.wm_tree.specs.Sound.{IsSound}
+use Rattle.wm_forest.specs.SoundRow.{one_of, ranked, tally, times}
 use Rattle.wm_tree.specs.TreeValue.{TreeValue}
 use Rattle.wm_tree.specs.Words.{settled}
-use Rattle.wm_tree.proofs.CountLemmas.{counted, tally-absent}
-use Rattle.wm_tree.proofs.ForestLemmas.{outside_end}
-use Rattle.wm_tree.proofs.RecencyLemmas.{same_self}
+use Rattle.wm_forest.proofs.CountLemmas.{counted, tally-absent}
+use Rattle.wm_forest.proofs.ForestLemmas.{outside_end}
+use Rattle.wm_forest.proofs.RecencyLemmas.{same_self}
 use Rattle.wm_tree.proofs.SettleLemmas.{count-vacated}
 use Rattle.wm_tree.proofs.SoundLemmas.{rank_le}
 

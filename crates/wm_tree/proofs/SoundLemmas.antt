@@ -1,27 +1,29 @@
 -- Each change of a tree keeps what holds of every tree.
 use Rattle.std.proofs.Common.{◌≡◌, ◌+◌, ◌≤◌, Bool, true, false, cond, not, List, Option, None, Some, refl, ap, sym, ◌∙◌, subst, arith}
 use Rattle.wm_base.specs.declared.ids.ConId.{ConId}
-use Rattle.wm_tree.specs.declared.kind.KindEdit.{KindEdit}
-use Rattle.wm_tree.specs.declared.part.Part.{Part}
-use Rattle.wm_tree.specs.declared.part.NodeKind.{NodeKind}
-use Rattle.wm_tree.specs.declared.part.NodeKind.TheVariants.{Root, Output, Space, Con}
-use Rattle.wm_tree.specs.Forest.{Forest, end, con}
-use Rattle.wm_tree.specs.Change.{at, nobody, without}
-use Rattle.wm_tree.specs.Counts.{con_of, count, marks_of, space_of}
-use Rattle.wm_tree.specs.Kinds.{kind_changed}
-use Rattle.wm_tree.specs.Look.{first_kids, has, only, same}
-use Rattle.wm_tree.specs.Recency.{outside}
-use Rattle.wm_tree.specs.Sound.{IsSound, one_of, rank_of, ranked, ranks, roots, tally, times}
-use Rattle.wm_tree.specs.Spot.{spot_in, top}
-use Rattle.wm_tree.specs.TreeValue.{TreeValue, parent, root}
+use Rattle.wm_forest.specs.declared.kind.KindEdit.{KindEdit}
+use Rattle.wm_forest.specs.declared.part.Part.{Part}
+use Rattle.wm_forest.specs.declared.part.NodeKind.{NodeKind}
+use Rattle.wm_forest.specs.declared.part.NodeKind.TheVariants.{Root, Output, Space, Con}
+use Rattle.wm_forest.specs.Forest.{Forest, end, con}
+use Rattle.wm_forest.specs.Change.{at, nobody, without}
+use Rattle.wm_forest.specs.Counts.{con_of, count, marks_of, space_of}
+use Rattle.wm_forest.specs.Kinds.{kind_changed}
+use Rattle.wm_forest.specs.Look.{first_kids, has, only, same}
+use Rattle.wm_forest.specs.Recency.{outside}
+use Rattle.wm_tree.specs.Sound.{IsSound}
+use Rattle.wm_forest.specs.SoundRow.{one_of, rank_of, ranked, ranks, roots, tally, times}
+use Rattle.wm_forest.specs.Spot.{spot_in, top}
+use Rattle.wm_tree.specs.TreeValue.{TreeValue, parent}
+use Rattle.wm_forest.specs.RootId.{root}
 use Rattle.wm_tree.specs.Sets.{IsShowable, shown_by, with_shown}
-use Rattle.wm_tree.specs.declared.kind.KindEdit.TheVariants as edits
+use Rattle.wm_forest.specs.declared.kind.KindEdit.TheVariants as edits
 use Rattle.wm_tree.specs.Words.{detached, edited}
-use Rattle.wm_tree.proofs.CountLemmas.{count-same, count-without, counted, found_counted, tally-absent, there}
-use Rattle.wm_tree.proofs.ForestLemmas.{at_absent}
-use Rattle.wm_tree.proofs.EditLemmas.{FitsEditAt, fits_shown, changed_one, changed_ranks, changed_space, sound-changed}
-use Rattle.wm_tree.proofs.PutLemmas.{IsConFirst, sound-without}
-use Rattle.wm_tree.proofs.TimesLemmas.{times-dropped, times-kept}
+use Rattle.wm_forest.proofs.CountLemmas.{count-same, count-without, counted, found_counted, tally-absent, there}
+use Rattle.wm_forest.proofs.ForestLemmas.{at_absent}
+use Rattle.wm_forest.proofs.EditLemmas.{FitsEditAt, fits_shown, changed_one, changed_ranks, changed_space, sound-changed}
+use Rattle.wm_forest.proofs.PutLemmas.{IsConFirst, sound-without}
+use Rattle.wm_forest.proofs.TimesLemmas.{times-dropped, times-kept}
 
 -- ---- ranks
 

@@ -3,22 +3,24 @@ use Rattle.std.proofs.Common.{◌≡◌, ◌≢◌, ℕ, ◌+◌, ◌≤◌, ◌
 use Rattle.std.proofs.lemmas.Bool.Decides.{nat_tests}
 use Rattle.wm_base.specs.declared.errors.Limit.TheVariants.{Ids, Workspaces}
 use Rattle.wm_base.specs.declared.ids.ConId.{ConId}
-use Rattle.wm_tree.specs.declared.part.Part.{Part}
-use Rattle.wm_tree.specs.declared.place.Place.TheVariants.{Last}
-use Rattle.wm_tree.specs.Forest.{Forest, end, con}
-use Rattle.wm_tree.specs.Change.{append, nobody, without}
-use Rattle.wm_tree.specs.Counts.{con_of, count, marks_of, row_length, space_count, space_of}
-use Rattle.wm_tree.specs.Look.{first_kids, has, in_row, kind_of, only, space_kind}
+use Rattle.wm_forest.specs.declared.part.Part.{Part}
+use Rattle.wm_forest.specs.declared.place.Place.TheVariants.{Last}
+use Rattle.wm_forest.specs.Forest.{Forest, end, con}
+use Rattle.wm_forest.specs.Change.{append, nobody, without}
+use Rattle.wm_forest.specs.Counts.{con_of, count, marks_of, row_length, space_count, space_of}
+use Rattle.wm_forest.specs.Look.{first_kids, has, in_row, kind_of, only, space_kind}
 use Rattle.wm_tree.specs.Outputs.{IsNotShown, IsOutput, new_space, passed_by_space, space_moved, with_space}
-use Rattle.wm_tree.specs.Place.{put, put_word}
-use Rattle.wm_tree.specs.Sound.{IsSound, IsSoundRow, one_of, rank_of, roots, spaces, tally}
-use Rattle.wm_tree.specs.Spot.{top}
-use Rattle.wm_tree.specs.TreeValue.{TreeValue, id, root}
+use Rattle.wm_forest.specs.Place.{put, put_word}
+use Rattle.wm_tree.specs.Sound.{IsSound}
+use Rattle.wm_forest.specs.SoundRow.{IsSoundRow, one_of, rank_of, roots, spaces, tally}
+use Rattle.wm_forest.specs.Spot.{top}
+use Rattle.wm_tree.specs.TreeValue.{TreeValue}
+use Rattle.wm_forest.specs.RootId.{id, root}
 use Rattle.wm_tree.proofs.AttachLemmas.{has_row, sound-grown}
-use Rattle.wm_tree.proofs.CountLemmas.{count-put, count-without}
+use Rattle.wm_forest.proofs.CountLemmas.{count-put, count-without}
 use Rattle.wm_tree.proofs.FocusLemmas.{has_kids}
-use Rattle.wm_tree.proofs.ForestLemmas.{append_end}
-use Rattle.wm_tree.proofs.LookLemmas.{seen-without}
+use Rattle.wm_forest.proofs.ForestLemmas.{append_end}
+use Rattle.wm_forest.proofs.LookLemmas.{seen-without}
 use Rattle.wm_tree.proofs.OutputRows.{Taken, output_found, sound-taking, spaces_counted}
 use Rattle.wm_tree.proofs.PlaceLemmas.{count_kids}
 use Rattle.wm_tree.proofs.SpaceRows.{found_space, is_apart, sound-left}

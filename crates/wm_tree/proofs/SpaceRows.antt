@@ -1,23 +1,24 @@
 -- A workspace that is taken from its output: what is left of the rows of a tree, and what was taken.
 use Rattle.std.proofs.Common.{◌≡◌, ◌≢◌, ℕ, ◌≤◌, Bool, true, false, cond, ◌||◌, List, Option, None, Some, refl, ap, sym, ◌∙◌, subst, arith}
 use Rattle.wm_base.specs.declared.ids.ConId.{ConId}
-use Rattle.wm_tree.specs.declared.part.Part.{Part}
-use Rattle.wm_tree.specs.declared.part.NodeKind.{NodeKind}
-use Rattle.wm_tree.specs.declared.part.NodeKind.TheVariants.{Root, Output, Space, Con}
-use Rattle.wm_tree.specs.declared.spot.Spot.{Spot}
-use Rattle.wm_tree.specs.Forest.{Forest, end, con}
-use Rattle.wm_tree.specs.Change.{is_id, shown_of, without}
-use Rattle.wm_tree.specs.Counts.{count, row_length}
-use Rattle.wm_tree.specs.Look.{first_kids, first_part, has, in_row, kind_by, kind_of, only, output_kind, same, space_kind}
+use Rattle.wm_forest.specs.declared.part.Part.{Part}
+use Rattle.wm_forest.specs.declared.part.NodeKind.{NodeKind}
+use Rattle.wm_forest.specs.declared.part.NodeKind.TheVariants.{Root, Output, Space, Con}
+use Rattle.wm_forest.specs.declared.spot.Spot.{Spot}
+use Rattle.wm_forest.specs.Forest.{Forest, end, con}
+use Rattle.wm_forest.specs.Change.{is_id, shown_of, without}
+use Rattle.wm_forest.specs.Counts.{count, row_length}
+use Rattle.wm_forest.specs.Look.{first_kids, first_part, has, in_row, kind_by, kind_of, only, output_kind, same, space_kind}
 use Rattle.wm_tree.specs.Outputs.{IsNotShown, IsOutput, shows}
-use Rattle.wm_tree.specs.Sound.{Level, roots, outputs, spaces, containers, below, IsNode, IsSound, IsSoundRow}
-use Rattle.wm_tree.specs.Spot.{room_below, spot_of, top}
+use Rattle.wm_forest.specs.SoundRow.{Level, roots, outputs, spaces, containers, below, IsNode, IsSoundRow}
+use Rattle.wm_tree.specs.Sound.{IsSound}
+use Rattle.wm_forest.specs.Spot.{room_below, spot_of, top}
 use Rattle.wm_tree.specs.TreeValue.{TreeValue}
-use Rattle.wm_tree.proofs.ChangeLemmas.{by_place}
-use Rattle.wm_tree.proofs.OnceLemmas.{within}
+use Rattle.wm_forest.proofs.ChangeLemmas.{by_place}
+use Rattle.wm_forest.proofs.OnceLemmas.{within}
 use Rattle.wm_tree.proofs.OutputRows.{output_found}
-use Rattle.wm_tree.proofs.RecencyLemmas.{same_is, same_self}
-use Rattle.wm_tree.proofs.RowLemmas.{kids_keep, or_keeps}
+use Rattle.wm_forest.proofs.RecencyLemmas.{same_is, same_self}
+use Rattle.wm_forest.proofs.RowLemmas.{kids_keep, or_keeps}
 
 -- ---- what is found under an id has it
 

@@ -4,12 +4,14 @@ use Rattle.std.proofs.lemmas.Bool.Decides.{nat_tests}
 use Rattle.wm_base.specs.declared.ids.ConId.{ConId}
 use Rattle.wm_base.specs.declared.plan.Border.{Border}
 use Rattle.wm_base.specs.declared.plan.OutputPlan.{OutputPlan}
-use Rattle.wm_tree.specs.Change.{nobody}
-use Rattle.wm_tree.specs.Counts.{con_count, mark_count, row_length, space_count}
-use Rattle.wm_tree.specs.Look.{in_row, same}
-use Rattle.wm_tree.specs.Sound.{FitPlans, IsSound, IsSoundRow, outputs, ranked, tally, times}
-use Rattle.wm_tree.specs.TreeValue.{id, ids_from, opening, opening_outputs, root}
-use Rattle.wm_tree.proofs.RecencyLemmas.{same_self}
+use Rattle.wm_forest.specs.Change.{nobody}
+use Rattle.wm_forest.specs.Counts.{con_count, mark_count, row_length, space_count}
+use Rattle.wm_forest.specs.Look.{in_row, same}
+use Rattle.wm_tree.specs.Sound.{FitPlans, IsSound}
+use Rattle.wm_forest.specs.SoundRow.{IsSoundRow, outputs, ranked, tally, times}
+use Rattle.wm_forest.specs.RootId.{id, root}
+use Rattle.wm_tree.specs.TreeValue.{ids_from, opening, opening_outputs}
+use Rattle.wm_forest.proofs.RecencyLemmas.{same_self}
 
 -- one where the id is among n from a on
 abbrev within : ℕ → ℕ → ConId → ℕ

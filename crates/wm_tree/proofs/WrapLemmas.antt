@@ -5,28 +5,30 @@ use Rattle.wm_base.specs.declared.errors.Limit.TheVariants.{Containers, Depth, I
 use Rattle.wm_base.specs.declared.ids.ConId.{ConId}
 use Rattle.wm_base.specs.declared.plan.Border.{Border}
 use Rattle.wm_base.specs.declared.plan.Layout.{Layout}
-use Rattle.wm_tree.specs.declared.kind.KindEdit.TheVariants as edits
-use Rattle.wm_tree.specs.declared.part.Part.{Part}
-use Rattle.wm_tree.specs.declared.part.NodeKind.{NodeKind}
-use Rattle.wm_tree.specs.declared.part.NodeKind.TheVariants.{Root, Output, Space, Con}
-use Rattle.wm_tree.specs.declared.place.NewCon.TheVariants as new
-use Rattle.wm_tree.specs.declared.spot.Spot.{Spot}
-use Rattle.wm_tree.specs.Forest.{Forest, end, con}
-use Rattle.wm_tree.specs.Change.{at}
-use Rattle.wm_tree.specs.Counts.{con_count, con_of, marks_of, row_with, share_of, space_of}
-use Rattle.wm_tree.specs.Kinds.{changed}
-use Rattle.wm_tree.specs.Look.{first_part, has, only, same}
+use Rattle.wm_forest.specs.declared.kind.KindEdit.TheVariants as edits
+use Rattle.wm_forest.specs.declared.part.Part.{Part}
+use Rattle.wm_forest.specs.declared.part.NodeKind.{NodeKind}
+use Rattle.wm_forest.specs.declared.part.NodeKind.TheVariants.{Root, Output, Space, Con}
+use Rattle.wm_forest.specs.declared.place.NewCon.TheVariants as new
+use Rattle.wm_forest.specs.declared.spot.Spot.{Spot}
+use Rattle.wm_forest.specs.Forest.{Forest, end, con}
+use Rattle.wm_forest.specs.Change.{at}
+use Rattle.wm_forest.specs.Counts.{con_count, con_of, marks_of, row_with, share_of, space_of}
+use Rattle.wm_forest.specs.Kinds.{changed}
+use Rattle.wm_forest.specs.Look.{first_part, has, only, same}
 use Rattle.wm_tree.specs.Move.{passed_by_wrap, share_by, share_in, wrap_word, wrapped}
-use Rattle.wm_tree.specs.Place.{IsTiled, is_tiled, new_part, room_by, row_room}
-use Rattle.wm_tree.specs.Sound.{Level, roots, containers, HasShare, IsNode, IsSound, IsSoundRow, one_of, rank_of}
-use Rattle.wm_tree.specs.Spot.{fits, room_below, spot_in, spot_of, top}
-use Rattle.wm_tree.specs.TreeValue.{TreeValue, id}
+use Rattle.wm_forest.specs.Place.{IsTiled, is_tiled, new_part, room_by, row_room}
+use Rattle.wm_forest.specs.SoundRow.{Level, roots, containers, HasShare, IsNode, IsSoundRow, one_of, rank_of}
+use Rattle.wm_tree.specs.Sound.{IsSound}
+use Rattle.wm_forest.specs.Spot.{fits, room_below, spot_in, spot_of, top}
+use Rattle.wm_tree.specs.TreeValue.{TreeValue}
+use Rattle.wm_forest.specs.RootId.{id}
 use Rattle.wm_tree.proofs.AttachLemmas.{sound-grown}
-use Rattle.wm_tree.proofs.CountLemmas.{count-more}
-use Rattle.wm_tree.proofs.EditLemmas.{changed_one, changed_ranks, changed_space}
-use Rattle.wm_tree.proofs.PutLemmas.{Here, IsConFirst, con_level}
-use Rattle.wm_tree.proofs.RowLemmas.{Grows, keeps_by, node_keeps}
-use Rattle.wm_tree.proofs.StandLemmas.{HasSpot, has_spot}
+use Rattle.wm_forest.proofs.CountLemmas.{count-more}
+use Rattle.wm_forest.proofs.EditLemmas.{changed_one, changed_ranks, changed_space}
+use Rattle.wm_forest.proofs.PutLemmas.{Here, IsConFirst, con_level}
+use Rattle.wm_forest.proofs.RowLemmas.{Grows, keeps_by, node_keeps}
+use Rattle.wm_forest.proofs.StandLemmas.{HasSpot, has_spot}
 
 -- ---- rows with other room
 

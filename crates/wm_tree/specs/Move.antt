@@ -5,20 +5,23 @@ use Rattle.wm_base.specs.declared.errors.Limit.{Limit}
 use Rattle.wm_base.specs.declared.errors.Limit.TheVariants.{Containers, Children, Depth, Marks, Ids}
 use Rattle.wm_base.specs.declared.ids.ConId.{ConId}
 use Rattle.wm_base.specs.declared.plan.Layout.{Layout}
-use Rattle.wm_tree.specs.declared.kind.KindEdit.TheVariants as edits
-use Rattle.wm_tree.specs.declared.part.Part.{Part}
-use Rattle.wm_tree.specs.declared.place.Place.{Place}
-use Rattle.wm_tree.specs.declared.place.NewCon.TheVariants as new
-use Rattle.wm_tree.specs.declared.place.TreeRefusal.{TreeRefusal}
-use Rattle.wm_tree.specs.declared.place.TreeRefusal.TheVariants as refusals
-use Rattle.wm_tree.specs.Forest.{Forest, end, con}
-use Rattle.wm_tree.specs.Change.{at, arriving, hole, nobody, replaced, without}
-use Rattle.wm_tree.specs.Counts.{but, con_count, mark_count, newcomer_share, row_length, share_of}
-use Rattle.wm_tree.specs.Kinds.{changed}
-use Rattle.wm_tree.specs.Look.{con_kind, first_marks, first_part, has, kind_of, only, same}
-use Rattle.wm_tree.specs.Place.{IsTiled, IsPlace, named, new_part, put, rect_at, room_at, row_room, siblings, tiles}
-use Rattle.wm_tree.specs.Spot.{fits}
-use Rattle.wm_tree.specs.TreeValue.{TreeValue, id, workspace_of}
+use Rattle.wm_forest.specs.declared.kind.KindEdit.TheVariants as edits
+use Rattle.wm_forest.specs.declared.part.Part.{Part}
+use Rattle.wm_forest.specs.declared.place.Place.{Place}
+use Rattle.wm_forest.specs.declared.place.NewCon.TheVariants as new
+use Rattle.wm_tree.specs.declared.refusal.TreeRefusal.{TreeRefusal}
+use Rattle.wm_tree.specs.declared.refusal.TreeRefusal.TheVariants as refusals
+use Rattle.wm_forest.specs.Exchange.{exchanged_nodes}
+use Rattle.wm_forest.specs.Forest.{Forest, end, con}
+use Rattle.wm_forest.specs.Change.{at, arriving, hole, nobody, replaced, without}
+use Rattle.wm_forest.specs.Counts.{but, con_count, mark_count, newcomer_share, row_length, share_of}
+use Rattle.wm_forest.specs.Kinds.{changed}
+use Rattle.wm_forest.specs.Look.{con_kind, first_marks, first_part, has, kind_of, only, same}
+use Rattle.wm_forest.specs.Marks.{marks_word, unmark_word}
+use Rattle.wm_forest.specs.Place.{IsTiled, IsPlace, named, new_part, put, rect_at, room_at, row_room, siblings, tiles}
+use Rattle.wm_forest.specs.Spot.{fits}
+use Rattle.wm_tree.specs.TreeValue.{TreeValue, workspace_of}
+use Rattle.wm_forest.specs.RootId.{id}
 
 -- ---- moving
 
@@ -96,16 +99,6 @@ IsWrapCause t c refusals.NoMemory = (has c t.nodes ≡ true) × (passed_by_wrap 
 
 -- ---- exchanging
 
--- a hole stands in the place of a
-abbrev pub holed : ConId → Forest → Forest
-holed a forest = replaced a hole forest
-
--- a stands in the place of b with the share sb, and b in the place of a with the share sa
-abbrev pub exchanged_nodes : ConId → ConId → ℕ → ℕ → Bool → Forest → Forest
-exchanged_nodes a b sa sb away forest =
-    replaced nobody (arriving sa None away (only b (holed a forest)))
-    (replaced b (arriving sb None away (only a forest)) (holed a forest))
-
 -- the two change places; the shares stay with the places
 abbrev pub exchanged : ConId → ConId → TreeValue → TreeValue
 exchanged a b t = record t { nodes = exchanged_nodes a b (share_in a t.nodes) (share_in b t.nodes) (apart t a b) t.nodes }
@@ -126,9 +119,6 @@ IsExchangeCause t a b refusals.NoMemory = ⊥
 
 -- ---- marks and urgency
 
-abbrev pub marks_word : List (List ℕ) → Part → Forest → Forest → Forest → Forest
-marks_word marks part kids floats rest = con (record part { marks = marks }) kids floats rest
-
 -- the marks of the node c
 abbrev pub marks_in : ConId → Forest → List (List ℕ)
 marks_in c forest = first_marks (only c forest)
@@ -140,14 +130,6 @@ with_marks c marks t = record t { nodes = at c marks_word marks t.nodes }
 -- the mark put last among those of c
 abbrev pub marked : ConId → List ℕ → TreeValue → TreeValue
 marked c n t = with_marks c (marks_in c t.nodes ++ n ∷ []) t
-
--- marks without this one
-abbrev pub other_marks : List ℕ → List (List ℕ) → List (List ℕ)
-other_marks n marks = filter (λ m. not (bytes_eq m n)) marks
-
--- the node c without the mark
-abbrev pub unmark_word : List ℕ → Part → Forest → Forest → Forest → Forest
-unmark_word n part kids floats rest = con (record part { marks = other_marks n part.marks }) kids floats rest
 
 abbrev pub unmarked : ConId → List ℕ → TreeValue → TreeValue
 unmarked c n t = record t { nodes = at c unmark_word n t.nodes }

@@ -4,17 +4,19 @@ use Rattle.wm_base.specs.declared.errors.Limit.{Limit}
 use Rattle.wm_base.specs.declared.errors.Limit.TheVariants.{Ids, Outputs, Workspaces}
 use Rattle.wm_base.specs.declared.ids.ConId.{ConId}
 use Rattle.wm_base.specs.declared.plan.OutputPlan.{OutputPlan}
-use Rattle.wm_tree.specs.declared.kind.KindEdit.TheVariants as edits
-use Rattle.wm_tree.specs.declared.part.Part.{Part}
-use Rattle.wm_tree.specs.declared.place.Place.TheVariants.{Last}
-use Rattle.wm_tree.specs.declared.place.TreeRefusal.{TreeRefusal}
-use Rattle.wm_tree.specs.declared.place.TreeRefusal.TheVariants as refusals
-use Rattle.wm_tree.specs.Change.{append, at, is_id, shown_of, without}
-use Rattle.wm_tree.specs.Counts.{but, count, row_length, space_count}
-use Rattle.wm_tree.specs.Forest.{Forest, end, con}
-use Rattle.wm_tree.specs.Look.{first_floats, first_kids, has, in_row, kind_of, nth_id, only, same, space_kind}
-use Rattle.wm_tree.specs.Place.{put}
-use Rattle.wm_tree.specs.TreeValue.{TreeValue, current, id, output_part, root, space_part}
+use Rattle.wm_forest.specs.declared.kind.KindEdit.TheVariants as edits
+use Rattle.wm_forest.specs.declared.part.Part.{Part}
+use Rattle.wm_forest.specs.declared.place.Place.TheVariants.{Last}
+use Rattle.wm_tree.specs.declared.refusal.TreeRefusal.{TreeRefusal}
+use Rattle.wm_tree.specs.declared.refusal.TreeRefusal.TheVariants as refusals
+use Rattle.wm_forest.specs.Change.{append, at, is_id, shown_of, without}
+use Rattle.wm_forest.specs.Counts.{but, count, row_length, space_count}
+use Rattle.wm_forest.specs.Forest.{Forest, end, con}
+use Rattle.wm_forest.specs.Look.{first_floats, first_kids, has, in_row, kind_of, nth_id, only, same, space_kind}
+use Rattle.wm_forest.specs.Place.{put}
+use Rattle.wm_forest.specs.Taking.{heir, taking_in}
+use Rattle.wm_tree.specs.TreeValue.{TreeValue, current, output_part, space_part}
+use Rattle.wm_forest.specs.RootId.{id, root}
 use Rattle.wm_tree.specs.Words.{edited}
 
 -- o is one of the outputs
@@ -100,14 +102,6 @@ IsSpaceMoveCause t w o (refusals.Full limit) = ⊥
 IsSpaceMoveCause t w o refusals.NoMemory = ⊥
 
 -- ---- an output that goes
-
--- the first of the other outputs
-abbrev pub heir : ConId → Forest → Option ConId
-heir o forest = nth_id 0 (but o (first_kids forest))
-
--- what a node holds comes last in another one
-abbrev pub taking_in : Forest → Part → Forest → Forest → Forest → Forest
-taking_in gone part kids floats rest = con part (append kids (first_kids gone)) (append floats (first_floats gone)) rest
 
 -- the output h is current where o was
 abbrev pub yielded : ConId → ConId → TreeValue → TreeValue

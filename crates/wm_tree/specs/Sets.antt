@@ -1,9 +1,9 @@
 -- Changing one part of a tree alone.
 use Rattle.std.specs.Prelude.{◌≡◌, true, Option, None, Some}
 use Rattle.wm_base.specs.declared.ids.ConId.{ConId}
-use Rattle.wm_tree.specs.declared.kind.KindEdit.TheVariants as edits
-use Rattle.wm_tree.specs.Forest.{Forest}
-use Rattle.wm_tree.specs.Look.{first_kids, in_row, only}
+use Rattle.wm_forest.specs.declared.kind.KindEdit.TheVariants as edits
+use Rattle.wm_forest.specs.Forest.{Forest}
+use Rattle.wm_forest.specs.Look.{first_kids, in_row, only}
 use Rattle.wm_tree.specs.TreeValue.{TreeValue, parent}
 use Rattle.wm_tree.specs.Words.{edited}
 

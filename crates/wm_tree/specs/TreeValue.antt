@@ -7,18 +7,20 @@ use Rattle.wm_base.specs.declared.ids.ConId.{ConId}
 use Rattle.wm_base.specs.declared.plan.Border.{Border}
 use Rattle.wm_base.specs.declared.plan.Layout.TheVariants.{SplitH}
 use Rattle.wm_base.specs.declared.plan.OutputPlan.{OutputPlan}
-use Rattle.wm_tree.specs.declared.part.Part.{Part}
-use Rattle.wm_tree.specs.declared.part.NodeKind.{NodeKind}
-use Rattle.wm_tree.specs.declared.part.NodeKind.TheVariants.{Root, Output, Space, Con}
-use Rattle.wm_tree.specs.declared.place.Place.{Place}
-use Rattle.wm_tree.specs.declared.place.Place.TheVariants.{After, Last}
-use Rattle.wm_tree.specs.declared.spot.Spot.{Spot}
-use Rattle.wm_tree.specs.Forest.{Forest, end, con}
-use Rattle.wm_tree.specs.ForestCode.{forest_code}
-use Rattle.wm_tree.specs.Change.{shown_of}
-use Rattle.wm_tree.specs.Look.{has, only, node_in, first_alone, first_kids, first_part, kind_by, same}
-use Rattle.wm_tree.specs.Recency.{first_held}
-use Rattle.wm_tree.specs.Spot.{spot_in, top}
+use Rattle.wm_forest.specs.declared.part.Part.{Part}
+use Rattle.wm_forest.specs.declared.part.NodeKind.{NodeKind}
+use Rattle.wm_forest.specs.declared.part.NodeKind.TheVariants.{Root, Output, Space, Con}
+use Rattle.wm_forest.specs.declared.place.Place.{Place}
+use Rattle.wm_forest.specs.declared.place.Place.TheVariants.{After, Last}
+use Rattle.wm_forest.specs.declared.spot.Spot.{Spot}
+use Rattle.wm_forest.specs.Forest.{Forest, end, con}
+use Rattle.wm_forest.specs.ForestCode.{forest_code}
+use Rattle.wm_forest.specs.Change.{shown_of}
+use Rattle.wm_forest.specs.Look.{has, only, node_in, first_alone, first_kids, first_part, kind_by, same}
+use Rattle.wm_forest.specs.Focus.{focused_in, leaf_of, tiled_kids}
+use Rattle.wm_forest.specs.Recency.{first_held}
+use Rattle.wm_forest.specs.RootId.{current_of, id, root}
+use Rattle.wm_forest.specs.Spot.{spot_in, top}
 
 pub record TreeValue : Type 0 where
   -- the root: its children are the outputs, and its second row is the scratchpad
@@ -35,13 +37,6 @@ pub record TreeValue : Type 0 where
   pub border : Border
   pub inner : ℕ
   pub outer : ℕ
-
-abbrev pub id : ℕ → ConId
-id n = record { 0 = n }
-
--- the node that holds the outputs and the scratchpad
-abbrev pub root : ConId
-root = id 1
 
 -- ---- the opening tree
 
@@ -111,13 +106,6 @@ opening plans border inner outer = record {
 
 -- ---- looking
 
--- the current output, or the root where the forest has none
-abbrev pub current_of : NodeKind → ConId
-current_of (Root c) = c
-current_of (Output o) = root
-current_of (Space s) = root
-current_of (Con c) = root
-
 abbrev pub current_in : Option Part → ConId
 current_in None = root
 current_in (Some part) = current_of part.kind
@@ -156,58 +144,9 @@ parent t c = option_and_then (λ (s : Spot). s.holder) (spot t c)
 abbrev pub workspace_of : TreeValue → ConId → Option ConId
 workspace_of t c = option_and_then (λ (s : Spot). s.space) (spot t c)
 
--- ---- the children, floating windows and marks of a node
-
--- a workspace's or container's row of children; those of other nodes are not tiled
-abbrev pub tiled_by : NodeKind → Forest → Forest
-tiled_by (Root c) kids = end
-tiled_by (Output o) kids = end
-tiled_by (Space s) kids = kids
-tiled_by (Con c) kids = kids
-
-abbrev pub tiled_kids : Forest → Forest
-tiled_kids end = end
-tiled_kids (con part kids floats rest) = tiled_by part.kind kids
-
-abbrev pub floats_by : NodeKind → Forest → Forest
-floats_by (Root c) floats = end
-floats_by (Output o) floats = end
-floats_by (Space s) floats = floats
-floats_by (Con c) floats = end
-
--- a workspace's floating windows; other nodes have none
-abbrev pub floating_row : Forest → Forest
-floating_row end = end
-floating_row (con part kids floats rest) = floats_by part.kind floats
-
--- the node of a row that holds c, or is it
-abbrev pub row_holder : ConId → Forest → Option ConId
-row_holder c end = None
-row_holder c (con part kids floats rest) = if has c (con part kids floats end) then Some part.id else row_holder c rest
-
--- the child of a row whose subtree holds the first of the ids that any has
-abbrev pub focused_in : List ConId → Forest → Option ConId
-focused_in ids row = option_and_then (λ c. row_holder c row) (first_held row ids)
-
 -- the tiled child of c that is the most recent, by itself or what is below it
 abbrev pub focused_child : TreeValue → ConId → Option ConId
 focused_child t c = focused_in t.recency (tiled_kids (only c t.nodes))
-
-abbrev pub follow : ConId → (ConId → ConId) → Option ConId → ConId
-follow d f None = d
-follow d f (Some c) = f c
-
--- from the node of a row that holds c on, by the focused child until there is none
-abbrev pub leaf_at : List ConId → Forest → ConId → ConId
-leaf_at ids end c = c
-leaf_at ids (con part kids floats rest) c =
-    if has c (con part kids floats end)
-    then follow part.id (leaf_at ids kids) (first_held kids ids)
-    else leaf_at ids rest c
-
-abbrev pub leaf_of : List ConId → Forest → Option ConId
-leaf_of ids end = None
-leaf_of ids (con part kids floats rest) = Some (follow part.id (leaf_at ids kids) (first_held (tiled_by part.kind kids) ids))
 
 -- the node that is reached from c by the focused child until there is none
 abbrev pub leaf : TreeValue → ConId → Option ConId

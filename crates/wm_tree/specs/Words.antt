@@ -1,19 +1,20 @@
 -- The words in which trees change: each gives the tree back where the node is not there.
 use Rattle.std.specs.Prelude.{◌≡◌, ◌+◌, true, false, [], ◌∷◌, ◌++◌, Option, None, Some}
 use Rattle.wm_base.specs.declared.ids.ConId.{ConId}
-use Rattle.wm_tree.specs.declared.kind.KindEdit.{KindEdit}
-use Rattle.wm_tree.specs.declared.place.Place.{Place}
-use Rattle.wm_tree.specs.declared.place.NewCon.{NewCon}
-use Rattle.wm_tree.specs.declared.place.TreeRefusal.{TreeRefusal}
-use Rattle.wm_tree.specs.declared.place.TreeRefusal.TheVariants as refusals
-use Rattle.wm_tree.specs.Forest.{Forest, end, con}
-use Rattle.wm_tree.specs.Change.{at, raised_in, settled_row, without}
-use Rattle.wm_tree.specs.Kinds.{kind_changed}
-use Rattle.wm_tree.specs.Look.{has, only}
-use Rattle.wm_tree.specs.Place.{named, new_part, passed_limit, put, rect_at, share_at}
-use Rattle.wm_tree.specs.Recency.{outside, raised, without_id}
-use Rattle.wm_tree.specs.Settle.{vacated}
-use Rattle.wm_tree.specs.TreeValue.{TreeValue, id, workspace_of}
+use Rattle.wm_forest.specs.declared.kind.KindEdit.{KindEdit}
+use Rattle.wm_forest.specs.declared.place.Place.{Place}
+use Rattle.wm_forest.specs.declared.place.NewCon.{NewCon}
+use Rattle.wm_tree.specs.declared.refusal.TreeRefusal.{TreeRefusal}
+use Rattle.wm_tree.specs.declared.refusal.TreeRefusal.TheVariants as refusals
+use Rattle.wm_forest.specs.Forest.{Forest, end, con}
+use Rattle.wm_forest.specs.Change.{at, raised_at, settled_row, without}
+use Rattle.wm_forest.specs.Kinds.{kind_changed}
+use Rattle.wm_forest.specs.Look.{has, only}
+use Rattle.wm_forest.specs.Place.{named, new_part, passed_limit, put, rect_at, share_at}
+use Rattle.wm_forest.specs.Recency.{outside, raised, without_id}
+use Rattle.wm_forest.specs.Settle.{vacated}
+use Rattle.wm_tree.specs.TreeValue.{TreeValue, workspace_of}
+use Rattle.wm_forest.specs.RootId.{id}
 
 -- a newcomer at the place, under the next id, the least recent of all
 abbrev pub attached : Place → NewCon → TreeValue → TreeValue
@@ -34,11 +35,6 @@ detached c t = record t {
 -- the tree with a change of the node c
 abbrev pub edited : ConId → KindEdit → TreeValue → TreeValue
 edited c edit t = record t { nodes = at c kind_changed edit t.nodes }
-
--- the forest in which c is raised in this workspace
-abbrev pub raised_at : ConId → Option ConId → Forest → Forest
-raised_at c None forest = forest
-raised_at c (Some w) forest = at w raised_in c forest
 
 -- the node c is the most recent, no longer urgent, the last of the floating windows where it is one of them,
 -- and no other container of its workspace is fullscreen

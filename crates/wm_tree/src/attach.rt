@@ -1,22 +1,21 @@
 //! Putting a container into the tree.
 ghost use Rattle.std.specs.Prelude.{◌≡◌, ◌≢◌, ◌≤◌, false, true, Err, None, IfOk, IfErr, OnOk, OnErr, IfSome, MatchOption};
-ghost use Rattle.wm_tree.specs.Counts.{newcomer_share, row_length};
-ghost use Rattle.wm_tree.specs.Look.{first_part, has, only, same};
-ghost use Rattle.wm_tree.specs.Forest.{end, con};
-ghost use Rattle.wm_tree.specs.Place.{IsPlace, named, new_part, passed_limit, put, rect_at, room_at, room_by, room_under, row_room, share_at, siblings};
+ghost use Rattle.wm_forest.specs.Counts.{newcomer_share, row_length};
+ghost use Rattle.wm_forest.specs.Look.{first_part, has, only, same};
+ghost use Rattle.wm_forest.specs.Forest.{end, con};
+ghost use Rattle.wm_forest.specs.Place.{IsPlace, named, new_part, passed_limit, put, rect_at, room_at, room_by, room_under, row_room, share_at, siblings};
 ghost use Rattle.wm_tree.specs.Sound.{IsSound};
-ghost use Rattle.wm_tree.specs.Spot.{spot_in};
-ghost use Rattle.wm_tree.specs.TreeValue.{id};
+ghost use Rattle.wm_forest.specs.Spot.{spot_in};
+ghost use Rattle.wm_forest.specs.RootId.{id};
 ghost use Rattle.wm_base.specs.declared.ids.ConId.{ConId};
 ghost use Rattle.wm_tree.specs.Words.{attached, IsAttachCause};
-ghost use Rattle.wm_tree.specs.declared.place.TreeRefusal.TheVariants.{Full, Missing};
-ghost use Rattle.wm_tree.specs.declared.place.TreeRefusal.TheVariants as refusals;
+ghost use Rattle.wm_tree.specs.declared.refusal.TreeRefusal.TheVariants.{Full, Missing};
+ghost use Rattle.wm_tree.specs.declared.refusal.TreeRefusal.TheVariants as refusals;
 
-use crate::place::{NewCon, Place, Put, TreeRefusal};
-use crate::row::Row;
-use crate::spot::{MAX_DEPTH, Spot, TOP, room_below};
+use crate::refusal::{TreeRefusal, full};
 use crate::tree::Tree;
 use wm_base::{ConId, Limit};
+use wm_forest::{NewCon, Place, Row};
 
 /// How many containers a tree has at most.
 pub(crate) const MAX_CONTAINERS: usize = 4_096;
@@ -29,7 +28,7 @@ pub(crate) const MAX_ID: u32 = 4_000_000_000;
 
 impl Tree {
     /// Puts a container at a place, under the next id and the least recent of all, and gives its id.
-    #[tactic(auto, using(crate::proofs::ForestLemmas::at_same))]
+    #[tactic(auto, using(wm_forest::proofs::ForestLemmas::at_same))]
     pub fn attach(&mut self, at: Place, new: NewCon) -> Result<ConId, TreeRefusal>
         ensures ok { OnOk result (self.new ≡ attached at new self.old) }
         ensures id { IfOk result (λ new_id. new_id ≡ id self.old.next_id) }
@@ -101,83 +100,5 @@ impl Tree {
         } else {
             0
         })
-    }
-}
-
-/// The refusal of a change that would pass this limit.
-pub(crate) fn full(limit: Limit) -> TreeRefusal
-    ensures { result ≡ Full limit }
-{
-    TreeRefusal::Full { limit }
-}
-
-impl Row {
-    /// Puts the nodes of a row at a place, where its node is here.
-    pub(crate) fn put(&mut self, at: Place, row: Row)
-        ensures { self.new ≡ put at row self.old }
-    {
-        drop(self.change(at.named(), Put { at, row }));
-    }
-
-    /// The row in which a newcomer at this place stands. `None` exactly where its node is not here.
-    pub(crate) fn siblings(&self, at: Place) -> Option<&Row>
-        ensures { MatchOption result (has (named at) self.now ≡ false)
-            (λ row. (has (named at) self.now ≡ true) × (row.now ≡ siblings at self.now)) }
-    {
-        match at {
-            Place::After(con) | Place::Before(con) => self.row_with(self, con),
-            Place::First(con) | Place::Last(con) => match self.find(con) {
-                Some(cell) => Some(&cell.kids),
-                None => None,
-            },
-            Place::Float(..) | Place::Scratchpad(_) => match self.find(at.named()) {
-                Some(cell) => Some(&cell.floats),
-                None => None,
-            },
-        }
-    }
-
-    /// How many levels the row of a newcomer at this place may have.
-    pub(crate) fn room_at(&self, at: Place) -> u32
-        ensures { result ≡ room_at at self.now }
-    {
-        match at {
-            Place::After(con) | Place::Before(con) => self.row_room(con),
-            Place::First(con) | Place::Last(con) => self.room_under(TOP, con).unwrap_or(0),
-            Place::Float(..) | Place::Scratchpad(_) => MAX_DEPTH,
-        }
-    }
-
-    /// How many levels there may be below the node; `row` tells where this row stands. `None` exactly where the node
-    /// is not here.
-    fn room_under(&self, row: Spot, id: ConId) -> Option<u32>
-        ensures { MatchOption result
-            ((has id self.now ≡ false) × (room_under (room_by (spot_in row id self.now)) (first_part (only id self.now)) ≡ 0))
-            (λ room. (has id self.now ≡ true) × (room ≡ room_under (room_by (spot_in row id self.now)) (first_part (only id self.now)))) }
-    {
-        let cell = match &self.first {
-            None => return None,
-            Some(cell) => cell,
-        };
-        if cell.part.id == id {
-            return Some(room_below(row.room, &cell.part.kind));
-        }
-        if let Some(room) = cell.kids.room_under(row.below(true, &cell.part), id) {
-            return Some(room);
-        }
-        if let Some(room) = cell.floats.room_under(row.below(false, &cell.part), id) {
-            return Some(room);
-        }
-        cell.rest.room_under(row, id)
-    }
-
-    /// How many levels the row of the node may have.
-    pub(crate) fn row_room(&self, con: ConId) -> u32
-        ensures { result ≡ row_room con self.now }
-    {
-        match self.spot(TOP, con) {
-            Some(spot) => spot.room,
-            None => 0,
-        }
     }
 }

@@ -1,17 +1,16 @@
 //! Placeholders that become windows.
 ghost use Rattle.std.specs.Prelude.{◌≡◌, false, true, Err, IfErr, OnOk, OnErr};
-ghost use Rattle.wm_tree.specs.Look.{has};
+ghost use Rattle.wm_forest.specs.Look.{has};
 ghost use Rattle.wm_tree.specs.Sound.{IsSound};
 ghost use Rattle.wm_tree.specs.Words.{edited};
-ghost use Rattle.wm_tree.specs.declared.kind.KindEdit.TheVariants as edits;
-ghost use Rattle.wm_tree.specs.declared.place.TreeRefusal.TheVariants.{Missing};
-ghost use Rattle.wm_tree.specs.declared.place.TreeRefusal.TheVariants as refusals;
+ghost use Rattle.wm_forest.specs.declared.kind.KindEdit.TheVariants as edits;
+ghost use Rattle.wm_tree.specs.declared.refusal.TreeRefusal.TheVariants.{Missing};
+ghost use Rattle.wm_tree.specs.declared.refusal.TreeRefusal.TheVariants as refusals;
 
-use crate::copy::copy_props;
-use crate::kind::KindEdit;
-use crate::place::TreeRefusal;
+use crate::refusal::TreeRefusal;
 use crate::tree::Tree;
 use wm_base::{ConId, Props, Size};
+use wm_forest::{KindEdit, copy_props};
 
 impl Tree {
     /// Makes the placeholder a window of the caller with the number `owner`, with these properties and this natural

@@ -1,6 +1,6 @@
 //! The lists of a tree, whole.
 ghost use Rattle.std.specs.Prelude.{◌≡◌};
-ghost use Rattle.wm_tree.specs.Look.{first_marks, only};
+ghost use Rattle.wm_forest.specs.Look.{first_marks, only};
 
 use crate::tree::Tree;
 use wm_base::{ConId, Text};

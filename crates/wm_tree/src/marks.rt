@@ -1,81 +1,24 @@
 //! Marks of containers, and urgent windows.
 ghost use Rattle.std.specs.Prelude.{None, ◌≢◌, ◌≡◌, ◌++◌, ◌∷◌, ◌≤◌, [], false, true, Err, IfOk, IfErr, OnOk, OnErr};
-ghost use Rattle.wm_tree.specs.Look.{con_kind, has, kind_of};
+ghost use Rattle.wm_forest.specs.Look.{con_kind, has, kind_of};
 ghost use Rattle.wm_tree.specs.Sound.{IsSound};
-ghost use Rattle.wm_tree.specs.Move.{is_full_of_marks, marked, marks_in, marks_word, other_marks, unmark_word, unmarked, IsMarkCause};
-ghost use Rattle.wm_tree.specs.Recency.{without_id};
-ghost use Rattle.wm_tree.specs.declared.place.TreeRefusal.TheVariants.{Full, Missing};
-ghost use Rattle.wm_tree.specs.declared.place.TreeRefusal.TheVariants as refusals;
+ghost use Rattle.wm_tree.specs.Move.{is_full_of_marks, marked, marks_in, unmarked, IsMarkCause};
+ghost use Rattle.wm_forest.specs.Marks.{marks_word, other_marks, unmark_word};
+ghost use Rattle.wm_forest.specs.Recency.{without_id};
+ghost use Rattle.wm_tree.specs.declared.refusal.TreeRefusal.TheVariants.{Full, Missing};
+ghost use Rattle.wm_tree.specs.declared.refusal.TreeRefusal.TheVariants as refusals;
 ghost use Rattle.wm_base.specs.declared.errors.Limit.TheVariants as limits;
 
-use crate::attach::full;
-use crate::copy::copy_texts_and;
-use crate::edit::Edit;
-use crate::place::TreeRefusal;
-use crate::recency;
-use crate::row::{Cell, Row};
+use crate::refusal::{TreeRefusal, full};
 use crate::tree::Tree;
-use std::alloc::Global;
-use std::mem;
 use wm_base::{ConId, Limit, List, Text};
+use wm_forest::{SetMarks, Unmark, copy_texts_and, recency};
 
 /// How many marks a tree has at most.
 const MAX_MARKS: usize = 1_024;
 
 /// How many marks a container has at most.
 const MAX_MARKS_OF_ONE: usize = 32;
-
-/// Other marks for a container.
-#[derive(Drop)]
-struct SetMarks(List<Text>);
-
-impl Edit for SetMarks {
-    ghost word = { λ x. marks_word x.0 };
-
-    fn edit(self, row: &mut Row) {
-        let SetMarks(marks) = self;
-        if let Some(cell) = &mut row.first {
-            cell.part.marks = marks;
-        }
-    }
-}
-
-/// Taking a mark from a container.
-#[derive(Drop)]
-struct Unmark<'a> {
-    alloc: Global,
-    name: &'a Text,
-}
-
-impl<'a> Edit for Unmark<'a> {
-    ghost word = { λ x. unmark_word x.name.now };
-
-    fn edit(self, row: &mut Row) {
-        if let Some(cell) = &mut row.first {
-            cell.unmark(self.alloc, self.name);
-        }
-    }
-}
-
-impl Cell {
-    /// Takes a mark from the node.
-    fn unmark(&mut self, alloc: Global, name: &Text)
-        ensures part { self.new.part ≡ record self.old.part { marks = other_marks name.now self.old.part.marks } }
-        ensures rest { (self.new.kids ≡ self.old.kids) × (self.new.floats ≡ self.old.floats) × (self.new.rest ≡ self.old.rest) }
-    {
-        let marks = mem::replace(&mut self.part.marks, List::of(Vec::new(alloc)));
-        let mut marks = marks.into_vec();
-        retain_others(&mut marks, name.as_str());
-        self.part.marks = List::of(marks);
-    }
-}
-
-/// Takes a mark out, wherever it stands.
-fn retain_others(marks: &mut Vec<Text>, name: &str)
-    ensures { marks.new.items ≡ other_marks name.now marks.old.items }
-{
-    marks.retain(|mark| mark.as_str() != name);
-}
 
 impl Tree {
     /// Puts the mark last among the container's. No container has it yet, and it has 1 to 256 bytes.

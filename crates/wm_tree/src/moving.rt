@@ -1,26 +1,26 @@
 //! Moving, wrapping and exchanging containers.
 ghost use Rattle.std.specs.Prelude.{◌≡◌, ◌≢◌, ◌≤◌, false, true, Err, None, IfOk, IfErr, OnOk, OnErr, IfSome, MatchOption, IsOk, is_some};
-ghost use Rattle.wm_tree.specs.Change.{arriving, hole};
-ghost use Rattle.wm_tree.specs.Look.{has, only};
-ghost use Rattle.wm_tree.specs.Move.{IsExchange, IsMove, apart, exchanged, exchanged_nodes, is_too_deep, moved, moved_share, passed_by_move, passed_by_wrap, same_space, share_in, wrap_word, wrapped, IsExchangeCause, IsMoveCause, IsWrapCause};
-ghost use Rattle.wm_tree.specs.Place.{IsTiled, named, put};
+ghost use Rattle.wm_forest.specs.Change.{arriving, hole};
+ghost use Rattle.wm_forest.specs.Look.{has, only};
+ghost use Rattle.wm_tree.specs.Move.{IsExchange, IsMove, apart, exchanged, is_too_deep, moved, moved_share, passed_by_move, passed_by_wrap, same_space, share_in, wrap_word, wrapped, IsExchangeCause, IsMoveCause, IsWrapCause};
+ghost use Rattle.wm_forest.specs.Exchange.{exchanged_nodes};
+ghost use Rattle.wm_forest.specs.Place.{IsTiled, named, put};
 ghost use Rattle.wm_base.specs.declared.ids.ConId.{ConId};
-ghost use Rattle.wm_tree.specs.Sound.{IsSound, tally};
-ghost use Rattle.wm_tree.specs.Row.{alone};
-ghost use Rattle.wm_tree.specs.TreeValue.{id, parent};
-ghost use Rattle.wm_tree.specs.declared.place.TreeRefusal.TheVariants.{Full, Missing};
-ghost use Rattle.wm_tree.specs.declared.place.TreeRefusal.TheVariants as refusals;
+ghost use Rattle.wm_tree.specs.Sound.{IsSound};
+ghost use Rattle.wm_forest.specs.SoundRow.{tally};
+ghost use Rattle.wm_forest.specs.Row.{alone};
+ghost use Rattle.wm_forest.specs.RootId.{id};
+ghost use Rattle.wm_tree.specs.TreeValue.{parent};
+ghost use Rattle.wm_tree.specs.declared.refusal.TreeRefusal.TheVariants.{Full, Missing};
+ghost use Rattle.wm_tree.specs.declared.refusal.TreeRefusal.TheVariants as refusals;
 ghost use Rattle.wm_base.specs.declared.errors.Limit.TheVariants as limits;
 
-use crate::attach::{MAX_CHILDREN, MAX_CONTAINERS, MAX_ID, full};
-use crate::change::NOBODY;
-use crate::edit::Edit;
-use crate::kind::KindEdit;
-use crate::place::{NewCon, Place, TreeRefusal};
-use crate::row::{Cell, Row};
+use crate::attach::{MAX_CHILDREN, MAX_CONTAINERS, MAX_ID};
+use crate::refusal::{TreeRefusal, full};
 use crate::tree::Tree;
 use std::mem;
-use wm_base::{ConId, Layout, Limit, Rect};
+use wm_base::{ConId, Layout, Limit};
+use wm_forest::{Cell, Edit, KindEdit, NewCon, Place, Row};
 
 /// The share of a container that a split holds alone.
 const WHOLE_SHARE: u32 = 65_536;
@@ -188,31 +188,5 @@ impl Tree {
             return Err(full(Limit::Depth));
         }
         Ok((first.part.kind.share(), second.part.kind.share()))
-    }
-}
-
-impl Row {
-    /// Makes the first node ready for its new place.
-    fn arrive(&mut self, share: u32, rect: Option<Rect>, away: bool)
-        ensures { self.new ≡ arriving share rect away self.old }
-    {
-        if let Some(cell) = &mut self.first {
-            cell.arrive(share, rect, away);
-        }
-    }
-
-    /// Two containers change places by a cell that is a hole. Each has the share of its old place beside it.
-    fn exchange(&mut self, spare: &mut Cell, a: (ConId, u32), b: (ConId, u32), away: bool)
-        requires hole { alone spare.old ≡ hole }
-        requires first { has a.0 self.old ≡ true }
-        requires second { has b.0 self.old ≡ true }
-        ensures { has b.0 (only a.0 self.old) ≡ false →
-            self.new ≡ exchanged_nodes a.0 b.0 a.1 b.1 away self.old }
-    {
-        self.swap(a.0, spare);
-        spare.arrive(b.1, None, away);
-        self.swap(b.0, spare);
-        spare.arrive(a.1, None, away);
-        self.swap(NOBODY, spare);
     }
 }

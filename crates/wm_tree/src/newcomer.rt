@@ -1,14 +1,13 @@
 //! Where a new window goes.
 ghost use Rattle.std.specs.Prelude.{◌≡◌, true};
-ghost use Rattle.wm_tree.specs.Look.{has};
-ghost use Rattle.wm_tree.specs.Place.{IsPlace, named};
+ghost use Rattle.wm_forest.specs.Look.{has};
+ghost use Rattle.wm_forest.specs.Place.{IsPlace, named};
 ghost use Rattle.wm_tree.specs.Sound.{IsSound};
 ghost use Rattle.wm_tree.specs.TreeValue.{is_con_kind, is_tiled_con, newcomer_place};
 
-use crate::part::NodeKind;
-use crate::place::Place;
 use crate::tree::Tree;
 use wm_base::ConId;
+use wm_forest::{NodeKind, Place};
 
 impl Tree {
     /// Where a new window goes: last into a focused workspace, after the focused container where that is tiled, and

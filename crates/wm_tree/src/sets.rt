@@ -1,16 +1,16 @@
 //! Changing one part of the tree alone.
 ghost use Rattle.std.specs.Prelude.{◌≡◌, true};
-ghost use Rattle.wm_tree.specs.Look.{first_kids, in_row};
+ghost use Rattle.wm_forest.specs.Look.{first_kids, in_row};
 ghost use Rattle.wm_tree.specs.Sets.{IsShowable, with_shown};
-ghost use Rattle.wm_tree.specs.TreeValue.{parent, root};
+ghost use Rattle.wm_tree.specs.TreeValue.{parent};
+ghost use Rattle.wm_forest.specs.RootId.{root};
 ghost use Rattle.wm_tree.specs.Sound.{IsSound};
 ghost use Rattle.wm_tree.specs.Words.{edited};
-ghost use Rattle.wm_tree.specs.declared.kind.KindEdit.TheVariants as edits;
+ghost use Rattle.wm_forest.specs.declared.kind.KindEdit.TheVariants as edits;
 
-use crate::kind::KindEdit;
-use crate::part::ConState;
-use crate::tree::{ROOT, Tree};
+use crate::tree::Tree;
 use wm_base::{Border, ConId, Edges, Text};
+use wm_forest::{ConState, KindEdit, ROOT};
 
 impl Tree {
     /// Makes the change of the node, where that is there.

@@ -1,17 +1,17 @@
 //! Workspaces that come and move.
 ghost use Rattle.std.specs.Prelude.{◌≡◌, ◌≢◌, ◌≤◌, false, true, Err, None, IfOk, IfErr, OnOk, OnErr, IfSome, IsOk};
-ghost use Rattle.wm_tree.specs.Look.{has};
+ghost use Rattle.wm_forest.specs.Look.{has};
 ghost use Rattle.wm_tree.specs.Outputs.{IsOutput, IsSpaceCause, IsSpaceMove, IsSpaceMoveCause, new_space, passed_by_space, space_moved, with_space};
 ghost use Rattle.wm_tree.specs.Sound.{IsSound};
-ghost use Rattle.wm_tree.specs.TreeValue.{id};
-ghost use Rattle.wm_tree.specs.declared.place.TreeRefusal.TheVariants.{Full, Missing};
+ghost use Rattle.wm_forest.specs.RootId.{id};
+ghost use Rattle.wm_tree.specs.declared.refusal.TreeRefusal.TheVariants.{Full, Missing};
 
-use crate::attach::{MAX_ID, full};
-use crate::place::{Place, TreeRefusal};
-use crate::row::Row;
+use crate::attach::MAX_ID;
+use crate::refusal::{TreeRefusal, full};
 use crate::start::named_space;
 use crate::tree::Tree;
 use wm_base::{ConId, Limit, NoMemory, Text};
+use wm_forest::{Place, Row};
 
 /// How many workspaces a tree has at most.
 pub(crate) const MAX_SPACES: usize = 256;

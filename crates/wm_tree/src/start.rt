@@ -1,16 +1,15 @@
 //! The opening tree of a plan's outputs.
 ghost use Rattle.std.specs.Prelude.{◌≡◌, ◌≤◌, ◌<◌, ◌+◌, ◌*◌, ◌∷◌, [], IfOk, OnOk, length, vec_len};
-ghost use Rattle.wm_tree.specs.Forest.{end, con};
+ghost use Rattle.wm_forest.specs.Forest.{end, con};
 ghost use Rattle.wm_tree.specs.Sound.{FitPlans, IsSound};
-ghost use Rattle.wm_tree.specs.Row.{row_of};
-ghost use Rattle.wm_tree.specs.TreeValue.{digit, id, ids_from, opened, opening, opening_nodes, opening_outputs, output_part, space_part};
+ghost use Rattle.wm_forest.specs.Row.{row_of};
+ghost use Rattle.wm_tree.specs.TreeValue.{digit, ids_from, opened, opening, opening_nodes, opening_outputs, output_part, space_part};
+ghost use Rattle.wm_forest.specs.RootId.{id};
 
-use crate::part::{NodeKind, OutputPart, Part, SpacePart};
-use crate::place::short_text;
-use crate::row::{Cell, Row};
-use crate::tree::{ROOT, Tree};
+use crate::tree::Tree;
 use std::alloc::{AllocError, Global};
 use wm_base::{Border, ConId, Layout, List, NoMemory, OutputPlan, Text};
+use wm_forest::{Cell, NodeKind, OutputPart, Part, ROOT, Row, SpacePart, short_text};
 
 impl Tree {
     /// The opening tree of these outputs: root 1, then an id for each output, then one for each workspace. Output k

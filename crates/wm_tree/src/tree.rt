@@ -1,24 +1,21 @@
 //! The tree: its nodes, the order of recency, the urgent windows, the next id, and what new nodes get.
 ghost use Rattle.std.specs.Prelude.{◌≡◌, ◌≤◌, ◌<◌, ◌+◌, ◌*◌, ◌∷◌, [], IfSome, MatchOption, OnSome, true, length, slice_get};
 ghost use Rattle.std.specs.Option.{option_copied};
-ghost use Rattle.wm_tree.specs.Forest.{Forest, end, con};
-ghost use Rattle.wm_tree.specs.Holding.{is_held};
-ghost use Rattle.wm_tree.specs.Look.{node_in, con_kind, first_floats, first_kids, first_marks, has, kind_of, nth_id, only, output_kind, space_kind};
-ghost use Rattle.wm_tree.specs.Row.{alone, row_of};
+ghost use Rattle.wm_forest.specs.Forest.{Forest, end, con};
+ghost use Rattle.wm_forest.specs.Holding.{is_held};
+ghost use Rattle.wm_forest.specs.Look.{node_in, con_kind, first_floats, first_kids, first_marks, has, kind_of, nth_id, only, output_kind, space_kind};
+ghost use Rattle.wm_forest.specs.Row.{alone, row_of};
 ghost use Rattle.wm_tree.specs.Sound.{IsSound};
-ghost use Rattle.wm_tree.specs.TreeValue.{current, current_of, current_in, floating_row, focused, focused_child, focused_in, floats_by, leaf, parent, shown, shown_space, spot, tiled_by, tiled_kids, workspace_of};
+ghost use Rattle.wm_tree.specs.TreeValue.{current, current_in, focused, focused_child, leaf, parent, shown, shown_space, spot, workspace_of};
+ghost use Rattle.wm_forest.specs.RootId.{current_of};
+ghost use Rattle.wm_forest.specs.Focus.{floating_row, focused_in, floats_by, tiled_by, tiled_kids};
 
-use crate::cursor::Cursor;
-use crate::part::{ConPart, NodeKind, OutputPart, SpacePart};
-use crate::recency;
-use crate::row::{Cell, Row};
-use crate::spot::{Spot, TOP};
 use std::alloc::Global;
 use std::marker::Model;
 use wm_base::{Border, ConId, Text};
-
-/// The id of the node that holds the outputs and the scratchpad.
-pub(crate) const ROOT: ConId = ConId(1);
+use wm_forest::{
+    Cell, ConPart, Cursor, NodeKind, OutputPart, ROOT, Row, SpacePart, Spot, TOP, recency,
+};
 
 /// The container tree of a desktop.
 #[derive(Drop)]
@@ -43,18 +40,6 @@ impl Model for Tree {
     ghost coded = { tree_code };
 
     ghost view = { λ t. record { nodes = t.nodes; recency = t.recency.items; urgent = t.urgent.items; previous = t.previous; next_id = t.next_id; border = t.border; inner = t.inner; outer = t.outer } };
-}
-
-impl NodeKind {
-    /// The root's current output; other nodes have none, and the root stands for it.
-    fn current(&self) -> ConId
-        ensures { result ≡ current_of self.now }
-    {
-        match self {
-            NodeKind::Root { current } => *current,
-            NodeKind::Output(_) | NodeKind::Space(_) | NodeKind::Con(_) => ROOT,
-        }
-    }
 }
 
 impl Tree {
@@ -226,6 +211,18 @@ impl Tree {
         self.leaf_from(con)
     }
 
+    /// The node that is reached from this one by the focused child until there is none.
+    #[tactic(auto, using(wm_forest::proofs::ForestLemmas::first_held_end))]
+    fn leaf_from(&self, con: ConId) -> Option<ConId>
+        ensures { result ≡ leaf self.now con }
+    {
+        let cell = self.nodes.find(con)?;
+        match cell.part.kind {
+            NodeKind::Space(_) | NodeKind::Con(_) => Some(cell.leaf(&self.recency)),
+            NodeKind::Root { .. } | NodeKind::Output(_) => Some(cell.part.id),
+        }
+    }
+
     /// The cell of the output in the row of outputs.
     fn output_cell(&self, output: ConId) -> Option<&Cell>
         ensures { MatchOption result (node_in output (first_kids self.now.nodes) ≡ end)
@@ -257,7 +254,7 @@ impl Tree {
     }
 
     /// The focused node: the most recent one within the workspace that the current output shows, itself included.
-    #[tactic(auto, using(crate::proofs::ForestLemmas::first_held_end))]
+    #[tactic(auto, using(wm_forest::proofs::ForestLemmas::first_held_end))]
     pub fn focused(&self) -> ConId
         ensures value { result ≡ focused self.now }
         ensures there { IsSound self.now → has result self.now.nodes ≡ true }

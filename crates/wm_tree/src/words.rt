@@ -1,44 +1,25 @@
 //! Taking containers out of the tree, changing them, raising and settling.
 ghost use Rattle.std.specs.Prelude.{◌≡◌, ◌≢◌, ◌≤◌, ◌+◌, false, true, Err, IsOk, None, Some, slice_get};
-ghost use Rattle.wm_tree.specs.Look.{con_kind, has, kind_of, only};
-ghost use Rattle.wm_tree.specs.Words.{detached, edited, raised_at, settled, with_raised};
-ghost use Rattle.wm_tree.specs.Change.{raised_in};
-ghost use Rattle.wm_tree.specs.Place.{IsTiled};
-ghost use Rattle.wm_tree.specs.Recency.{inside, lists, without_id};
-ghost use Rattle.wm_tree.specs.Settle.{is_settled, vacated};
-ghost use Rattle.wm_tree.specs.Sound.{IsSound, tally};
+ghost use Rattle.wm_forest.specs.Look.{con_kind, has, kind_of, only};
+ghost use Rattle.wm_tree.specs.Words.{detached, edited, settled, with_raised};
+ghost use Rattle.wm_forest.specs.Change.{raised_at, raised_in};
+ghost use Rattle.wm_forest.specs.Place.{IsTiled};
+ghost use Rattle.wm_forest.specs.Recency.{inside, lists, without_id};
+ghost use Rattle.wm_forest.specs.Settle.{is_settled, vacated};
+ghost use Rattle.wm_tree.specs.Sound.{IsSound};
+ghost use Rattle.wm_forest.specs.SoundRow.{tally};
 ghost use Rattle.wm_base.specs.declared.ids.ConId.{ConId};
-ghost use Rattle.wm_tree.specs.declared.kind.KindEdit.TheVariants as edits;
-ghost use Rattle.wm_tree.specs.declared.place.TreeRefusal.TheVariants.{Missing};
+ghost use Rattle.wm_forest.specs.declared.kind.KindEdit.TheVariants as edits;
+ghost use Rattle.wm_tree.specs.declared.refusal.TreeRefusal.TheVariants.{Missing};
 
-use crate::edit::Edit;
-use crate::kind::KindEdit;
-use crate::place::TreeRefusal;
-use crate::recency;
-use crate::row::Row;
+use crate::refusal::TreeRefusal;
 use crate::tree::Tree;
 use wm_base::{ConId, Layout};
-
-/// Raising a container in its workspace.
-#[derive(Drop)]
-struct RaiseIn(ConId);
-
-impl Edit for RaiseIn {
-    ghost word = { λ x. raised_in x.0 };
-
-    fn edit(self, row: &mut Row) {
-        let RaiseIn(con) = self;
-        if let Some(cell) = &mut row.first {
-            cell.kids.clear_fullscreen(con);
-            cell.floats.clear_fullscreen(con);
-            cell.floats.put_at_end(con);
-        }
-    }
-}
+use wm_forest::{KindEdit, Row, recency};
 
 impl Tree {
     /// Takes the container out with all that is below it. The id, where it is there, is that of a container.
-    #[tactic(auto, using(crate::proofs::ForestLemmas::at_absent, crate::proofs::ForestLemmas::outside_end, crate::proofs::ForestLemmas::only_absent))]
+    #[tactic(auto, using(wm_forest::proofs::ForestLemmas::at_absent, wm_forest::proofs::ForestLemmas::outside_end, wm_forest::proofs::ForestLemmas::only_absent))]
     pub fn detach(&mut self, con: ConId) -> Result<(), TreeRefusal>
         ensures missing { has con self.old.nodes ≡ false → result ≡ Err (Missing con) }
         ensures there { has con self.old.nodes ≡ true → IsOk result }
@@ -90,7 +71,7 @@ impl Tree {
     }
 
     /// Removes splits without children, and then workspaces without containers that are not shown.
-    #[tactic(auto, using(crate::proofs::ForestLemmas::append_end))]
+    #[tactic(auto, using(wm_forest::proofs::ForestLemmas::append_end))]
     pub fn settle(&mut self)
         ensures tree { self.new ≡ settled self.old }
         ensures sound { IsSound self.old → IsSound self.new }
@@ -107,16 +88,5 @@ impl Tree {
         let mut taken = Row::new();
         self.nodes.settle(None, &mut taken);
         recency::remove_all(&mut self.recency, &taken);
-    }
-}
-
-impl Row {
-    /// Raises the container in this workspace, where there is one.
-    fn raise_at(&mut self, con: ConId, space: Option<ConId>)
-        ensures { self.new ≡ raised_at con space self.old }
-    {
-        if let Some(space) = space {
-            drop(self.change(space, RaiseIn(con)));
-        }
     }
 }

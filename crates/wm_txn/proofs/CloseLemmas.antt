@@ -10,7 +10,7 @@ use Rattle.std.specs.Option.{option_map}
 use Rattle.std.specs.Ordering.{nat_cmp}
 use Rattle.wm_base.specs.declared.ids.Buffer.{Buffer}
 use Rattle.wm_base.specs.declared.ids.ConId.{ConId}
-use Rattle.wm_tree.specs.Look.{same}
+use Rattle.wm_forest.specs.Look.{same}
 use Rattle.wm_arrange.specs.declared.parts.Placed.{Placed}
 use Rattle.wm_txn.specs.History.{Opening, Entry, Arranged, buffer_up_to, is_fresh, is_open, mapped_with, under_up_to}
 use Rattle.wm_txn.specs.Windows.{Buffers, Windows, IsNewcomer, ShowsOpen, close_all, close_found, closed_held, count_awaited, count_closed, count_unanswered, find, held_of, is_live, is_unanswered, left_of, one_if, open_fresh}

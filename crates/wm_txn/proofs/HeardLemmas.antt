@@ -4,7 +4,7 @@ use Rattle.std.proofs.lemmas.Bool.{and_parts}
 use Rattle.std.specs.List.{list_any}
 use Rattle.wm_base.specs.declared.ids.Buffer.{Buffer}
 use Rattle.wm_base.specs.declared.ids.ConId.{ConId}
-use Rattle.wm_tree.specs.Look.{same}
+use Rattle.wm_forest.specs.Look.{same}
 use Rattle.wm_txn.specs.Heard.{hear, heard, is_due, is_empty}
 use Rattle.wm_txn.specs.History.{Opening, Entry, Arranged, Acked, Gave, Deadline, Still, buffer_after, buffer_up_to, is_fresh, is_open, last, mapped_with, maps, open_after, was_open}
 use Rattle.wm_txn.proofs.WindowLemmas.{one_id}

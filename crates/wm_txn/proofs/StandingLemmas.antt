@@ -4,7 +4,7 @@ use Rattle.std.proofs.lemmas.Bool.{false_from_ne_true}
 use Rattle.std.specs.List.{list_any}
 use Rattle.wm_base.specs.declared.ids.Buffer.{Buffer}
 use Rattle.wm_base.specs.declared.ids.ConId.{ConId}
-use Rattle.wm_tree.specs.Look.{same}
+use Rattle.wm_forest.specs.Look.{same}
 use Rattle.wm_arrange.specs.declared.parts.Placed.{Placed}
 use Rattle.wm_txn.proofs.KeepLemmas.{same_id}
 use Rattle.wm_txn.specs.Commits.{prefix_of}

@@ -17,7 +17,7 @@ use Rattle.wm_txn.specs.declared.held.Pending.{Pending}
 use Rattle.wm_txn.proofs.AnswerLemmas.{has, is_left_where}
 use Rattle.wm_txn.proofs.NumberLemmas.{numbers_idle, numbers_waiting}
 use Rattle.wm_txn.proofs.StepLemmas.{Pends, known}
-use Rattle.wm_tree.specs.Look.{same}
+use Rattle.wm_forest.specs.Look.{same}
 use Rattle.std.proofs.lemmas.Bool.{and_parts, false_from_ne_true, true_from_ne_false}
 use Rattle.wm_txn.specs.Heard.{heard}
 use Rattle.wm_txn.specs.Standing.{TellsWaiting}

@@ -15,7 +15,7 @@ use Rattle.std.specs.declared.cmp.Ordering.{Ordering}
 use Rattle.std.specs.declared.cmp.Ordering.TheVariants.{Less, Equal, Greater}
 use Rattle.wm_base.specs.declared.ids.ConId.{ConId}
 use Rattle.wm_ids.proofs.EntryLemmas.{test_same}
-use Rattle.wm_tree.specs.Look.{same}
+use Rattle.wm_forest.specs.Look.{same}
 use Rattle.wm_txn.specs.Windows.{Windows, find, put, one_if, is_unanswered, count_unanswered}
 use Rattle.wm_txn.specs.declared.held.Held.{Held}
 

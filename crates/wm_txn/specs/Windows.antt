@@ -11,7 +11,7 @@ use Rattle.wm_base.specs.declared.ids.Buffer.{Buffer}
 use Rattle.wm_base.specs.declared.ids.ConId.{ConId}
 use Rattle.wm_arrange.specs.declared.parts.Placed.{Placed}
 use Rattle.wm_arrange.specs.Sizes.{content_size, is_content}
-use Rattle.wm_tree.specs.Look.{same}
+use Rattle.wm_forest.specs.Look.{same}
 use Rattle.wm_txn.specs.History.{is_fresh}
 use Rattle.wm_txn.specs.Schedule.{same_size}
 use Rattle.wm_txn.specs.Commits.{lesser}

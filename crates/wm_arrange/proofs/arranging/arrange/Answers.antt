@@ -4,7 +4,7 @@ use Rattle.wm_arrange.specs.Arranged.{arranged}
 use Rattle.wm_arrange.specs.CoverTree.{LeavesCover, tiled_at}
 use Rattle.wm_arrange.proofs.CoverTreeLemmas.{covers_in_tree}
 use Rattle.wm_arrange.proofs.TreeLemmas.{at_end, output_spaces}
-use Rattle.wm_tree.specs.Look.{first_kids}
+use Rattle.wm_forest.specs.Look.{first_kids}
 use Rattle.wm_arrange.proofs.arranging.arrange.Goals as goal
 
 pub place_space-requires-clause-sound : goal.place_space-requires-clause-sound

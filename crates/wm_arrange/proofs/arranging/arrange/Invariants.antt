@@ -1,6 +1,6 @@
 use Rattle.std.proofs.Common.{◌≡◌, ◌++◌, true}
-use Rattle.wm_tree.specs.Forest.{node_count}
-use Rattle.wm_tree.specs.Sound.{IsSoundRow, outputs}
+use Rattle.wm_forest.specs.Forest.{node_count}
+use Rattle.wm_forest.specs.SoundRow.{IsSoundRow, outputs}
 use Rattle.wm_arrange.specs.Arranged.{arranged, outputs_parts}
 use Rattle.wm_arrange.proofs.arranging.arrange.Given as goal
 

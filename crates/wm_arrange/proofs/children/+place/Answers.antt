@@ -1,8 +1,8 @@
 use Rattle.std.proofs.Common.{◌≡◌, ◌∙◌, ◌+◌, ap, sym, subst, arith}
 use Rattle.std.proofs.lemmas.Result.{on_ok_weaker}
 use Rattle.std.specs.Option.{option_copied}
-use Rattle.wm_tree.specs.Counts.{share_of, share_sum}
-use Rattle.wm_tree.specs.Forest.{node_count}
+use Rattle.wm_forest.specs.Counts.{share_of, share_sum}
+use Rattle.wm_forest.specs.Forest.{node_count}
 use Rattle.wm_arrange.specs.Slots.{HasSlots}
 use Rattle.wm_arrange.specs.Scene.{seen}
 use Rattle.wm_arrange.proofs.RowLemmas.{joined, turn, turn_parts}

@@ -1,5 +1,5 @@
 use Rattle.std.proofs.Common.{◌+◌, ◌*◌}
-use Rattle.wm_tree.specs.Forest.{node_count}
+use Rattle.wm_forest.specs.Forest.{node_count}
 use Rattle.wm_arrange.proofs.children.+place.Given as goal
 
 abbrev pub decreases-place_kids : goal.decreases-place_kids

@@ -1,5 +1,5 @@
 use Rattle.std.proofs.Common.{◌≡◌, ◌++◌}
-use Rattle.wm_tree.specs.Forest.{node_count}
+use Rattle.wm_forest.specs.Forest.{node_count}
 use Rattle.wm_arrange.specs.Arranged.{floats_parts}
 use Rattle.wm_arrange.specs.Scene.{seen}
 use Rattle.wm_arrange.specs.Slots.{IsFloatRow}

@@ -1,7 +1,7 @@
 use Rattle.std.proofs.Common.{◌≡◌, ◌∙◌, ◌+◌, Some, rules, ap, sym, subst, arith}
 use Rattle.std.specs.Option.{option_copied}
-use Rattle.wm_tree.specs.Counts.{share_sum}
-use Rattle.wm_tree.specs.Forest.{node_count}
+use Rattle.wm_forest.specs.Counts.{share_sum}
+use Rattle.wm_forest.specs.Forest.{node_count}
 use Rattle.wm_arrange.specs.Lots.{HasLots}
 use Rattle.wm_arrange.proofs.RowLemmas.{turn}
 use Rattle.wm_arrange.proofs.finding.+among.Goals as goal

@@ -1,7 +1,7 @@
 use Rattle.std.proofs.Common.{◌≡◌, ap, ◌∙◌, arith}
 use Rattle.wm_core.specs.Windows.{window_part}
 use Rattle.wm_core.proofs.OpenLemmas.{window_con}
-use Rattle.wm_tree.specs.Counts.{count}
+use Rattle.wm_forest.specs.Counts.{count}
 use Rattle.wm_core.proofs.counting.window_count.Goals as goal
 
 -- there are at most 4,096 containers

@@ -1,6 +1,6 @@
 use Rattle.std.proofs.Common.{ltb, ◌||◌, ap, ap₂, ◌∙◌}
 use Rattle.wm_opens.specs.Opens.{window_at}
-use Rattle.wm_tree.specs.Counts.{count}
+use Rattle.wm_forest.specs.Counts.{count}
 use Rattle.wm_core.specs.Windows.{holds}
 use Rattle.wm_core.proofs.OpenLemmas.{seen_there}
 use Rattle.wm_core.proofs.holding.windows_of.Goals as goal

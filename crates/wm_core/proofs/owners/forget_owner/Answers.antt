@@ -1,5 +1,5 @@
 use Rattle.std.proofs.Common.{◌||◌, Bool, true, false, None, cond, refl, ap, sym, ◌∙◌, ◌≡◌}
-use Rattle.wm_tree.specs.Look.{same}
+use Rattle.wm_forest.specs.Look.{same}
 use Rattle.wm_core.specs.ByWindow.{value_at}
 use Rattle.wm_core.proofs.FollowLemmas.{swapped}
 use Rattle.wm_ids.proofs.EntryLemmas.{test_same}

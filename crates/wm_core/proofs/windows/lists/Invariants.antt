@@ -1,5 +1,5 @@
 use Rattle.std.proofs.Common.{◌≡◌, length}
-use Rattle.wm_tree.specs.Recency.{lists}
+use Rattle.wm_forest.specs.Recency.{lists}
 use Rattle.wm_core.proofs.windows.lists.Given as goal
 
 -- the window is among the rest where it is among all

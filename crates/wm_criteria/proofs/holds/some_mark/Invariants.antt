@@ -1,6 +1,6 @@
 use Rattle.std.proofs.Common.{◌≡◌, length}
 use Rattle.std.specs.List.{list_any}
-use Rattle.wm_tree.specs.Look.{first_marks, only}
+use Rattle.wm_forest.specs.Look.{first_marks, only}
 use Rattle.wm_criteria.specs.Searching.{searches}
 use Rattle.wm_criteria.proofs.holds.some_mark.Given as goal
 

@@ -1,4 +1,4 @@
-use Rattle.wm_tree.specs.Forest.{node_count}
+use Rattle.wm_forest.specs.Forest.{node_count}
 use Rattle.wm_floats.proofs.rounds.+floats_at.Given as goal
 
 abbrev pub decreases-floats_at : goal.decreases-floats_at

@@ -3,7 +3,7 @@ use Rattle.std.proofs.lemmas.Grind.{common_steps}
 use Rattle.wm_floats.proofs.FloatLemmas.{hide_goal, window_con, window_is}
 use Rattle.wm_floats.proofs.MovedLemmas.{hidden_state}
 use Rattle.wm_floats.specs.Windows.{window_refusal}
-use Rattle.wm_tree.specs.declared.place.Place.TheVariants.{Scratchpad}
+use Rattle.wm_forest.specs.declared.place.Place.TheVariants.{Scratchpad}
 use Rattle.wm_tree.specs.Move.{moved}
 use Rattle.wm_floats.proofs.scratchpad.to_scratchpad.Goals as goal
 

@@ -1,7 +1,7 @@
 use Rattle.std.proofs.Common.{◌≡◌, false, None, Some, sym, arith, rules}
 use Rattle.std.proofs.lemmas.Grind.{common_steps}
 use Rattle.wm_focus.proofs.OnlyLemmas.{only_floats, only_kids, only_rest}
-use Rattle.wm_tree.specs.Look.{first_floats, first_kids, first_part, only, rest_of, same}
+use Rattle.wm_forest.specs.Look.{first_floats, first_kids, first_part, only, rest_of, same}
 use Rattle.wm_focus.proofs.bearers.+part_of.Goals as goal
 
 pub returns-in-Some : goal.returns-in-Some

@@ -1,4 +1,4 @@
-use Rattle.wm_tree.specs.Forest.{node_count}
+use Rattle.wm_forest.specs.Forest.{node_count}
 use Rattle.wm_focus.proofs.bearers.+part_of.Given as goal
 
 abbrev pub decreases-part_of : goal.decreases-part_of

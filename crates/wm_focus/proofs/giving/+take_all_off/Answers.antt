@@ -2,7 +2,7 @@ use Rattle.std.proofs.Common.{◌≡◌, Some, arith, rules}
 use Rattle.std.proofs.lemmas.Grind.{common_steps}
 use Rattle.wm_focus.proofs.AllLemmas.{all_turn}
 use Rattle.wm_focus.specs.Stripped.{all_marks, all_off}
-use Rattle.wm_tree.specs.Look.{first_floats, first_kids, first_part, rest_of}
+use Rattle.wm_forest.specs.Look.{first_floats, first_kids, first_part, rest_of}
 use Rattle.wm_focus.proofs.giving.+take_all_off.Goals as goal
 
 pub returns-in-Some-clause-tree : goal.returns-in-Some-clause-tree

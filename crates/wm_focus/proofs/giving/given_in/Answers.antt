@@ -2,7 +2,7 @@ use Rattle.std.proofs.Common.{◌≡◌, true, false, ap, sym, ◌∙◌, subst}
 use Rattle.wm_focus.proofs.GiveLemmas.{container_there, in_place, not_full, ready_cause, ready_fine, ready_kind, ready_there}
 use Rattle.wm_focus.specs.Marks.{freed}
 use Rattle.wm_focus.specs.Stripped.{all_or_none}
-use Rattle.wm_tree.specs.Look.{con_kind, has, kind_of}
+use Rattle.wm_forest.specs.Look.{con_kind, has, kind_of}
 use Rattle.wm_tree.specs.Move.{IsMarkCause, is_full_of_marks, marked, marks_in, with_marks}
 use Rattle.wm_tree.specs.TreeValue.{TreeValue}
 use Rattle.wm_focus.proofs.giving.given_in.Goals as goal

@@ -2,9 +2,9 @@ use Rattle.std.proofs.Common.{◌≡◌, ◌<◌, None, Some, ap, sym, ◌∙◌
 use Rattle.std.proofs.lemmas.Grind.{common_steps}
 use Rattle.wm_focus.proofs.BearerLemmas.{bearer_marks, bearer_other, fewer_marks, off_none, off_unmarked}
 use Rattle.wm_focus.specs.Marks.{bearer, taken_off}
-use Rattle.wm_tree.specs.Change.{at}
-use Rattle.wm_tree.specs.Counts.{mark_count}
-use Rattle.wm_tree.specs.Move.{unmark_word}
+use Rattle.wm_forest.specs.Change.{at}
+use Rattle.wm_forest.specs.Counts.{mark_count}
+use Rattle.wm_forest.specs.Marks.{unmark_word}
 use Rattle.wm_tree.specs.TreeValue.{TreeValue}
 use Rattle.wm_focus.proofs.giving.take_off.Goals as goal
 

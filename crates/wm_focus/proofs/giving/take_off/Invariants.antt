@@ -1,6 +1,6 @@
 use Rattle.std.proofs.Common.{◌≡◌}
 use Rattle.wm_focus.specs.Marks.{taken_off}
-use Rattle.wm_tree.specs.Counts.{mark_count}
+use Rattle.wm_forest.specs.Counts.{mark_count}
 use Rattle.wm_tree.specs.Sound.{IsSound}
 use Rattle.wm_focus.proofs.giving.take_off.Given as goal
 

@@ -1,4 +1,4 @@
-use Rattle.wm_tree.specs.Forest.{node_count}
+use Rattle.wm_forest.specs.Forest.{node_count}
 use Rattle.wm_focus.proofs.moves.+neighbour_at.Given as goal
 
 abbrev pub decreases-neighbour_at : goal.decreases-neighbour_at

@@ -4,7 +4,7 @@ use Rattle.wm_focus.proofs.RungLemmas.{held_floats, held_kids, held_rest}
 use Rattle.std.specs.Option.{option_or}
 use Rattle.wm_focus.specs.Rungs.{aimed, rung}
 use Rattle.wm_focus.specs.Walks.{held}
-use Rattle.wm_tree.specs.Look.{first_floats, first_kids, first_part, rest_of, same}
+use Rattle.wm_forest.specs.Look.{first_floats, first_kids, first_part, rest_of, same}
 use Rattle.wm_focus.proofs.rungs.+climb.Goals as goal
 
 pub returns-in-Some : goal.returns-in-Some

@@ -1,7 +1,7 @@
 use Rattle.std.proofs.Common.{◌≡◌, true, false, arith, rules}
 use Rattle.std.proofs.lemmas.Grind.{common_steps}
 use Rattle.wm_focus.proofs.SwapLemmas.{move_cause}
-use Rattle.wm_tree.specs.Look.{has, only}
+use Rattle.wm_forest.specs.Look.{has, only}
 use Rattle.wm_tree.specs.TreeValue.{is_tiled_con}
 use Rattle.wm_focus.proofs.swaps.move_after.Goals as goal
 

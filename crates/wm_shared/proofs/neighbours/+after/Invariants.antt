@@ -1,4 +1,4 @@
-use Rattle.wm_tree.specs.Forest.{node_count}
+use Rattle.wm_forest.specs.Forest.{node_count}
 use Rattle.wm_shared.proofs.neighbours.+after.Given as goal
 
 abbrev pub decreases-after : goal.decreases-after

@@ -1,5 +1,5 @@
 use Rattle.std.proofs.Common.{◌≡◌}
-use Rattle.wm_tree.specs.Forest.{node_count}
+use Rattle.wm_forest.specs.Forest.{node_count}
 use Rattle.wm_shared.specs.Keys.{least, lesser}
 use Rattle.wm_shared.specs.Outputs.{keys_beyond}
 use Rattle.wm_shared.proofs.outputs.nearest.Given as goal

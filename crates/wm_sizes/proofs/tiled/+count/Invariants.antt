@@ -1,4 +1,4 @@
-use Rattle.wm_tree.specs.Forest.{node_count}
+use Rattle.wm_forest.specs.Forest.{node_count}
 use Rattle.wm_sizes.proofs.tiled.+count.Given as goal
 
 abbrev pub decreases-count : goal.decreases-count

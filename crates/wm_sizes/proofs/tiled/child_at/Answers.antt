@@ -1,6 +1,6 @@
 use Rattle.std.proofs.Common.{◌≡◌, ◌∙◌, false, ap, sym}
 use Rattle.wm_sizes.proofs.HandLemmas.{no_child}
-use Rattle.wm_tree.specs.Look.{has}
+use Rattle.wm_forest.specs.Look.{has}
 use Rattle.wm_sizes.proofs.tiled.child_at.Goals as goal
 
 pub returns-in_err-kids_in : goal.returns-in_err-kids_in

@@ -1,4 +1,4 @@
-use Rattle.wm_tree.specs.Forest.{node_count}
+use Rattle.wm_forest.specs.Forest.{node_count}
 use Rattle.wm_spaces.proofs.order.+best_in.Given as goal
 
 abbrev pub decreases-best_in : goal.decreases-best_in

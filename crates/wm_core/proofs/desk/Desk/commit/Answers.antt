@@ -1,6 +1,6 @@
 use Rattle.std.proofs.Common.{◌≡◌, ◌+◌, arith, ap, ◌∷◌, Bool, List, None, cond, false, subst, sym, true, ◌∙◌}
 use Rattle.std.specs.List.{list_any}
-use Rattle.wm_tree.specs.Look.{same}
+use Rattle.wm_forest.specs.Look.{same}
 use Rattle.wm_arrange.specs.Arranged.{arranged}
 use Rattle.wm_arrange.specs.declared.parts.Placed.{Placed}
 use Rattle.wm_base.specs.declared.ids.ConId.{ConId}

@@ -2,14 +2,15 @@ use Rattle.std.proofs.Common.{◌≡◌, ℕ, Bool, cond, true, false, Option, S
 use Rattle.wm_base.specs.declared.errors.Limit.{Limit}
 use Rattle.wm_base.specs.declared.ids.Buffer.{Buffer}
 use Rattle.wm_base.specs.declared.ids.ConId.{ConId}
-use Rattle.wm_tree.specs.declared.place.Place.{Place}
+use Rattle.wm_forest.specs.declared.place.Place.{Place}
 use Rattle.wm_base.specs.declared.geometry.Size.{Size}
 use Rattle.wm_base.specs.declared.properties.Props.{Props}
-use Rattle.wm_tree.specs.Place.{passed_limit}
-use Rattle.wm_tree.specs.TreeValue.{TreeValue, id, newcomer_place, workspace_of}
+use Rattle.wm_forest.specs.Place.{passed_limit}
+use Rattle.wm_tree.specs.TreeValue.{TreeValue, newcomer_place, workspace_of}
+use Rattle.wm_forest.specs.RootId.{id}
 use Rattle.wm_tree.specs.Words.{attached, settled, with_raised}
 use Rattle.wm_floats.specs.Fullscreen.{fills_alone}
-use Rattle.wm_tree.specs.declared.place.NewCon.TheVariants.{Window}
+use Rattle.wm_forest.specs.declared.place.NewCon.TheVariants.{Window}
 use Rattle.wm_opens.proofs.KeptLemmas.{Kept, kept_raised, kept_refl, kept_settled, kept_trans}
 use Rattle.wm_core.specs.DeskValue.{DeskValue, Follows}
 use Rattle.wm_core.specs.History.{has_no_pixels, left, limit_of, mapped, raised_unless_full}

@@ -3,7 +3,7 @@ use Rattle.wm_base.specs.declared.ids.ConId.{ConId}
 use Rattle.wm_spaces.specs.Names.{output_named}
 use Rattle.wm_core.specs.Act.{Reserve}
 use Rattle.wm_opens.proofs.KeptLemmas.{kept_edited}
-use Rattle.wm_tree.specs.declared.kind.KindEdit.TheVariants as edits
+use Rattle.wm_forest.specs.declared.kind.KindEdit.TheVariants as edits
 use Rattle.wm_tree.specs.Words.{edited, settled}
 use Rattle.wm_core.specs.DeskValue.{DeskValue}
 use Rattle.wm_core.specs.History.{left}

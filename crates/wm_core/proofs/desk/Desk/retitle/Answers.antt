@@ -1,7 +1,7 @@
 use Rattle.std.proofs.Common.{◌≡◌, true, false, None, ap, ap₂, refl, sym, ◌∙◌}
 use Rattle.wm_core.specs.Act.{Retitle}
 use Rattle.wm_opens.proofs.KeptLemmas.{kept_edited}
-use Rattle.wm_tree.specs.declared.kind.KindEdit.TheVariants as edits
+use Rattle.wm_forest.specs.declared.kind.KindEdit.TheVariants as edits
 use Rattle.wm_tree.specs.Words.{edited, settled}
 use Rattle.wm_core.specs.DeskValue.{DeskValue}
 use Rattle.wm_core.specs.History.{left}

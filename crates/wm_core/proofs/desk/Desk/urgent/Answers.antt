@@ -1,7 +1,7 @@
 use Rattle.std.proofs.Common.{◌≡◌, Bool, true, false, cond, [], ◌∷◌, ◌++◌, None, ap, refl, sym, ◌∙◌}
 use Rattle.wm_core.specs.Act.{Urgent}
 use Rattle.wm_opens.proofs.KeptLemmas.{Kept, kept_nodes}
-use Rattle.wm_tree.specs.Recency.{lists}
+use Rattle.wm_forest.specs.Recency.{lists}
 use Rattle.wm_tree.specs.TreeValue.{TreeValue}
 use Rattle.wm_tree.specs.Words.{settled}
 use Rattle.wm_core.specs.DeskValue.{DeskValue}

@@ -1,6 +1,6 @@
 use Rattle.std.proofs.Common.{arith, rules}
 use Rattle.std.proofs.lemmas.Grind.{common_steps}
-use Rattle.wm_tree.proofs.ForestLemmas.{first_held_end}
+use Rattle.wm_forest.proofs.ForestLemmas.{first_held_end}
 use Rattle.wm_tree.proofs.FocusLemmas.{focus_by}
 use Rattle.wm_tree.proofs.tree.Tree.focused.Goals as goal
 

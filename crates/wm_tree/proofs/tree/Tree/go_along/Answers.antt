@@ -1,7 +1,7 @@
 use Rattle.std.proofs.Common.{arith, rules}
 use Rattle.std.proofs.lemmas.Grind.{common_steps}
 use Rattle.wm_tree.proofs.AlongLemmas.{along_by, ones_by}
-use Rattle.wm_tree.proofs.ForestLemmas.{append_end}
+use Rattle.wm_forest.proofs.ForestLemmas.{append_end}
 use Rattle.wm_tree.proofs.tree.Tree.go_along.Goals as goal
 
 pub returns-clause-sound : goal.returns-clause-sound

@@ -1,7 +1,7 @@
 use Rattle.std.proofs.Common.{◌≡◌, true, arith, rules}
 use Rattle.std.proofs.lemmas.Grind.{common_steps}
 use Rattle.wm_tree.specs.Outputs.{space_moved}
-use Rattle.wm_tree.specs.Look.{has}
+use Rattle.wm_forest.specs.Look.{has}
 use Rattle.wm_tree.proofs.SoundLemmas.{as_is}
 use Rattle.wm_tree.proofs.SpaceLemmas.{sound-space_moved}
 use Rattle.wm_tree.proofs.tree.Tree.move_workspace.Goals as goal

@@ -2,7 +2,7 @@ use Rattle.std.proofs.Common.{arith, rules}
 use Rattle.std.proofs.lemmas.Grind.{common_steps}
 use Rattle.wm_tree.specs.Words.{with_raised}
 use Rattle.wm_tree.proofs.RaiseLemmas.{sound-raised}
-use Rattle.wm_tree.proofs.RaisedLaws.{first_by, others_by}
+use Rattle.wm_forest.proofs.RaisedLaws.{first_by, others_by}
 use Rattle.wm_tree.proofs.SoundLemmas.{as_is}
 use Rattle.wm_tree.proofs.tree.Tree.raise.Goals as goal
 

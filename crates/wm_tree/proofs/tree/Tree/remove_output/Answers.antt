@@ -1,6 +1,6 @@
 use Rattle.std.proofs.Common.{◌≡◌, true, arith, rules}
 use Rattle.std.proofs.lemmas.Grind.{common_steps}
-use Rattle.wm_tree.specs.Look.{has}
+use Rattle.wm_forest.specs.Look.{has}
 use Rattle.wm_tree.specs.Outputs.{without_output}
 use Rattle.wm_tree.proofs.OutputLemmas.{sound-without_output}
 use Rattle.wm_tree.proofs.SoundLemmas.{as_is}

@@ -1,9 +1,9 @@
 use Rattle.std.proofs.Common.{arith, rules}
 use Rattle.std.proofs.lemmas.Grind.{common_steps}
-use Rattle.wm_tree.specs.declared.kind.KindEdit.TheVariants as edits
+use Rattle.wm_forest.specs.declared.kind.KindEdit.TheVariants as edits
 use Rattle.wm_tree.specs.Words.{edited}
-use Rattle.wm_tree.specs.TreeValue.{root}
-use Rattle.wm_tree.proofs.EditLemmas.{fits_current}
+use Rattle.wm_forest.specs.RootId.{root}
+use Rattle.wm_forest.proofs.EditLemmas.{fits_current}
 use Rattle.wm_tree.proofs.FocusLemmas.{root_kids}
 use Rattle.wm_tree.proofs.SoundLemmas.{as_is, sound-edited}
 use Rattle.wm_tree.proofs.tree.Tree.set_current.Goals as goal

@@ -1,7 +1,7 @@
 use Rattle.std.proofs.Common.{rules}
-use Rattle.wm_tree.specs.declared.kind.KindEdit.TheVariants as edits
+use Rattle.wm_forest.specs.declared.kind.KindEdit.TheVariants as edits
 use Rattle.wm_tree.specs.Words.{edited}
-use Rattle.wm_tree.proofs.EditLemmas.{fits_layout}
+use Rattle.wm_forest.proofs.EditLemmas.{fits_layout}
 use Rattle.wm_tree.proofs.SoundLemmas.{as_is, sound-edited}
 use Rattle.wm_tree.proofs.tree.Tree.set_layout.Goals as goal
 

@@ -1,8 +1,8 @@
 use Rattle.std.proofs.Common.{arith, rules}
 use Rattle.std.proofs.lemmas.Grind.{common_steps}
-use Rattle.wm_tree.specs.declared.kind.KindEdit.TheVariants as edits
+use Rattle.wm_forest.specs.declared.kind.KindEdit.TheVariants as edits
 use Rattle.wm_tree.specs.Words.{edited}
-use Rattle.wm_tree.proofs.EditLemmas.{fits_format}
+use Rattle.wm_forest.proofs.EditLemmas.{fits_format}
 use Rattle.wm_tree.proofs.SoundLemmas.{as_is, sound-edited}
 use Rattle.wm_tree.proofs.tree.Tree.set_title_format.Goals as goal
 

@@ -1,7 +1,7 @@
 use Rattle.std.proofs.Common.{arith, rules}
 use Rattle.std.proofs.lemmas.Grind.{common_steps}
 use Rattle.wm_tree.specs.Words.{settled}
-use Rattle.wm_tree.proofs.ForestLemmas.{append_end}
+use Rattle.wm_forest.proofs.ForestLemmas.{append_end}
 use Rattle.wm_tree.proofs.SettleLemmas.{sound-settled}
 use Rattle.wm_tree.proofs.SettledLaws.{left_by, same_by, settled_by, taken_by, twice_by}
 use Rattle.wm_tree.proofs.SoundLemmas.{as_is}

@@ -1,0 +1,9 @@
+-- Appending rows.
+use Rattle.std.proofs.Common.{◌≡◌, refl, ap}
+use Rattle.wm_forest.specs.Forest.{Forest, end, con}
+use Rattle.wm_forest.specs.Change.{append}
+
+-- two rows before a third are their row before it
+pub append_both : (a b c : Forest) → append (append a b) c ≡ append a (append b c)
+append_both end b c = refl
+append_both (con part kids floats rest) b c = ap (λ z. con part kids floats z) (append_both rest b c)

@@ -1,0 +1,16 @@
+pub mod AppendLemmas
+pub mod ChangeLemmas
+pub mod CountLemmas
+pub mod EditLemmas
+pub mod ExchangeLemmas
+pub mod ForestLemmas
+pub mod HoleLemmas
+pub mod HoleLooks
+pub mod LookLemmas
+pub mod OnceLemmas
+pub mod PutLemmas
+pub mod RaisedLaws
+pub mod RecencyLemmas
+pub mod RowLemmas
+pub mod StandLemmas
+pub mod TimesLemmas

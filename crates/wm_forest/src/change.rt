@@ -1,0 +1,297 @@
+//! Changing rows: taking out, putting behind, and what raising and settling make of a row.
+ghost use Rattle.std.specs.Prelude.{◌≡◌, false, true, if◌then◌else◌, is_some, MatchOption};
+ghost use Rattle.wm_forest.specs.Change.{append, arriving, hole, placed, replaced, is_end, is_id, is_split, is_vacant, settled_row, shown_of, to_end, unfull, unfull_kind, without};
+ghost use Rattle.wm_forest.specs.Counts.{but};
+ghost use Rattle.wm_forest.specs.Forest.{end, con};
+ghost use Rattle.wm_forest.specs.Look.{same, has, in_row, only, node_in, first_alone, rest_of};
+ghost use Rattle.wm_forest.specs.Row.{alone, row_of};
+ghost use Rattle.wm_forest.specs.Settle.{vacated};
+
+use crate::part::{ConKind, NodeKind, Part};
+use crate::row::{Cell, Row};
+use std::alloc::Global;
+use std::mem;
+use wm_base::{ConId, List, Rect};
+
+impl NodeKind {
+    /// Takes fullscreen from a container.
+    fn clear_fullscreen(&mut self)
+        ensures { self.new ≡ unfull_kind self.old }
+    {
+        if let NodeKind::Con(con) = self {
+            con.state.fullscreen = false;
+        }
+    }
+
+    /// Gives a container this share, and this outer rectangle where one is given.
+    fn place(&mut self, share: u32, rect: Option<Rect>)
+        ensures { self.new ≡ placed share rect self.old }
+    {
+        if let NodeKind::Con(con) = self {
+            con.share = share;
+            if rect.is_some() {
+                con.state.rect = rect;
+            }
+        }
+    }
+
+    /// The workspace that an output shows. `None` exactly where this is no output.
+    pub fn shown(&self) -> Option<ConId>
+        ensures { result ≡ shown_of self.now }
+    {
+        match self {
+            NodeKind::Output(output) => Some(output.shown),
+            NodeKind::Root { .. } | NodeKind::Space(_) | NodeKind::Con(_) => None,
+        }
+    }
+}
+
+/// The id that no node has.
+pub const NOBODY: ConId = ConId(0);
+
+impl Cell {
+    /// A cell that stands in a place while two containers change places.
+    pub fn hole(alloc: Global) -> Cell
+        ensures { alone result ≡ hole }
+    {
+        let part = Part {
+            id: NOBODY,
+            kind: NodeKind::Root { current: NOBODY },
+            marks: List::of(Vec::new(alloc)),
+        };
+        Cell {
+            part,
+            kids: Row::new(),
+            floats: Row::new(),
+            rest: Row::new(),
+        }
+    }
+
+    /// Makes this a cell that stands in a place while two containers change places.
+    pub fn empty(&mut self, alloc: Global)
+        ensures { alone self.new ≡ hole }
+    {
+        drop(mem::replace(self, Cell::hole(alloc)));
+    }
+
+    /// Makes the node ready for its new place. From another workspace (`away`) it loses fullscreen, and so does what
+    /// is below it.
+    pub(crate) fn arrive(&mut self, share: u32, rect: Option<Rect>, away: bool)
+        ensures row { row_of self.new ≡ arriving share rect away (row_of self.old) }
+        ensures alone { alone self.new ≡ arriving share rect away (alone self.old) }
+    {
+        self.part.kind.place(share, rect);
+        if away {
+            self.part.kind.clear_fullscreen();
+            self.kids.clear_fullscreen(NOBODY);
+            self.floats.clear_fullscreen(NOBODY);
+        }
+    }
+
+    /// Changes places with a node other than this one, below it or behind it. Says whether it is there.
+    #[cycle(swap)]
+    #[tactic(auto, using(crate::proofs::ForestLemmas::at_absent))]
+    fn swap_below(&mut self, id: ConId, spare: &mut Cell) -> bool
+        requires { same self.old.part.id id ≡ false }
+        ensures found { result ≡ has id (row_of self.old) }
+        ensures left { row_of self.new ≡ replaced id (alone spare.old) (row_of self.old) }
+        ensures taken { alone spare.new ≡ (if has id (row_of self.old) then only id (row_of self.old) else alone spare.old) }
+    {
+        let Cell {
+            part: _,
+            kids,
+            floats,
+            rest,
+        } = self;
+        kids.swap(id, spare) || floats.swap(id, spare) || rest.swap(id, spare)
+    }
+
+    /// Changes places with another node; each row keeps its rest.
+    fn swap_with(&mut self, spare: &mut Cell)
+        ensures here { row_of self.new ≡ con spare.old.part spare.old.kids spare.old.floats self.old.rest }
+        ensures there { alone spare.new ≡ alone self.old }
+    {
+        mem::swap(&mut self.part, &mut spare.part);
+        mem::swap(&mut self.kids, &mut spare.kids);
+        mem::swap(&mut self.floats, &mut spare.floats);
+    }
+
+    /// Takes a node other than this one out of the rows below it and behind it.
+    #[cycle(take_out)]
+    #[tactic(auto, using(crate::proofs::ForestLemmas::at_absent))]
+    fn take_out_below(&mut self, id: ConId) -> Option<Row>
+        requires { same self.old.part.id id ≡ false }
+        ensures taken { MatchOption result (has id (row_of self.old) ≡ false)
+            (λ row. (has id (row_of self.old) ≡ true) × (row ≡ only id (row_of self.old))) }
+        ensures rest { row_of self.new ≡ without id (row_of self.old) }
+    {
+        let Cell {
+            part: _,
+            kids,
+            floats,
+            rest,
+        } = self;
+        if let Some(row) = kids.take_out(id) {
+            return Some(row);
+        }
+        if let Some(row) = floats.take_out(id) {
+            return Some(row);
+        }
+        rest.take_out(id)
+    }
+
+    /// Whether the node is a split without children, or a workspace without containers that is not the one shown.
+    fn is_vacant(&self, shown: Option<ConId>) -> bool
+        ensures { result ≡ is_vacant shown self.now.part.id self.now.part.kind self.now.kids self.now.floats }
+    {
+        match &self.part.kind {
+            NodeKind::Root { .. } | NodeKind::Output(_) => false,
+            NodeKind::Space(_) => {
+                self.kids.is_end() && self.floats.is_end() && !is_id(self.part.id, shown)
+            }
+            NodeKind::Con(con) => is_split(&con.kind) && self.kids.is_end(),
+        }
+    }
+}
+
+fn is_id(id: ConId, other: Option<ConId>) -> bool
+    ensures { result ≡ is_id id other }
+{
+    match other {
+        None => false,
+        Some(other) => id == other,
+    }
+}
+
+fn is_split(kind: &ConKind) -> bool
+    ensures { result ≡ is_split kind.now }
+{
+    match kind {
+        ConKind::Split { .. } => true,
+        ConKind::Window { .. } | ConKind::Placeholder { .. } => false,
+    }
+}
+
+impl Row {
+    /// Whether the row has no node.
+    pub fn is_end(&self) -> bool
+        ensures { result ≡ is_end self.now }
+    {
+        self.first.is_none()
+    }
+
+    /// Adds the nodes of a row at the end.
+    pub fn append(&mut self, row: Row)
+        ensures { self.new ≡ append self.old row }
+    {
+        match &mut self.first {
+            None => *self = row,
+            Some(cell) => cell.rest.append(row),
+        }
+    }
+
+    /// Takes out the first node with all that is below it. Nothing where the row is at its end.
+    pub fn take_first(&mut self) -> Row
+        ensures taken { result ≡ first_alone self.old }
+        ensures rest { self.new ≡ rest_of self.old }
+    {
+        match self.first.take() {
+            None => Row::new(),
+            Some(mut cell) => {
+                mem::swap(self, &mut cell.rest);
+                Row { first: Some(cell) }
+            }
+        }
+    }
+
+    /// Takes the node out with all that is below it. `None` exactly where it is not here.
+    #[cycle(take_out)]
+    pub fn take_out(&mut self, id: ConId) -> Option<Row>
+        ensures taken { MatchOption result (has id self.old ≡ false)
+            (λ row. (has id self.old ≡ true) × (row ≡ only id self.old)) }
+        ensures rest { self.new ≡ without id self.old }
+    {
+        match &mut self.first {
+            None => None,
+            Some(cell) if cell.part.id == id => Some(self.take_first()),
+            Some(cell) => cell.take_out_below(id),
+        }
+    }
+
+    /// Changes the node's place with that of the spare cell, where it is here. Says whether it is.
+    #[cycle(swap)]
+    pub(crate) fn swap(&mut self, id: ConId, spare: &mut Cell) -> bool
+        ensures found { result ≡ has id self.old }
+        ensures left { self.new ≡ replaced id (alone spare.old) self.old }
+        ensures taken { alone spare.new ≡ (if has id self.old then only id self.old else alone spare.old) }
+    {
+        match &mut self.first {
+            None => false,
+            Some(cell) if cell.part.id == id => {
+                cell.swap_with(spare);
+                true
+            }
+            Some(cell) => cell.swap_below(id, spare),
+        }
+    }
+
+    /// Takes the node out of the row itself, with all that is below it.
+    fn take_here(&mut self, id: ConId) -> Row
+        ensures taken { result ≡ first_alone (node_in id self.old) }
+        ensures rest { self.new ≡ but id self.old }
+    {
+        match &mut self.first {
+            None => Row::new(),
+            Some(cell) if cell.part.id == id => self.take_first(),
+            Some(cell) => cell.rest.take_here(id),
+        }
+    }
+
+    /// Puts the row's own node last, where it has it.
+    #[tactic(auto, using(crate::proofs::ForestLemmas::to_end_absent))]
+    pub fn put_at_end(&mut self, id: ConId)
+        ensures { self.new ≡ to_end id self.old }
+    {
+        let taken = self.take_here(id);
+        self.append(taken);
+    }
+
+    /// Takes fullscreen from every container but this one.
+    pub fn clear_fullscreen(&mut self, id: ConId)
+        ensures { self.new ≡ unfull id self.old }
+    {
+        if let Some(cell) = &mut self.first {
+            if cell.part.id != id {
+                cell.part.kind.clear_fullscreen();
+            }
+            cell.kids.clear_fullscreen(id);
+            cell.floats.clear_fullscreen(id);
+            cell.rest.clear_fullscreen(id);
+        }
+    }
+
+    /// Removes splits without children and workspaces without containers, from below upwards, but for the workspace
+    /// that the output shows on which the row stands. What is taken out comes before the nodes of `gone`.
+    #[tactic(auto, using(crate::proofs::AppendLemmas::append_both))]
+    pub fn settle(&mut self, shown: Option<ConId>, gone: &mut Row)
+        ensures kept { self.new ≡ settled_row shown self.old }
+        ensures taken { gone.new ≡ append (vacated shown self.old) gone.old }
+    {
+        if let Some(cell) = &mut self.first {
+            let below = cell.part.kind.shown();
+            cell.kids.settle(below, gone);
+            cell.rest.settle(shown, gone);
+            if cell.is_vacant(shown) {
+                gone.prepend(self.take_first());
+            }
+        }
+    }
+
+    /// Puts the nodes of a row before those of this one.
+    pub(crate) fn prepend(&mut self, mut row: Row)
+        ensures { self.new ≡ append row self.old }
+    {
+        row.append(mem::replace(self, Row::new()));
+        *self = row;
+    }
+}

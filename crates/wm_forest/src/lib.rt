@@ -1,0 +1,37 @@
+//! Nodes in rows: the nested value of a tree's nodes, and the calls that look into it and change it.
+#![tactic(auto)]
+
+mod change;
+mod copy;
+mod count;
+mod cursor;
+mod edit;
+mod exchange;
+mod kind;
+mod look;
+mod marks;
+mod part;
+mod place;
+mod placing;
+mod raise;
+pub mod recency;
+mod root;
+mod row;
+mod spot;
+mod sticky;
+mod taking;
+
+pub use change::NOBODY;
+pub use copy::{copy_props, copy_texts_and};
+pub use cursor::Cursor;
+pub use edit::Edit;
+pub use kind::KindEdit;
+pub use marks::{SetMarks, Unmark};
+pub use part::{
+    ConKind, ConPart, ConState, NodeKind, OutputPart, Part, SpacePart, Swallow, SwallowKey,
+};
+pub use place::{NewCon, Place, short_text};
+pub use root::ROOT;
+pub use row::{Cell, Row};
+pub use spot::{Spot, TOP};
+pub use taking::TakeIn;
