@@ -1,5 +1,5 @@
 -- Sticky windows that go along keep what holds of every tree.
-use Rattle.std.proofs.Common.{◌≡◌, ◌≢◌, ℕ, ◌+◌, ◌≤◌, Bool, true, false, cond, ◌||◌, inl, Option, None, Some, refl, ap, sym, ◌∙◌, subst, arith}
+use Rattle.std.proofs.Common.{◌≡◌, ◌≢◌, ℕ, ◌+◌, ◌≤◌, Bool, true, false, cond, inl, Option, None, Some, refl, ap, sym, ◌∙◌, subst, arith}
 use Rattle.wm_base.specs.declared.ids.ConId.{ConId}
 use Rattle.wm_forest.specs.declared.part.Part.{Part}
 use Rattle.wm_forest.specs.declared.part.NodeKind.{NodeKind}
@@ -8,21 +8,20 @@ use Rattle.wm_forest.specs.declared.place.Place.TheVariants.{Float}
 use Rattle.wm_forest.specs.declared.spot.Spot.{Spot}
 use Rattle.wm_tree.specs.Along.{AreSpaces, gone_along, nowhere}
 use Rattle.wm_forest.specs.Sticky.{is_sticky, loose, loosened, sticky}
-use Rattle.wm_forest.specs.Change.{append, at, nobody, unfull, unfull_kind, without}
+use Rattle.wm_forest.specs.Change.{at, nobody, unfull, unfull_kind, without}
 use Rattle.wm_forest.specs.Counts.{con_of, count, marks_of, one_space, row_length, row_with, space_of as is_counted_space}
 use Rattle.wm_forest.specs.Forest.{Forest, end, con}
 use Rattle.wm_tree.specs.Ids.{IdsRise}
 use Rattle.wm_forest.specs.Look.{first_floats, first_kids, first_part, has, kind_by, only, same, space_kind}
-use Rattle.wm_forest.specs.Place.{put}
 use Rattle.wm_forest.specs.SoundRow.{Level, roots, outputs, spaces, containers, below, IsNode, IsSoundRow, one_of, rank_of, tally}
 use Rattle.wm_tree.specs.Sound.{IsSound}
-use Rattle.wm_forest.specs.Spot.{room_below, spot_in, spot_of, top}
+use Rattle.wm_forest.specs.Spot.{room_below, spot_in, top}
 use Rattle.wm_tree.specs.TreeValue.{TreeValue}
 use Rattle.wm_forest.specs.RootId.{root}
 use Rattle.wm_tree.proofs.AttachLemmas.{sound-put, space_room}
 use Rattle.wm_forest.proofs.ChangeLemmas.{by_change, by_place}
-use Rattle.wm_forest.proofs.CountLemmas.{count-put, count-without, counted, found_counted, tally-absent}
-use Rattle.wm_forest.proofs.ForestLemmas.{at_absent, only_absent}
+use Rattle.wm_forest.proofs.CountLemmas.{count-put, count-without, counted}
+use Rattle.wm_forest.proofs.ForestLemmas.{only_absent}
 use Rattle.wm_forest.proofs.LookLemmas.{SeenAs, none_of_four, seen}
 use Rattle.wm_tree.proofs.MoveLemmas.{found_alone}
 use Rattle.wm_tree.proofs.PlaceLemmas.{count_first, found_id, space_of, spaces_le}

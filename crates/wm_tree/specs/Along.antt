@@ -1,13 +1,10 @@
 -- Sticky floating windows go along with what their output shows.
-use Rattle.std.specs.Prelude.{◌≡◌, ◌≢◌, Bool, false, if◌then◌else◌, None, pos}
+use Rattle.std.specs.Prelude.{◌≡◌, ◌≢◌, false, None, pos}
 use Rattle.wm_base.specs.declared.geometry.Rect.{Rect}
 use Rattle.wm_base.specs.declared.ids.ConId.{ConId}
-use Rattle.wm_forest.specs.declared.part.NodeKind.{NodeKind}
-use Rattle.wm_forest.specs.declared.part.NodeKind.TheVariants.{Root, Output, Space, Con}
-use Rattle.wm_forest.specs.declared.part.Part.{Part}
 use Rattle.wm_forest.specs.declared.place.Place.TheVariants.{Float}
 use Rattle.wm_forest.specs.Change.{at, nobody, unfull}
-use Rattle.wm_forest.specs.Forest.{Forest, end, con}
+use Rattle.wm_forest.specs.Forest.{Forest, end}
 use Rattle.wm_forest.specs.Look.{first_floats, kind_of, only, same, space_kind}
 use Rattle.wm_forest.specs.Place.{put}
 use Rattle.wm_forest.specs.Sticky.{loosened, sticky}

@@ -1,6 +1,5 @@
 -- Moving, wrapping and exchanging containers, and their marks.
-use Rattle.std.specs.Prelude.{◌≢◌, ◌≡◌, ℕ, ◌+◌, ◌-◌, Bool, true, false, ◌&&◌, ◌||◌, not, ◌⊎◌, nat_le, nat_lt, if◌then◌else◌, List, [], ◌∷◌, ◌++◌, length, filter, Option, None, Some}
-use Rattle.std.specs.Str.{bytes_eq}
+use Rattle.std.specs.Prelude.{◌≢◌, ◌≡◌, ℕ, ◌+◌, ◌-◌, Bool, true, false, ◌&&◌, ◌||◌, not, ◌⊎◌, nat_le, nat_lt, if◌then◌else◌, List, [], ◌∷◌, ◌++◌, length, Option, None, Some}
 use Rattle.wm_base.specs.declared.errors.Limit.{Limit}
 use Rattle.wm_base.specs.declared.errors.Limit.TheVariants.{Containers, Children, Depth, Marks, Ids}
 use Rattle.wm_base.specs.declared.ids.ConId.{ConId}
@@ -13,7 +12,7 @@ use Rattle.wm_tree.specs.declared.refusal.TreeRefusal.{TreeRefusal}
 use Rattle.wm_tree.specs.declared.refusal.TreeRefusal.TheVariants as refusals
 use Rattle.wm_forest.specs.Exchange.{exchanged_nodes}
 use Rattle.wm_forest.specs.Forest.{Forest, end, con}
-use Rattle.wm_forest.specs.Change.{at, arriving, hole, nobody, replaced, without}
+use Rattle.wm_forest.specs.Change.{at, arriving, without}
 use Rattle.wm_forest.specs.Counts.{but, con_count, mark_count, newcomer_share, row_length, share_of}
 use Rattle.wm_forest.specs.Kinds.{changed}
 use Rattle.wm_forest.specs.Look.{con_kind, first_marks, first_part, has, kind_of, only, same}

@@ -9,10 +9,10 @@ use Rattle.wm_forest.specs.declared.part.Part.{Part}
 use Rattle.wm_forest.specs.declared.place.Place.TheVariants.{Last}
 use Rattle.wm_tree.specs.declared.refusal.TreeRefusal.{TreeRefusal}
 use Rattle.wm_tree.specs.declared.refusal.TreeRefusal.TheVariants as refusals
-use Rattle.wm_forest.specs.Change.{append, at, is_id, shown_of, without}
-use Rattle.wm_forest.specs.Counts.{but, count, row_length, space_count}
+use Rattle.wm_forest.specs.Change.{at, is_id, shown_of, without}
+use Rattle.wm_forest.specs.Counts.{count, row_length, space_count}
 use Rattle.wm_forest.specs.Forest.{Forest, end, con}
-use Rattle.wm_forest.specs.Look.{first_floats, first_kids, has, in_row, kind_of, nth_id, only, same, space_kind}
+use Rattle.wm_forest.specs.Look.{first_kids, has, in_row, kind_of, only, same, space_kind}
 use Rattle.wm_forest.specs.Place.{put}
 use Rattle.wm_forest.specs.Taking.{heir, taking_in}
 use Rattle.wm_tree.specs.TreeValue.{TreeValue, current, output_part, space_part}

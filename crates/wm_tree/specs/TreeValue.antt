@@ -16,7 +16,7 @@ use Rattle.wm_forest.specs.declared.spot.Spot.{Spot}
 use Rattle.wm_forest.specs.Forest.{Forest, end, con}
 use Rattle.wm_forest.specs.ForestCode.{forest_code}
 use Rattle.wm_forest.specs.Change.{shown_of}
-use Rattle.wm_forest.specs.Look.{has, only, node_in, first_alone, first_kids, first_part, kind_by, same}
+use Rattle.wm_forest.specs.Look.{only, node_in, first_alone, first_kids, first_part, kind_by, same}
 use Rattle.wm_forest.specs.Focus.{focused_in, leaf_of, tiled_kids}
 use Rattle.wm_forest.specs.Recency.{first_held}
 use Rattle.wm_forest.specs.RootId.{current_of, id, root}

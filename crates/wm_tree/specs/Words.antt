@@ -1,12 +1,12 @@
 -- The words in which trees change: each gives the tree back where the node is not there.
-use Rattle.std.specs.Prelude.{◌≡◌, ◌+◌, true, false, [], ◌∷◌, ◌++◌, Option, None, Some}
+use Rattle.std.specs.Prelude.{◌≡◌, ◌+◌, true, false, [], ◌∷◌, ◌++◌, None, Some}
 use Rattle.wm_base.specs.declared.ids.ConId.{ConId}
 use Rattle.wm_forest.specs.declared.kind.KindEdit.{KindEdit}
 use Rattle.wm_forest.specs.declared.place.Place.{Place}
 use Rattle.wm_forest.specs.declared.place.NewCon.{NewCon}
 use Rattle.wm_tree.specs.declared.refusal.TreeRefusal.{TreeRefusal}
 use Rattle.wm_tree.specs.declared.refusal.TreeRefusal.TheVariants as refusals
-use Rattle.wm_forest.specs.Forest.{Forest, end, con}
+use Rattle.wm_forest.specs.Forest.{end, con}
 use Rattle.wm_forest.specs.Change.{at, raised_at, settled_row, without}
 use Rattle.wm_forest.specs.Kinds.{kind_changed}
 use Rattle.wm_forest.specs.Look.{has, only}

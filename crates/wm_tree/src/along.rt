@@ -1,12 +1,7 @@
 //! Sticky floating windows, which go along with what their output shows.
-ghost use Rattle.std.specs.Prelude.{◌≡◌, false};
+ghost use Rattle.std.specs.Prelude.{◌≡◌};
 ghost use Rattle.wm_base.specs.declared.ids.ConId.{ConId};
 ghost use Rattle.wm_tree.specs.Along.{gone_along, nowhere, AreSpaces};
-ghost use Rattle.wm_forest.specs.Sticky.{is_sticky, loose, loosened, sticky};
-ghost use Rattle.wm_forest.specs.Change.{append, at};
-ghost use Rattle.wm_forest.specs.Forest.{end};
-ghost use Rattle.wm_forest.specs.Look.{first_floats, has, only, same};
-ghost use Rattle.wm_forest.specs.Row.{row_of};
 ghost use Rattle.wm_tree.specs.Sound.{IsSound};
 ghost use Rattle.wm_forest.specs.SoundRow.{tally};
 

@@ -1,11 +1,10 @@
 //! Putting a container into the tree.
-ghost use Rattle.std.specs.Prelude.{◌≡◌, ◌≢◌, ◌≤◌, false, true, Err, None, IfOk, IfErr, OnOk, OnErr, IfSome, MatchOption};
+ghost use Rattle.std.specs.Prelude.{◌≡◌, ◌≢◌, ◌≤◌, false, true, Err, None, IfOk, IfErr, OnOk, OnErr, IfSome};
 ghost use Rattle.wm_forest.specs.Counts.{newcomer_share, row_length};
-ghost use Rattle.wm_forest.specs.Look.{first_part, has, only, same};
+ghost use Rattle.wm_forest.specs.Look.{has, same};
 ghost use Rattle.wm_forest.specs.Forest.{end, con};
-ghost use Rattle.wm_forest.specs.Place.{IsPlace, named, new_part, passed_limit, put, rect_at, room_at, room_by, room_under, row_room, share_at, siblings};
+ghost use Rattle.wm_forest.specs.Place.{IsPlace, named, new_part, passed_limit, rect_at, share_at};
 ghost use Rattle.wm_tree.specs.Sound.{IsSound};
-ghost use Rattle.wm_forest.specs.Spot.{spot_in};
 ghost use Rattle.wm_forest.specs.RootId.{id};
 ghost use Rattle.wm_base.specs.declared.ids.ConId.{ConId};
 ghost use Rattle.wm_tree.specs.Words.{attached, IsAttachCause};

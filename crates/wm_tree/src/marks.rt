@@ -3,7 +3,6 @@ ghost use Rattle.std.specs.Prelude.{None, ◌≢◌, ◌≡◌, ◌++◌, ◌∷
 ghost use Rattle.wm_forest.specs.Look.{con_kind, has, kind_of};
 ghost use Rattle.wm_tree.specs.Sound.{IsSound};
 ghost use Rattle.wm_tree.specs.Move.{is_full_of_marks, marked, marks_in, unmarked, IsMarkCause};
-ghost use Rattle.wm_forest.specs.Marks.{marks_word, other_marks, unmark_word};
 ghost use Rattle.wm_forest.specs.Recency.{without_id};
 ghost use Rattle.wm_tree.specs.declared.refusal.TreeRefusal.TheVariants.{Full, Missing};
 ghost use Rattle.wm_tree.specs.declared.refusal.TreeRefusal.TheVariants as refusals;

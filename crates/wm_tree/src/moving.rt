@@ -1,14 +1,11 @@
 //! Moving, wrapping and exchanging containers.
 ghost use Rattle.std.specs.Prelude.{◌≡◌, ◌≢◌, ◌≤◌, false, true, Err, None, IfOk, IfErr, OnOk, OnErr, IfSome, MatchOption, IsOk, is_some};
-ghost use Rattle.wm_forest.specs.Change.{arriving, hole};
 ghost use Rattle.wm_forest.specs.Look.{has, only};
 ghost use Rattle.wm_tree.specs.Move.{IsExchange, IsMove, apart, exchanged, is_too_deep, moved, moved_share, passed_by_move, passed_by_wrap, same_space, share_in, wrap_word, wrapped, IsExchangeCause, IsMoveCause, IsWrapCause};
-ghost use Rattle.wm_forest.specs.Exchange.{exchanged_nodes};
 ghost use Rattle.wm_forest.specs.Place.{IsTiled, named, put};
 ghost use Rattle.wm_base.specs.declared.ids.ConId.{ConId};
 ghost use Rattle.wm_tree.specs.Sound.{IsSound};
 ghost use Rattle.wm_forest.specs.SoundRow.{tally};
-ghost use Rattle.wm_forest.specs.Row.{alone};
 ghost use Rattle.wm_forest.specs.RootId.{id};
 ghost use Rattle.wm_tree.specs.TreeValue.{parent};
 ghost use Rattle.wm_tree.specs.declared.refusal.TreeRefusal.TheVariants.{Full, Missing};

@@ -1,12 +1,9 @@
 //! Outputs that come and go.
-ghost use Rattle.std.specs.Prelude.{◌≡◌, ◌≢◌, ◌≤◌, false, true, Err, None, IfOk, IfErr, OnOk, OnErr, IfSome, IsOk, min};
-ghost use Rattle.wm_forest.specs.Counts.{but, row_length, space_count};
+ghost use Rattle.std.specs.Prelude.{◌≡◌, ◌≢◌, ◌≤◌, false, true, Err, None, IfOk, IfErr, OnOk, OnErr, IfSome, IsOk};
+ghost use Rattle.wm_forest.specs.Counts.{space_count};
 ghost use Rattle.wm_forest.specs.Forest.{end};
-ghost use Rattle.wm_forest.specs.Look.{first_floats, first_kids, has, nth_id, only};
-ghost use Rattle.wm_forest.specs.Change.{without};
+ghost use Rattle.wm_forest.specs.Look.{has};
 ghost use Rattle.wm_tree.specs.Outputs.{IsOutput, IsOutputCause, handed_on, new_output, passed_by_output, with_output, without_output, yielded};
-ghost use Rattle.wm_forest.specs.Taking.{heir, taking_in};
-ghost use Rattle.wm_forest.specs.Row.{row_of};
 ghost use Rattle.wm_forest.specs.SoundRow.{IsOutputRect};
 ghost use Rattle.wm_tree.specs.Sound.{IsSound};
 ghost use Rattle.wm_forest.specs.RootId.{id};

@@ -1,5 +1,5 @@
 //! The tree: its nodes, the order of recency, the urgent windows, the next id, and what new nodes get.
-ghost use Rattle.std.specs.Prelude.{◌≡◌, ◌≤◌, ◌<◌, ◌+◌, ◌*◌, ◌∷◌, [], IfSome, MatchOption, OnSome, true, length, slice_get};
+ghost use Rattle.std.specs.Prelude.{◌≡◌, ◌≤◌, ◌<◌, ◌+◌, ◌∷◌, [], IfSome, MatchOption, OnSome, true, length, slice_get};
 ghost use Rattle.std.specs.Option.{option_copied};
 ghost use Rattle.wm_forest.specs.Forest.{Forest, end, con};
 ghost use Rattle.wm_forest.specs.Holding.{is_held};
@@ -7,7 +7,6 @@ ghost use Rattle.wm_forest.specs.Look.{node_in, con_kind, first_floats, first_ki
 ghost use Rattle.wm_forest.specs.Row.{alone, row_of};
 ghost use Rattle.wm_tree.specs.Sound.{IsSound};
 ghost use Rattle.wm_tree.specs.TreeValue.{current, current_in, focused, focused_child, leaf, parent, shown, shown_space, spot, workspace_of};
-ghost use Rattle.wm_forest.specs.RootId.{current_of};
 ghost use Rattle.wm_forest.specs.Focus.{floating_row, focused_in, floats_by, tiled_by, tiled_kids};
 
 use std::alloc::Global;

@@ -2,7 +2,6 @@
 ghost use Rattle.std.specs.Prelude.{◌≡◌, ◌≢◌, ◌≤◌, ◌+◌, false, true, Err, IsOk, None, Some, slice_get};
 ghost use Rattle.wm_forest.specs.Look.{con_kind, has, kind_of, only};
 ghost use Rattle.wm_tree.specs.Words.{detached, edited, settled, with_raised};
-ghost use Rattle.wm_forest.specs.Change.{raised_at, raised_in};
 ghost use Rattle.wm_forest.specs.Place.{IsTiled};
 ghost use Rattle.wm_forest.specs.Recency.{inside, lists, without_id};
 ghost use Rattle.wm_forest.specs.Settle.{is_settled, vacated};
