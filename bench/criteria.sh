@@ -8,7 +8,7 @@ here=$(cd "$(dirname "$0")/.." && pwd)
 folder=$(mktemp -d)
 trap 'rm -rf "$folder"' EXIT
 mkdir -p "$folder/crates/criteria_bench/src"
-for crate in wm_defs wm_base wm_grammar wm_criteria; do
+for crate in wm_defs wm_base wm_language wm_words wm_grammar wm_forest wm_tree wm_criteria; do
     mkdir "$folder/crates/$crate"
     for part in src specs proofs; do
         cp -r "$here/crates/$crate/$part" "$folder/crates/$crate/$part"

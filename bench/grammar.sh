@@ -9,8 +9,10 @@ here=$(cd "$(dirname "$0")/.." && pwd)
 folder=$(mktemp -d)
 trap 'rm -rf "$folder"' EXIT
 mkdir -p "$folder/crates/grammar_speed/src"
-cp -r "$here/crates/wm_defs" "$here/crates/wm_base" "$here/crates/wm_grammar" "$folder/crates/"
-grep -E '^(wm_defs|wm_base|wm_grammar):' "$here/crates.txt" >"$folder/crates.txt"
+for crate in wm_defs wm_base wm_language wm_words wm_grammar; do
+    cp -r "$here/crates/$crate" "$folder/crates/"
+    grep "^$crate:" "$here/crates.txt" >>"$folder/crates.txt"
+done
 echo 'grammar_speed: wm_base wm_grammar' >>"$folder/crates.txt"
 cat >"$folder/crates/grammar_speed/src/main.rt" <<'PROGRAM'
 //! Times how long reading a text of commands takes, and printing it.

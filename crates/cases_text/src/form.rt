@@ -1,7 +1,7 @@
 //! The plain form of a batch: a line for each group, with its keys and its commands.
 use case_data::push_shown;
 use std::alloc::{AllocError, Global};
-use wm_grammar::{Batch, Group};
+use wm_language::{Batch, Group};
 
 /// A line, and how often it stands there.
 #[derive(Drop)]

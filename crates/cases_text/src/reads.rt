@@ -4,7 +4,8 @@ ghost use Rattle.wm_grammar.specs.Readable.{IsReadable};
 use crate::form::form_of;
 use case_data::{Fault, Words, push_shown, string_of};
 use std::alloc::Global;
-use wm_grammar::{Batch, ReadRefusal, print, read};
+use wm_grammar::{print, read};
+use wm_language::{Batch, ReadRefusal};
 
 /// How many bytes of a printed text are shown.
 const SHOWN: usize = 4096;

@@ -7,7 +7,7 @@ use Rattle.wm_base.specs.declared.geometry.Rect.{Rect}
 use Rattle.wm_base.specs.declared.ids.ConId.{ConId}
 use Rattle.wm_floats.specs.Rounds.{shift_tree, shifted_x, shifted_y}
 use Rattle.wm_floats.specs.Windows.{rect_set, restated, state_of}
-use Rattle.wm_grammar.specs.declared.arguments.SwapArg.{SwapArg}
+use Rattle.wm_language.specs.declared.arguments.SwapArg.{SwapArg}
 use Rattle.wm_forest.specs.Look.{same}
 use Rattle.wm_forest.specs.declared.part.ConState.{ConState}
 use Rattle.wm_forest.specs.declared.place.Place.TheVariants.{After}

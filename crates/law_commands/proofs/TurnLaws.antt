@@ -15,7 +15,7 @@ use Rattle.wm_shared.specs.Neighbours.{after, before, dir_axis, first_id, neighb
 use Rattle.wm_shared.specs.Subject.{is_container}
 use Rattle.wm_focus.specs.Swaps.{con_named, exchanged_with, swap_tree}
 use Rattle.wm_focus.specs.declared.rungs.Aim.TheVariants.{Beside}
-use Rattle.wm_grammar.specs.declared.arguments.SwapArg.TheVariants as swaps
+use Rattle.wm_language.specs.declared.arguments.SwapArg.TheVariants as swaps
 use Rattle.law_commands.proofs.PartMaps.{count-mapped, edited_mapped, mapped, mapped-mapped, mapped_all, only_mapped, spot_mapped, tuned}
 use Rattle.wm_focus.proofs.MoveGoals.{chained, turn_fits}
 use Rattle.wm_focus.proofs.TurnLemmas.{heads, heads_only}

@@ -6,7 +6,7 @@ use Rattle.wm_base.specs.declared.ids.ConId.{ConId}
 use Rattle.wm_focus.specs.Moves.{beside, is_split_con, move_dir_tree}
 use Rattle.wm_shared.specs.Subject.{is_container}
 use Rattle.wm_focus.specs.Swaps.{swap_tree}
-use Rattle.wm_grammar.specs.declared.arguments.SwapArg.TheVariants as swaps
+use Rattle.wm_language.specs.declared.arguments.SwapArg.TheVariants as swaps
 use Rattle.wm_forest.specs.declared.part.ConPart.{ConPart}
 use Rattle.wm_forest.specs.Forest.{end}
 use Rattle.wm_forest.specs.Look.{con_kind, first_floats, first_kids, kind_of, only, same}

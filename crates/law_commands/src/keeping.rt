@@ -8,7 +8,7 @@ ghost use Rattle.wm_forest.specs.SoundRow.{ranked};
 
 use wm_base::{ConId, Dir, Refusal, Text};
 use wm_focus::{move_dir, move_to_mark, swap};
-use wm_grammar::SwapArg;
+use wm_language::SwapArg;
 use wm_spaces::{output_removed, send_to_output};
 use wm_tree::Tree;
 

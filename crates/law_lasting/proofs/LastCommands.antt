@@ -23,8 +23,8 @@ use Rattle.wm_focus.specs.Parents.{raised_some}
 use Rattle.wm_shared.specs.Neighbours.{is_forward}
 use Rattle.wm_focus.specs.Splits.{gives_layout, laid, laid_as, layout_refusal, split_as}
 use Rattle.wm_focus.specs.Swaps.{beside_refusal, deep_error, exchange_refusal, exchanged_with, is_part, moved_after}
-use Rattle.wm_grammar.specs.declared.arguments.OnOff.{OnOff}
-use Rattle.wm_grammar.specs.declared.arguments.OutArg.{OutArg}
+use Rattle.wm_language.specs.declared.arguments.OnOff.{OnOff}
+use Rattle.wm_language.specs.declared.arguments.OutArg.{OutArg}
 use Rattle.law_lasting.proofs.LastFloats.{last_float, last_moved, last_placed}
 use Rattle.law_lasting.proofs.LastSizes.{last_round}
 use Rattle.law_lasting.proofs.LastSpaces.{last_entered, last_focusing, last_output, last_remembering, last_sent_some, last_space_goes}

@@ -7,8 +7,8 @@ use Rattle.wm_base.specs.declared.plan.Border.{Border}
 use Rattle.wm_floats.specs.Rounds.{focus_round_tree, focused_some, round_to}
 use Rattle.wm_floats.specs.Windows.{rect_set, state_of}
 use Rattle.wm_focus.specs.Marks.{given_mark, is_marked, kept_marks, mark_tree, unmark_tree, with_mark}
-use Rattle.wm_grammar.specs.declared.arguments.GapOp.{GapOp}
-use Rattle.wm_grammar.specs.declared.arguments.Side.{Side}
+use Rattle.wm_language.specs.declared.arguments.GapOp.{GapOp}
+use Rattle.wm_language.specs.declared.arguments.Side.{Side}
 use Rattle.law_lasting.proofs.LastFloats.{last_restated}
 use Rattle.law_lasting.proofs.LastSpaces.{last_focusing}
 use Rattle.law_lasting.specs.Lasting.{Lasts}

@@ -12,9 +12,9 @@ use Rattle.wm_base.specs.declared.errors.ErrorText.TheVariants as texts
 use Rattle.wm_base.specs.declared.errors.Refusal.{Refusal}
 use Rattle.wm_base.specs.declared.ids.ConId.{ConId}
 use Rattle.wm_criteria.specs.declared.verdict.Verdict.{Verdict}
-use Rattle.wm_grammar.specs.declared.batch.Group.{Group}
-use Rattle.wm_grammar.specs.declared.command.Command.{Command}
-use Rattle.wm_grammar.specs.declared.command.Command.TheVariants as commands
+use Rattle.wm_language.specs.declared.batch.Group.{Group}
+use Rattle.wm_language.specs.declared.command.Command.{Command}
+use Rattle.wm_language.specs.declared.command.Command.TheVariants as commands
 use Rattle.law_lasting.proofs.LastCommands.{last_dir, last_floating, last_focus_dir, last_laid, last_output_some, last_raised_some, last_split, last_swap, last_to_mark, last_to_named, last_to_output}
 use Rattle.law_lasting.proofs.LastFloats.{last_kind, last_placed, last_scratchpad, last_stuck}
 use Rattle.law_lasting.proofs.LastSizes.{last_border, last_cycled, last_format, last_gaps, last_mark, last_rect, last_resized, last_unmark}

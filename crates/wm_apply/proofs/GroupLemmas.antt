@@ -8,8 +8,8 @@ use Rattle.wm_criteria.specs.declared.verdict.Verdict.{Verdict}
 use Rattle.wm_criteria.specs.declared.verdict.Verdict.TheVariants.{Ready, Bad, PatternRefused}
 use Rattle.wm_criteria.specs.Patterns.{keys_of}
 use Rattle.wm_criteria.specs.Searching.{group_keys}
-use Rattle.wm_grammar.specs.declared.batch.Group.{Group}
-use Rattle.wm_grammar.specs.declared.command.Command.{Command}
+use Rattle.wm_language.specs.declared.batch.Group.{Group}
+use Rattle.wm_language.specs.declared.command.Command.{Command}
 use Rattle.wm_apply.specs.declared.targets.Targets.{Targets}
 use Rattle.wm_apply.specs.Batches.{Outcome, commands_done, group_done, groups_done, groups_of, targets}
 

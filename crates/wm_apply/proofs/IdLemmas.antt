@@ -20,10 +20,10 @@ use Rattle.wm_floats.specs.Floating.{float_tree, sink_tree}
 use Rattle.wm_floats.specs.Kinds.{is_of}
 use Rattle.wm_floats.specs.Rounds.{focus_round_tree, shift_tree}
 use Rattle.wm_floats.specs.Scratchpad.{show_scratchpad_tree}
-use Rattle.wm_grammar.specs.declared.arguments.OnOff.{OnOff}
-use Rattle.wm_grammar.specs.declared.batch.Group.{Group}
-use Rattle.wm_grammar.specs.declared.command.Command.{Command}
-use Rattle.wm_grammar.specs.declared.command.Command.TheVariants as commands
+use Rattle.wm_language.specs.declared.arguments.OnOff.{OnOff}
+use Rattle.wm_language.specs.declared.batch.Group.{Group}
+use Rattle.wm_language.specs.declared.command.Command.{Command}
+use Rattle.wm_language.specs.declared.command.Command.TheVariants as commands
 use Rattle.wm_shared.proofs.RiseLemmas.{ids_focusing, ids_same as as_same, output_same, over_same}
 use Rattle.wm_shared.specs.Showing.{focusing, output_focused}
 use Rattle.wm_shared.specs.Subject.{is_hidden}

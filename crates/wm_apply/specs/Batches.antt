@@ -6,9 +6,9 @@ use Rattle.wm_base.specs.declared.ids.ConId.{ConId}
 use Rattle.wm_criteria.specs.declared.verdict.Verdict.{Verdict}
 use Rattle.wm_criteria.specs.declared.verdict.Verdict.TheVariants.{Ready, Bad, PatternRefused}
 use Rattle.wm_criteria.specs.Gathered.{matching}
-use Rattle.wm_grammar.specs.declared.batch.Criteria.{Criteria}
-use Rattle.wm_grammar.specs.declared.batch.Group.{Group}
-use Rattle.wm_grammar.specs.declared.command.Command.{Command}
+use Rattle.wm_language.specs.declared.batch.Criteria.{Criteria}
+use Rattle.wm_language.specs.declared.batch.Group.{Group}
+use Rattle.wm_language.specs.declared.command.Command.{Command}
 use Rattle.wm_tree.specs.TreeValue.{TreeValue, tree_code}
 use Rattle.wm_apply.specs.contracts.applied.CommandReply as reply
 use Rattle.wm_apply.specs.declared.applied.CommandReply.{CommandReply}

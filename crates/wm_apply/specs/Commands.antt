@@ -4,8 +4,8 @@ use Rattle.std.specs.Option.{option_map}
 use Rattle.wm_base.specs.declared.errors.ErrorText.{ErrorText}
 use Rattle.wm_base.specs.declared.errors.ErrorText.TheVariants as errors
 use Rattle.wm_base.specs.declared.ids.ConId.{ConId}
-use Rattle.wm_grammar.specs.declared.command.Command.{Command}
-use Rattle.wm_grammar.specs.declared.command.Command.TheVariants as commands
+use Rattle.wm_language.specs.declared.command.Command.{Command}
+use Rattle.wm_language.specs.declared.command.Command.TheVariants as commands
 use Rattle.wm_tree.specs.TreeValue.{TreeValue, focused}
 use Rattle.wm_apply.specs.declared.applied.CommandReply.{CommandReply}
 use Rattle.wm_apply.specs.declared.applied.CommandReply.TheVariants.{Error}

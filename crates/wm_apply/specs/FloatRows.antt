@@ -7,10 +7,10 @@ use Rattle.wm_floats.specs.Floating.{float_refusal, float_tree, sink_refusal, si
 use Rattle.wm_floats.specs.Fullscreen.{fullscreen_tree}
 use Rattle.wm_floats.specs.Kinds.{focus_kind_refusal, focus_kind_tree, is_of}
 use Rattle.wm_floats.specs.Windows.{state_of, sticky_set}
-use Rattle.wm_grammar.specs.declared.arguments.Kind.{Kind}
-use Rattle.wm_grammar.specs.declared.arguments.Kind.TheVariants.{Floating, Tiling, Toggle}
-use Rattle.wm_grammar.specs.declared.arguments.OnOff.{OnOff}
-use Rattle.wm_grammar.specs.declared.arguments.OnOff.TheVariants as switch
+use Rattle.wm_language.specs.declared.arguments.Kind.{Kind}
+use Rattle.wm_language.specs.declared.arguments.Kind.TheVariants.{Floating, Tiling, Toggle}
+use Rattle.wm_language.specs.declared.arguments.OnOff.{OnOff}
+use Rattle.wm_language.specs.declared.arguments.OnOff.TheVariants as switch
 use Rattle.wm_forest.specs.declared.part.ConState.{ConState}
 use Rattle.wm_tree.specs.TreeValue.{TreeValue}
 

@@ -4,7 +4,7 @@ use Rattle.wm_base.specs.declared.errors.ErrorText.TheVariants as errors
 use Rattle.wm_base.specs.declared.errors.Refusal.{Refusal}
 use Rattle.wm_base.specs.declared.errors.Refusal.TheVariants.{NoTarget}
 use Rattle.wm_base.specs.declared.ids.ConId.{ConId}
-use Rattle.wm_grammar.specs.declared.arguments.OutArg.{OutArg}
+use Rattle.wm_language.specs.declared.arguments.OutArg.{OutArg}
 use Rattle.wm_shared.specs.Refusing.{error_if}
 use Rattle.wm_shared.specs.Showing.{output_focused}
 use Rattle.wm_shared.specs.Subject.{is_hidden, is_space}

@@ -5,8 +5,8 @@ use Rattle.wm_base.specs.declared.errors.ErrorText.TheVariants as errors
 use Rattle.wm_base.specs.declared.errors.Refusal.{Refusal}
 use Rattle.wm_base.specs.declared.errors.Refusal.TheVariants.{NoTarget}
 use Rattle.wm_base.specs.declared.ids.ConId.{ConId}
-use Rattle.wm_grammar.specs.declared.command.Command.{Command}
-use Rattle.wm_grammar.specs.declared.command.Command.TheVariants as commands
+use Rattle.wm_language.specs.declared.command.Command.{Command}
+use Rattle.wm_language.specs.declared.command.Command.TheVariants as commands
 use Rattle.wm_floats.specs.Placing.{centre_refusal, centre_tree, place_at_refusal, place_at_tree}
 use Rattle.wm_floats.specs.Scratchpad.{show_scratchpad_refusal, show_scratchpad_tree, to_scratchpad_refusal, to_scratchpad_tree}
 use Rattle.wm_floats.specs.Windows.{window_refusal}

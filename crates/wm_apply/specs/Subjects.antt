@@ -8,7 +8,7 @@ use Rattle.wm_base.specs.declared.errors.Limit.TheVariants as limits
 use Rattle.wm_base.specs.declared.errors.Refusal.{Refusal}
 use Rattle.wm_base.specs.declared.errors.Refusal.TheVariants as refusals
 use Rattle.wm_base.specs.declared.ids.ConId.{ConId}
-use Rattle.wm_grammar.specs.declared.command.Command.{Command}
+use Rattle.wm_language.specs.declared.command.Command.{Command}
 use Rattle.wm_shared.specs.Subject.{is_subject_kind}
 use Rattle.wm_forest.specs.Look.{con_kind, kind_of, space_kind}
 use Rattle.wm_tree.specs.TreeValue.{TreeValue}

@@ -14,7 +14,7 @@ use std::alloc::Global;
 use std::marker::Model;
 use wm_base::{ConId, List, NoMemory, Text};
 use wm_criteria::{Prepared, Verdict, matching};
-use wm_grammar::{Command, Group};
+use wm_language::{Command, Group};
 use wm_layouts::Env;
 use wm_tree::Tree;
 

@@ -11,7 +11,7 @@ use crate::subjects::{run_each, text_of};
 use crate::targets::Targets;
 use std::alloc::{AllocError, Global};
 use wm_base::{ConId, ErrorText, NoMemory, Text};
-use wm_grammar::Command;
+use wm_language::Command;
 use wm_shared::is_subject;
 use wm_tree::Tree;
 

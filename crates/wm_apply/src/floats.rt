@@ -7,7 +7,7 @@ ghost use Rattle.wm_tree.specs.Sound.{IsSound};
 
 use wm_base::{ConId, Refusal};
 use wm_floats::{float, focus_kind, fullscreen, is_floating, sink, stick};
-use wm_grammar::{Kind, OnOff};
+use wm_language::{Kind, OnOff};
 use wm_tree::Tree;
 
 /// Whether a property is on after the command, given whether it is on now.

@@ -5,7 +5,7 @@ ghost use Rattle.wm_shared.specs.Refusing.{IsCause};
 
 use std::alloc::AllocError;
 use wm_base::{ConId, ErrorText, Refusal};
-use wm_grammar::Command;
+use wm_language::Command;
 use wm_shared::is_space;
 use wm_tree::{ConKind, Cursor, NodeKind, Part, Tree};
 

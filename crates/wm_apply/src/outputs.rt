@@ -7,7 +7,7 @@ ghost use Rattle.wm_tree.specs.Sound.{IsSound};
 
 use std::alloc::Global;
 use wm_base::{ConId, ErrorText, Refusal};
-use wm_grammar::OutArg;
+use wm_language::OutArg;
 use wm_shared::{is_hidden, is_space};
 use wm_spaces::{focus_output, move_workspace, output_at, send_to_output};
 use wm_tree::Tree;

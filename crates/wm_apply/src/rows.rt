@@ -15,7 +15,7 @@ use wm_focus::{
     cycle_layout, focus_child, focus_dir, focus_parent, mark, move_dir, move_to_mark, set_layout,
     split, swap, unmark,
 };
-use wm_grammar::Command;
+use wm_language::Command;
 use wm_shared::is_hidden;
 use wm_sizes::{cycle_border, resize, resize_set, set_border, set_gaps, title_format};
 use wm_spaces::{rename, send_to, show};

@@ -9,7 +9,7 @@ use crate::applied::CommandReply;
 use crate::rows::{How, run_row};
 use std::alloc::Global;
 use wm_base::{ConId, ErrorText, Limit, NoMemory, Refusal, Text};
-use wm_grammar::Command;
+use wm_language::Command;
 use wm_shared::is_subject;
 use wm_tree::Tree;
 

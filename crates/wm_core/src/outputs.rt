@@ -8,7 +8,7 @@ ghost use Rattle.wm_spaces.specs.Names.{output_named};
 use crate::desk::Desk;
 use crate::step::Answer;
 use wm_base::{ConId, Edges, NoMemory, OutputPlan, Refusal, Text};
-use wm_grammar::OutArg;
+use wm_language::OutArg;
 use wm_layouts::is_fit_rect;
 use wm_spaces::{output_added, output_at, output_removed};
 use wm_tree::Tree;

@@ -2,15 +2,15 @@
 use Rattle.std.proofs.Common.{◌≡◌, ℕ, zero, suc, ◌+◌, ◌<◌, ◌≤◌, Bool, true, false, List, [], ◌∷◌, ◌++◌, length, drop, Option, Some, None, refl, arith, length-append}
 use Rattle.std.specs.Prelude.{◌==◌, ◌||◌, ◌&&◌, not, option_map, if◌then◌else◌}
 use Rattle.std.specs.Option.{option_to_list}
-use Rattle.wm_grammar.specs.declared.command.Command.{Command}
-use Rattle.wm_grammar.specs.declared.batch.Key.{Key}
-use Rattle.wm_grammar.specs.declared.batch.Criteria.{Criteria}
-use Rattle.wm_grammar.specs.declared.batch.Group.{Group}
-use Rattle.wm_grammar.specs.Pieces.{◌>>=◌, is_blank, is_nil, skip, starts}
+use Rattle.wm_language.specs.declared.command.Command.{Command}
+use Rattle.wm_language.specs.declared.batch.Key.{Key}
+use Rattle.wm_language.specs.declared.batch.Criteria.{Criteria}
+use Rattle.wm_language.specs.declared.batch.Group.{Group}
+use Rattle.wm_words.specs.Pieces.{◌>>=◌, is_blank, is_nil, skip, starts}
 use Rattle.wm_grammar.specs.Criteria.{and_keys, closed_keys, criteria_at, ends_key, has_place, key_at, keys_at, place_of}
 use Rattle.wm_grammar.specs.Openings.{command_at}
 use Rattle.wm_grammar.specs.Reading.{Commands, Groups, and_commands, and_groups, before_commands, commands_at, criteria_of, criteria_part, group_at, group_of, groups_at, groups_of, some_groups}
-use Rattle.wm_grammar.proofs.Cuts.{AllSome, if_some, skip_suffix, suffix_length}
+use Rattle.wm_words.proofs.Cuts.{AllSome, if_some, skip_suffix, suffix_length}
 use Rattle.wm_grammar.proofs.CutCommands.{Tail, bind_some, each_some, map_some, some_at, command_suffix}
 use Rattle.wm_grammar.proofs.CutCriteria.{key_suffix}
 use Rattle.wm_criteria.specs.Patterns.{criteria_keys, key_patterns, keys_of, pattern_of, patterns_of}

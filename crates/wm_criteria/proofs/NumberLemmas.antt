@@ -13,8 +13,8 @@ use Rattle.wm_criteria.specs.declared.verdict.Verdict.TheVariants.{PatternRefuse
 use Rattle.wm_criteria.proofs.BuildingLemmas.{tells_both}
 use Rattle.wm_criteria.proofs.CountLemmas.{patterns_within}
 use Rattle.wm_grammar.specs.Reading.{Reads, groups_of}
-use Rattle.wm_grammar.specs.declared.batch.Batch.{Batch}
-use Rattle.wm_grammar.specs.declared.batch.Group.{Group}
+use Rattle.wm_language.specs.declared.batch.Batch.{Batch}
+use Rattle.wm_language.specs.declared.batch.Group.{Group}
 
 -- the patterns ys, numbered from second on, are among xs, numbered from first on
 pub record IsAmong (first : ℕ) (xs : List (List ℕ)) (second : ℕ) (ys : List (List ℕ)) : Type 0 where

@@ -1,7 +1,7 @@
 -- Plain patterns and the texts that they match.
 use Rattle.std.proofs.Common.{◌≡◌, ℕ, Bool, true, false, List, [], ◌∷◌, ◌++◌, length, Some, refl, sym, ◌∙◌, ap, subst, arith, append_assoc, eqb-true}
 use Rattle.std.specs.Prelude.{◌||◌, ◌&&◌, ◌==◌, not, option_map, if◌then◌else◌}
-use Rattle.wm_grammar.specs.Pieces.{starts}
+use Rattle.wm_words.specs.Pieces.{starts}
 use Rattle.wm_criteria.specs.Plain.{Plain, character, characters, is_found, is_part, is_special, is_quotable, plain_of, stands, with_character}
 use Rattle.wm_criteria.specs.Parts.{HasPart, mark, quoted}
 use Rattle.wm_criteria.proofs.PlainLemmas.{characters-step, first_of_more, stands-same}

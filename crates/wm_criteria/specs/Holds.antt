@@ -5,8 +5,8 @@ use Rattle.std.specs.Option.{option_map_or}
 use Rattle.std.specs.Str.{bytes_eq}
 use Rattle.wm_base.specs.declared.ids.ConId.{ConId}
 use Rattle.wm_base.specs.declared.properties.Props.{Props}
-use Rattle.wm_grammar.specs.declared.batch.Key.{Key}
-use Rattle.wm_grammar.specs.declared.batch.Key.TheVariants as keys
+use Rattle.wm_language.specs.declared.batch.Key.{Key}
+use Rattle.wm_language.specs.declared.batch.Key.TheVariants as keys
 use Rattle.wm_forest.specs.declared.part.ConKind.{ConKind}
 use Rattle.wm_forest.specs.declared.part.ConKind.TheVariants.{Split, Window, Placeholder}
 use Rattle.wm_forest.specs.declared.part.ConPart.{ConPart}

@@ -3,7 +3,7 @@ use Rattle.std.specs.Prelude.{ℕ, Bool, true, false, not, ◌||◌, ◌&&◌, �
 use Rattle.std.specs.Option.{option_map_or}
 use Rattle.std.specs.List.{list_any, starts_with}
 use Rattle.std.specs.Char.{is_ascii_alphanumeric}
-use Rattle.wm_grammar.specs.Pieces.{starts}
+use Rattle.wm_words.specs.Pieces.{starts}
 
 -- what a plain pattern asks of a text: characters that are a part of it, maybe at its beginning, maybe at its end
 pub record Plain : Type 0 where

@@ -5,7 +5,7 @@ use Rattle.std.specs.Option.{option_map_or}
 use Rattle.std.specs.Str.{chars}
 use Rattle.regex.specs.Patterns.{default_config, find_str}
 use Rattle.regex_syntax.specs.Grammar.{read}
-use Rattle.wm_grammar.specs.declared.batch.Key.{Key}
+use Rattle.wm_language.specs.declared.batch.Key.{Key}
 use Rattle.wm_criteria.specs.declared.verdict.Verdict.{Verdict}
 use Rattle.wm_criteria.specs.declared.verdict.Verdict.TheVariants.{Ready, Bad, PatternRefused}
 use Rattle.wm_criteria.specs.Forms.{Forms}

@@ -3,7 +3,7 @@ use Rattle.std.specs.Prelude.{◌≡◌, ℕ, List, [], None, Some, IsTrue, is_s
 use Rattle.std.specs.Option.{option_to_list}
 use Rattle.std.specs.Coded.{Coded-set, coded_option, ×_prop}
 use Rattle.std.proofs.Props.{props}
-use Rattle.wm_grammar.specs.contracts.batch.Batch.{the_row}
+use Rattle.wm_language.specs.contracts.batch.Batch.{the_row}
 use Rattle.wm_grammar.specs.Reading.{batch_of, Reads, IsReach}
 use Rattle.wm_criteria.specs.declared.verdict.Verdict.{Verdict}
 use Rattle.wm_criteria.specs.declared.verdict.Verdict.TheVariants.{Ready, Bad, PatternRefused}

@@ -12,7 +12,7 @@ use crate::form::Form;
 use crate::patterns::{keys_of, pattern_of, to_build};
 use std::alloc::{AllocFailed, Global};
 use wm_base::List;
-use wm_grammar::{Group, Key};
+use wm_language::{Group, Key};
 
 /// Why building stopped.
 #[derive(Clone, Copy)]

@@ -11,7 +11,7 @@ use crate::prepared::Prepared;
 use crate::verdict::Verdict;
 use std::alloc::Global;
 use wm_base::{ConId, List, NoMemory};
-use wm_grammar::Key;
+use wm_language::Key;
 use wm_tree::Tree;
 
 /// Whether all keys of the group hold for the container. The group is one of a text that is ready and built, and has

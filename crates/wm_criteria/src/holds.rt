@@ -15,7 +15,7 @@ use crate::plain::{is_plain, plain_search};
 use crate::property::Property;
 use std::alloc::Global;
 use wm_base::{ConId, NoMemory, Props, Text};
-use wm_grammar::Key;
+use wm_language::Key;
 use wm_tree::{ConKind, Tree};
 
 /// The word that stands for the focused window's property, or the focused workspace's name.

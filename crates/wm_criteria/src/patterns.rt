@@ -7,7 +7,7 @@ ghost use Rattle.wm_criteria.specs.Plain.{is_plain};
 
 use crate::plain::is_plain;
 use wm_base::Text;
-use wm_grammar::{Group, Key};
+use wm_language::{Group, Key};
 
 /// The pattern of a key, where its value is one.
 pub fn pattern_of(key: &Key) -> Option<&str>

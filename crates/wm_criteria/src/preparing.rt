@@ -13,7 +13,7 @@ use crate::prepared::Prepared;
 use crate::verdict::{Verdict, read_verdict};
 use std::alloc::Global;
 use wm_base::{NoMemory, Str};
-use wm_grammar::Batch;
+use wm_language::Batch;
 
 /// Reads a text and builds its patterns, in their order until one is refused. Plain ones are not built.
 pub fn prepare<B: Build>(alloc: Global, text: &str, build: &mut B) -> Result<Prepared, NoMemory>

@@ -4,7 +4,8 @@ ghost use Rattle.wm_criteria.specs.Verdict.{IsVerdict, OnRefusal};
 
 use std::alloc::Global;
 use wm_base::NoMemory;
-use wm_grammar::{Batch, ReadRefusal, read};
+use wm_grammar::read;
+use wm_language::{Batch, ReadRefusal};
 
 /// What a text is, once it was read and its patterns were built.
 #[derive(Debug, Drop)]

@@ -3,7 +3,7 @@ use Rattle.std.proofs.Common.{◌≡◌, true, false, None, refl}
 use Rattle.wm_base.specs.declared.ids.ConId.{ConId}
 use Rattle.wm_shared.specs.Refusing.{IsCause, refusal_by}
 use Rattle.wm_focus.specs.Splits.{gives_layout, layout_refusal, split_refusal}
-use Rattle.wm_grammar.specs.declared.arguments.SplitArg.{SplitArg}
+use Rattle.wm_language.specs.declared.arguments.SplitArg.{SplitArg}
 use Rattle.wm_tree.specs.declared.refusal.TreeRefusal.{TreeRefusal}
 use Rattle.wm_tree.specs.declared.refusal.TreeRefusal.TheVariants.{Full, Missing, NoMemory}
 use Rattle.wm_forest.specs.Look.{has}

@@ -9,12 +9,12 @@ use Rattle.wm_base.specs.declared.plan.Layout.TheVariants.{SplitH, SplitV, Stack
 use Rattle.wm_focus.specs.declared.splits.Layouts.{Layouts}
 use Rattle.wm_shared.specs.Refusing.{error_if, full_error}
 use Rattle.wm_shared.specs.Subject.{is_hidden, is_space}
-use Rattle.wm_grammar.specs.declared.arguments.Cycle.{Cycle}
-use Rattle.wm_grammar.specs.declared.arguments.Cycle.TheVariants as cycles
-use Rattle.wm_grammar.specs.declared.arguments.LayoutArg.{LayoutArg}
-use Rattle.wm_grammar.specs.declared.arguments.LayoutArg.TheVariants as layouts
-use Rattle.wm_grammar.specs.declared.arguments.SplitArg.{SplitArg}
-use Rattle.wm_grammar.specs.declared.arguments.SplitArg.TheVariants as splits
+use Rattle.wm_language.specs.declared.arguments.Cycle.{Cycle}
+use Rattle.wm_language.specs.declared.arguments.Cycle.TheVariants as cycles
+use Rattle.wm_language.specs.declared.arguments.LayoutArg.{LayoutArg}
+use Rattle.wm_language.specs.declared.arguments.LayoutArg.TheVariants as layouts
+use Rattle.wm_language.specs.declared.arguments.SplitArg.{SplitArg}
+use Rattle.wm_language.specs.declared.arguments.SplitArg.TheVariants as splits
 use Rattle.wm_forest.specs.declared.kind.KindEdit.TheVariants as edits
 use Rattle.wm_forest.specs.declared.part.ConKind.{ConKind}
 use Rattle.wm_forest.specs.declared.part.ConKind.TheVariants.{Split, Window, Placeholder}

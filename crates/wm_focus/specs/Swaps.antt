@@ -9,8 +9,8 @@ use Rattle.wm_base.specs.declared.ids.ConId.{ConId}
 use Rattle.wm_focus.specs.Marks.{holder_of}
 use Rattle.wm_shared.specs.Refusing.{error_if, full_error}
 use Rattle.wm_shared.specs.Subject.{is_hidden, is_space}
-use Rattle.wm_grammar.specs.declared.arguments.SwapArg.{SwapArg}
-use Rattle.wm_grammar.specs.declared.arguments.SwapArg.TheVariants as swaps
+use Rattle.wm_language.specs.declared.arguments.SwapArg.{SwapArg}
+use Rattle.wm_language.specs.declared.arguments.SwapArg.TheVariants as swaps
 use Rattle.wm_spaces.specs.Sending.{sent_some, sent_some_refusal}
 use Rattle.wm_forest.specs.declared.part.ConKind.{ConKind}
 use Rattle.wm_forest.specs.declared.part.ConKind.TheVariants.{Split, Window, Placeholder}

@@ -7,7 +7,7 @@ ghost use Rattle.wm_tree.specs.Sound.{IsSound};
 ghost use Rattle.wm_forest.specs.declared.part.ConPart.{ConPart};
 
 use wm_base::{ConId, ErrorText, Layout, Refusal};
-use wm_grammar::{Cycle, LayoutArg, SplitArg};
+use wm_language::{Cycle, LayoutArg, SplitArg};
 use wm_shared::{is_hidden, is_space, refused};
 use wm_tree::{ConKind, Tree};
 

@@ -11,7 +11,7 @@ ghost use Rattle.wm_tree.specs.TreeValue.{workspace_of};
 use crate::marks::marked;
 use crate::within::is_within;
 use wm_base::{ConId, ErrorText, Refusal, Text};
-use wm_grammar::SwapArg;
+use wm_language::SwapArg;
 use wm_shared::{is_hidden, is_space, refused};
 use wm_spaces::send;
 use wm_tree::{ConKind, Place, Tree};

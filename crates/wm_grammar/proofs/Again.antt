@@ -3,14 +3,14 @@ use Rattle.std.proofs.Common.{◌≡◌, ℕ, ◌-◌, ◌≤◌, Bool, true, fa
 use Rattle.std.specs.Prelude.{if◌then◌else◌, ◌==◌, option_map}
 use Rattle.std.proofs.lemmas.Bool.{or_parts, or_cases, eqb-true}
 use Rattle.std.proofs.lemmas.List.{length-append, drop_at}
-use Rattle.wm_grammar.specs.declared.command.Command.{Command}
-use Rattle.wm_grammar.specs.declared.verbs.Verb.{Verb}
+use Rattle.wm_language.specs.declared.command.Command.{Command}
+use Rattle.wm_words.specs.declared.verbs.Verb.{Verb}
 use Rattle.wm_grammar.specs.declared.opening.Opening.{Opening}
-use Rattle.wm_grammar.specs.Pieces.{◌>>=◌, is_blank, is_end, until, has, skip, ends, word, after, unquote, with_byte}
-use Rattle.wm_grammar.specs.Forms.{verb_of, plain_form}
+use Rattle.wm_words.specs.Pieces.{◌>>=◌, is_blank, is_end, until, has, skip, ends, word, after, unquote, with_byte}
+use Rattle.wm_words.specs.Forms.{verb_of, plain_form}
 use Rattle.wm_grammar.specs.Openings.{Opened, opened, closed, made, finished, first_finished, before_rest, verb_command, command_at}
-use Rattle.wm_grammar.specs.Spelling.{is_special, escaped_byte, escaped, quoted}
-use Rattle.wm_grammar.proofs.NumbersAgain.{stops_at, until_past, from_past, until_through}
+use Rattle.wm_language.specs.Spelling.{is_special, escaped_byte, escaped, quoted}
+use Rattle.wm_words.proofs.NumbersAgain.{stops_at, until_past, from_past, until_through}
 
 -- ---- where a command ends
 

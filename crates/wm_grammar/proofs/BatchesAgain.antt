@@ -4,17 +4,17 @@ use Rattle.std.specs.Prelude.{◌==◌, ◌||◌, ◌&&◌, option_map, nat_le}
 use Rattle.std.proofs.lemmas.Bool.{and_parts, leb-true, ne_eqb, eqb-true, true≢false}
 use Rattle.std.proofs.lemmas.List.{length-append}
 use Rattle.wm_base.specs.declared.plan.Border.TheVariants as borders
-use Rattle.wm_grammar.specs.declared.arguments.SplitArg.TheVariants as splits
-use Rattle.wm_grammar.specs.declared.arguments.LayoutArg.TheVariants as layouts
-use Rattle.wm_grammar.specs.declared.arguments.Cycle.TheVariants as cycles
-use Rattle.wm_grammar.specs.declared.arguments.Kind.TheVariants as kinds
-use Rattle.wm_grammar.specs.declared.command.Command.{Command}
-use Rattle.wm_grammar.specs.declared.command.Command.TheVariants as commands
-use Rattle.wm_grammar.specs.declared.batch.Criteria.{Criteria}
-use Rattle.wm_grammar.specs.declared.batch.Group.{Group}
-use Rattle.wm_grammar.specs.declared.batch.Batch.{Batch}
-use Rattle.wm_grammar.specs.Pieces.{is_blank, ends, starts, skip}
-use Rattle.wm_grammar.specs.Spelling.{spelled, move_text, position_text, sides_text, resize_text, gaps_text, renaming_text, criteria_text, commands_text, more_commands_text, group_text, groups_text, more_groups_text, spelling}
+use Rattle.wm_language.specs.declared.arguments.SplitArg.TheVariants as splits
+use Rattle.wm_language.specs.declared.arguments.LayoutArg.TheVariants as layouts
+use Rattle.wm_language.specs.declared.arguments.Cycle.TheVariants as cycles
+use Rattle.wm_language.specs.declared.arguments.Kind.TheVariants as kinds
+use Rattle.wm_language.specs.declared.command.Command.{Command}
+use Rattle.wm_language.specs.declared.command.Command.TheVariants as commands
+use Rattle.wm_language.specs.declared.batch.Criteria.{Criteria}
+use Rattle.wm_language.specs.declared.batch.Group.{Group}
+use Rattle.wm_language.specs.declared.batch.Batch.{Batch}
+use Rattle.wm_words.specs.Pieces.{is_blank, ends, starts, skip}
+use Rattle.wm_language.specs.Spelling.{spelled, move_text, position_text, sides_text, resize_text, gaps_text, renaming_text, criteria_text, commands_text, more_commands_text, group_text, groups_text, more_groups_text, spelling}
 use Rattle.wm_grammar.specs.Readable.{IsReadableCommand, AreReadableCommands, IsReadableGroup, AreReadableGroups, IsReadable}
 use Rattle.wm_grammar.specs.Reading.{Commands, Groups, and_commands, before_commands, commands_at, group_at, some_groups, groups_at, groups_of, Reads}
 use Rattle.wm_grammar.proofs.Commands.{command_again}

@@ -4,16 +4,16 @@ use Rattle.std.specs.Prelude.{IfSome, IfOk, Result, Ok, Err, if◌then◌else◌
 use Rattle.std.proofs.lemmas.Bool.{eqb-true, ne_eqb, false≢true, and_parts, false_from_ne_true}
 use Rattle.std.proofs.Math.Seq.{drop-append_seam}
 use Rattle.std.proofs.lemmas.List.{length-append, length-take, take_at, take-append-drop, take_all, take_more}
-use Rattle.wm_grammar.specs.declared.command.Command.{Command}
-use Rattle.wm_grammar.specs.declared.batch.Criteria.{Criteria}
-use Rattle.wm_grammar.specs.declared.batch.Group.{Group}
-use Rattle.wm_grammar.specs.Pieces.{◌>>=◌, first_of, has, skip}
+use Rattle.wm_language.specs.declared.command.Command.{Command}
+use Rattle.wm_language.specs.declared.batch.Criteria.{Criteria}
+use Rattle.wm_language.specs.declared.batch.Group.{Group}
+use Rattle.wm_words.specs.Pieces.{◌>>=◌, first_of, has, skip}
 use Rattle.wm_grammar.specs.Openings.{command_at}
 use Rattle.wm_grammar.specs.Reading.{Commands, Groups, and_commands, before_commands, commands_at, criteria_part, group_of, group_at, and_groups, some_groups, groups_at, groups_of, is_whole, ends_group}
 use Rattle.wm_grammar.specs.Turns.{command_turn, front_turn, turn_at, command_part}
-use Rattle.wm_grammar.specs.Pieces.{is_semicolon}
+use Rattle.wm_words.specs.Pieces.{is_semicolon}
 use Rattle.wm_grammar.specs.Farthest.{before_quote, before_last_quote, cut_off, inside, here, behind, farthest}
-use Rattle.wm_grammar.proofs.Cuts.{Cut, Suffix, suffix_length, quoted_length, AllSome, if_some}
+use Rattle.wm_words.proofs.Cuts.{Cut, Suffix, suffix_length, quoted_length, AllSome, if_some}
 use Rattle.wm_grammar.proofs.CutCommands.{bind_some, map_some, each_some, some_at}
 use Rattle.wm_grammar.proofs.TurnCuts.{Turned, turned, Begun, begun, turn_suffix, turn_kept}
 

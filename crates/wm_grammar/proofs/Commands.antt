@@ -1,22 +1,22 @@
 -- Every printed command is read again, whatever stands behind its end.
 use Rattle.std.proofs.Common.{◌≡◌, ℕ, Bool, true, false, List, ◌++◌, Option, Some, None, refl, ap, ◌∙◌, append_assoc, codes}
 use Rattle.wm_base.specs.declared.geometry.Dir.TheVariants as dirs
-use Rattle.wm_grammar.specs.declared.arguments.OutArg.{OutArg}
-use Rattle.wm_grammar.specs.declared.arguments.OutArg.TheVariants as outs
-use Rattle.wm_grammar.specs.declared.arguments.Target.{Target}
-use Rattle.wm_grammar.specs.declared.arguments.Target.TheVariants as targets
-use Rattle.wm_grammar.specs.declared.arguments.SwapArg.{SwapArg}
-use Rattle.wm_grammar.specs.declared.arguments.SwapArg.TheVariants as swaps
-use Rattle.wm_grammar.specs.declared.command.Command.{Command}
-use Rattle.wm_grammar.specs.declared.command.Command.TheVariants as commands
-use Rattle.wm_grammar.specs.declared.verbs.Verb.{Verb}
-use Rattle.wm_grammar.specs.declared.verbs.Verb.TheVariants as verbs
+use Rattle.wm_language.specs.declared.arguments.OutArg.{OutArg}
+use Rattle.wm_language.specs.declared.arguments.OutArg.TheVariants as outs
+use Rattle.wm_language.specs.declared.arguments.Target.{Target}
+use Rattle.wm_language.specs.declared.arguments.Target.TheVariants as targets
+use Rattle.wm_language.specs.declared.arguments.SwapArg.{SwapArg}
+use Rattle.wm_language.specs.declared.arguments.SwapArg.TheVariants as swaps
+use Rattle.wm_language.specs.declared.command.Command.{Command}
+use Rattle.wm_language.specs.declared.command.Command.TheVariants as commands
+use Rattle.wm_words.specs.declared.verbs.Verb.{Verb}
+use Rattle.wm_words.specs.declared.verbs.Verb.TheVariants as verbs
 use Rattle.wm_grammar.specs.declared.opening.Opening.{Opening}
 use Rattle.wm_grammar.specs.declared.opening.Opening.TheVariants as openings
-use Rattle.wm_grammar.specs.Pieces.{until, from, has, skip, ends, is_word, single, argument}
-use Rattle.wm_grammar.specs.Forms.{verb_of, plain_form, only_output, focus_word, focus_form, past_to, position_form, move_to_form, past_one_to, move_workspace_form, move_form, border_form, kill_form, scratchpad_form}
+use Rattle.wm_words.specs.Pieces.{until, from, has, skip, ends, is_word, single, argument}
+use Rattle.wm_words.specs.Forms.{verb_of, plain_form, only_output, focus_word, focus_form, past_to, position_form, move_to_form, past_one_to, move_workspace_form, move_form, border_form, kill_form, scratchpad_form}
 use Rattle.wm_grammar.specs.Openings.{made, command_at}
-use Rattle.wm_grammar.specs.Spelling.{spelled, quoted}
+use Rattle.wm_language.specs.Spelling.{spelled, quoted}
 use Rattle.wm_grammar.specs.Readable.{IsArgument, IsOutput, IsSentTo, IsShown, IsSwap, IsReadableCommand, IsMaybeArgument}
 use Rattle.wm_grammar.proofs.Again.{command_plain, command_quoted, IsOpening}
 use Rattle.wm_grammar.proofs.Places.{sides_again, position_again, renaming_again}

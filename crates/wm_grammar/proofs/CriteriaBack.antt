@@ -2,13 +2,13 @@
 use Rattle.std.proofs.Common.{◌≡◌, ℕ, zero, suc, ◌≤◌, ◌⊎◌, Bool, true, false, List, [], ◌∷◌, ◌++◌, length, Option, Some, None, refl, sym, ap, subst, arith, inl, inr}
 use Rattle.std.specs.Prelude.{if◌then◌else◌, ◌==◌, ◌||◌, ◌&&◌, not, option_map}
 use Rattle.std.proofs.lemmas.Bool.{eqb-true}
-use Rattle.wm_grammar.specs.declared.batch.Key.{Key}
+use Rattle.wm_language.specs.declared.batch.Key.{Key}
 use Rattle.wm_grammar.specs.declared.keys.KeyName.{KeyName}
-use Rattle.wm_grammar.specs.Pieces.{◌>>=◌, is_nil, is_blank, ends_name, ends_value, starts, until, from, skip, choice, unquote}
+use Rattle.wm_words.specs.Pieces.{◌>>=◌, is_nil, is_blank, ends_name, ends_value, starts, until, from, skip, choice, unquote}
 use Rattle.wm_grammar.specs.Openings.{before_rest}
 use Rattle.wm_grammar.specs.Criteria.{key_of, value_at, valued_at, key_at, place_of, has_place, ends_key, closed_keys, and_keys, keys_at, criteria_at, flag_words, name_words}
 use Rattle.wm_grammar.specs.Reading.{criteria_of, criteria_part}
-use Rattle.wm_grammar.proofs.Cuts.{Cut, Suffix, suffix_refl, suffix_length, cut_suffix, behind_other, from_suffix, skip_cut, skip_cut_kept, Ext, Outcome, quoted_length, AllSome, if_some, unquote_cut}
+use Rattle.wm_words.proofs.Cuts.{Cut, Suffix, suffix_refl, suffix_length, cut_suffix, behind_other, from_suffix, skip_cut, skip_cut_kept, Ext, Outcome, quoted_length, AllSome, if_some, unquote_cut}
 use Rattle.wm_grammar.proofs.CutCommands.{bind_some, map_some, each_some, some_at, Tail, ext_if, ext_unless, map_ext, behind_quote}
 use Rattle.wm_grammar.proofs.CutCriteria.{inside, key_map_suffix, key_with, key_behind, key_suffix, keys_suffix, behind_bracket}
 

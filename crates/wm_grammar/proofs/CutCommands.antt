@@ -3,15 +3,15 @@ use Rattle.std.proofs.Common.{◌≡◌, ℕ, ◌-◌, ◌<◌, ◌≤◌, ◌�
 use Rattle.std.specs.Prelude.{if◌then◌else◌, ◌==◌, ◌||◌, ◌&&◌, option_map}
 use Rattle.std.proofs.lemmas.Bool.{eqb-true}
 use Rattle.std.proofs.lemmas.List.{length-append, drop-append-le, take-append-drop, length-drop}
-use Rattle.wm_grammar.specs.declared.command.Command.{Command}
-use Rattle.wm_grammar.specs.declared.command.Command.TheVariants as commands
-use Rattle.wm_grammar.specs.declared.verbs.Verb.{Verb}
+use Rattle.wm_language.specs.declared.command.Command.{Command}
+use Rattle.wm_language.specs.declared.command.Command.TheVariants as commands
+use Rattle.wm_words.specs.declared.verbs.Verb.{Verb}
 use Rattle.wm_grammar.specs.declared.opening.Opening.{Opening}
 use Rattle.wm_grammar.specs.declared.opening.Opening.TheVariants as openings
-use Rattle.wm_grammar.specs.Pieces.{◌>>=◌, first_of, is_nil, is_end, is_gap, breaks_word, until, from, has, skip, trim_end, ends, word, after, is_word, argument, unquote}
-use Rattle.wm_grammar.specs.Forms.{verb_of, plain_form}
+use Rattle.wm_words.specs.Pieces.{◌>>=◌, first_of, is_nil, is_end, is_gap, breaks_word, until, from, has, skip, trim_end, ends, word, after, is_word, argument, unquote}
+use Rattle.wm_words.specs.Forms.{verb_of, plain_form}
 use Rattle.wm_grammar.specs.Openings.{Opened, opened, closed, bare, text_at, made, word_at, past_keyword_to, renamed, before_rest, finished, first_finished, verb_command, command_at}
-use Rattle.wm_grammar.proofs.Cuts.{Cut, Suffix, suffix_refl, suffix_cons, suffix_trans, cut_suffix, behind_other, cut_long, until_cut, from_cut, from_suffix, from_cut_kept, skip_cut, skip_cut_kept, skip_suffix, ends_cut, Ext, Late, Outcome, AllSome, outcome_bind, Closing, unquote_closing, unquote_cut, outcome_if, if_some}
+use Rattle.wm_words.proofs.Cuts.{Cut, Suffix, suffix_refl, suffix_cons, suffix_trans, cut_suffix, behind_other, cut_long, until_cut, from_cut, from_suffix, from_cut_kept, skip_cut, skip_cut_kept, skip_suffix, ends_cut, Ext, Late, Outcome, AllSome, outcome_bind, Closing, unquote_closing, unquote_cut, outcome_if, if_some}
 
 -- ---- each value that is there
 

@@ -2,13 +2,13 @@
 use Rattle.std.proofs.Common.{◌≡◌, ℕ, zero, suc, ◌≤◌, Bool, true, false, List, [], ◌∷◌, ◌++◌, length, drop, Option, Some, None, refl, ap, arith}
 use Rattle.std.specs.Prelude.{if◌then◌else◌, ◌==◌, ◌||◌, ◌&&◌, not, option_map}
 use Rattle.std.proofs.lemmas.Bool.{eqb-true}
-use Rattle.wm_grammar.specs.declared.batch.Key.{Key}
+use Rattle.wm_language.specs.declared.batch.Key.{Key}
 use Rattle.wm_grammar.specs.declared.keys.KeyName.{KeyName}
-use Rattle.wm_grammar.specs.Pieces.{◌>>=◌, is_nil, is_blank, ends_name, ends_value, starts, until, from, skip, choice, unquote, with_byte}
+use Rattle.wm_words.specs.Pieces.{◌>>=◌, is_nil, is_blank, ends_name, ends_value, starts, until, from, skip, choice, unquote, with_byte}
 use Rattle.wm_grammar.specs.Openings.{before_rest}
 use Rattle.wm_grammar.specs.Criteria.{key_of, value_at, valued_at, key_at, place_of, has_place, ends_key, closed_keys, and_keys, keys_at, criteria_at, flag_words, name_words}
 use Rattle.wm_grammar.specs.Reading.{criteria_of, criteria_part}
-use Rattle.wm_grammar.proofs.Cuts.{Cut, Suffix, suffix_refl, suffix_cons, suffix_trans, cut_suffix, behind_other, cut_long, from_suffix, skip_cut, skip_cut_kept, skip_suffix, AllSome, if_some}
+use Rattle.wm_words.proofs.Cuts.{Cut, Suffix, suffix_refl, suffix_cons, suffix_trans, cut_suffix, behind_other, cut_long, from_suffix, skip_cut, skip_cut_kept, skip_suffix, AllSome, if_some}
 use Rattle.wm_grammar.proofs.CutCommands.{bind_some, map_some, each_some, any_some, Tail, unquote_suffix}
 
 -- ---- what is read of the front is read of the whole text

@@ -3,11 +3,11 @@ use Rattle.std.proofs.Common.{◌≡◌, ℕ, zero, suc, ◌+◌, ◌-◌, Bool,
 use Rattle.std.specs.Prelude.{if◌then◌else◌, ◌==◌, not, option_map}
 use Rattle.std.proofs.lemmas.Bool.{eqb-true}
 use Rattle.std.proofs.lemmas.List.{length-append, take_at, take-append-drop}
-use Rattle.wm_grammar.specs.Pieces.{◌>>=◌, first_of, has, skip, is_semicolon}
+use Rattle.wm_words.specs.Pieces.{◌>>=◌, first_of, has, skip, is_semicolon}
 use Rattle.wm_grammar.specs.Reading.{IsReach, is_whole, groups_of, groups_at}
 use Rattle.wm_grammar.specs.Turns.{turn_at, command_part}
 use Rattle.wm_grammar.specs.Farthest.{Search, before_quote, before_last_quote, cut_off, inside, here, behind, farthest}
-use Rattle.wm_grammar.proofs.Cuts.{Cut, Suffix}
+use Rattle.wm_words.proofs.Cuts.{Cut, Suffix}
 use Rattle.wm_grammar.proofs.CutCommands.{some_at}
 use Rattle.wm_grammar.proofs.TurnCuts.{turn_suffix}
 use Rattle.wm_grammar.proofs.TurnBack.{turn_back}

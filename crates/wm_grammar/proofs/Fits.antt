@@ -8,29 +8,29 @@ use Rattle.std.proofs.lemmas.List.{append-nil}
 use Rattle.std.specs.Prelude.{nat_lt, not}
 use Rattle.wm_base.specs.declared.geometry.Dir.{Dir}
 use Rattle.wm_base.specs.declared.plan.Border.TheVariants as borders
-use Rattle.wm_grammar.specs.declared.arguments.Cycle.TheVariants as cycles
-use Rattle.wm_grammar.specs.declared.arguments.OnOff.TheVariants as switches
-use Rattle.wm_grammar.specs.declared.arguments.OutArg.TheVariants as outs
-use Rattle.wm_grammar.specs.declared.arguments.SwapArg.TheVariants as swaps
-use Rattle.wm_grammar.specs.declared.arguments.Side.{Side}
-use Rattle.wm_grammar.specs.declared.arguments.GapOp.{GapOp}
-use Rattle.wm_grammar.specs.declared.command.Command.{Command}
-use Rattle.wm_grammar.specs.declared.command.Command.TheVariants as commands
-use Rattle.wm_grammar.specs.declared.verbs.Verb.{Verb}
-use Rattle.wm_grammar.specs.declared.verbs.Verb.TheVariants as verbs
+use Rattle.wm_language.specs.declared.arguments.Cycle.TheVariants as cycles
+use Rattle.wm_language.specs.declared.arguments.OnOff.TheVariants as switches
+use Rattle.wm_language.specs.declared.arguments.OutArg.TheVariants as outs
+use Rattle.wm_language.specs.declared.arguments.SwapArg.TheVariants as swaps
+use Rattle.wm_language.specs.declared.arguments.Side.{Side}
+use Rattle.wm_language.specs.declared.arguments.GapOp.{GapOp}
+use Rattle.wm_language.specs.declared.command.Command.{Command}
+use Rattle.wm_language.specs.declared.command.Command.TheVariants as commands
+use Rattle.wm_words.specs.declared.verbs.Verb.{Verb}
+use Rattle.wm_words.specs.declared.verbs.Verb.TheVariants as verbs
 use Rattle.wm_grammar.specs.declared.opening.Opening.{Opening}
 use Rattle.wm_grammar.specs.declared.opening.Opening.TheVariants as openings
-use Rattle.wm_grammar.specs.Pieces.{◌>>=◌, first_of, is_nil, is_end, until, from, skip, word, after, is_word, says, choice, single, only, is_text, ends_name, starts, digit, digits_from, natural, integer, below_zero, above_zero, only_number, argument}
-use Rattle.wm_grammar.specs.Forms.{move_in, side_of, split_words, layout_words, cycle_words, switch_words, kind_words, op_words, gap_words, scope_words, dir_words, sent_words, target_words, verb_of, plain_form, split_form, layout_form, whole, only_output, output_of, focus_word, focus_form, past_px, past_to, move_by, position_form, move_to_form, past_one_to, move_workspace_form, move_form, past_with, swap_form, hundredths, amounts, resize_by, resize_set, resize_form, fullscreen_form, width_form, border_form, gaps_form, kill_form, scratchpad_form}
+use Rattle.wm_words.specs.Pieces.{◌>>=◌, first_of, is_nil, is_end, until, from, skip, word, after, is_word, says, choice, single, only, is_text, ends_name, starts, digit, digits_from, natural, integer, below_zero, above_zero, only_number, argument}
+use Rattle.wm_words.specs.Forms.{move_in, side_of, split_words, layout_words, cycle_words, switch_words, kind_words, op_words, gap_words, scope_words, dir_words, sent_words, target_words, verb_of, plain_form, split_form, layout_form, whole, only_output, output_of, focus_word, focus_form, past_px, past_to, move_by, position_form, move_to_form, past_one_to, move_workspace_form, move_form, past_with, swap_form, hundredths, amounts, resize_by, resize_set, resize_form, fullscreen_form, width_form, border_form, gaps_form, kill_form, scratchpad_form}
 use Rattle.wm_grammar.specs.Openings.{Opened, named, opened, finished, text_at, made, before_rest, renamed, word_at, past_keyword_to, command_at, verb_command, first_finished}
 use Rattle.wm_grammar.specs.Readable.{IsArgument, IsNumber, IsOutput, IsSentTo, IsShown, IsReadableCommand, IsReadableKey, AreNew, IsReadableCriteria, AreReadableCommands, IsReadableGroup, AreReadableGroups, IsReadable}
-use Rattle.wm_grammar.specs.declared.batch.Key.{Key}
-use Rattle.wm_grammar.specs.declared.batch.Key.TheVariants as keys
+use Rattle.wm_language.specs.declared.batch.Key.{Key}
+use Rattle.wm_language.specs.declared.batch.Key.TheVariants as keys
 use Rattle.wm_grammar.specs.declared.keys.KeyName.{KeyName}
 use Rattle.wm_grammar.specs.declared.keys.KeyName.TheVariants as names
-use Rattle.wm_grammar.specs.declared.batch.Criteria.{Criteria}
-use Rattle.wm_grammar.specs.declared.batch.Group.{Group}
-use Rattle.wm_grammar.specs.declared.batch.Batch.{Batch}
+use Rattle.wm_language.specs.declared.batch.Criteria.{Criteria}
+use Rattle.wm_language.specs.declared.batch.Group.{Group}
+use Rattle.wm_language.specs.declared.batch.Batch.{Batch}
 use Rattle.wm_grammar.specs.Criteria.{key_of, value_at, valued_at, key_at, place_of, has_place, ends_key, closed_keys, and_keys, keys_at, criteria_at, flag_words, name_words, urgent_words}
 use Rattle.wm_grammar.specs.Reading.{Commands, Groups, and_commands, before_commands, commands_at, criteria_of, criteria_part, group_of, group_at, and_groups, some_groups, groups_at, groups_of, batch_of, Reads}
 

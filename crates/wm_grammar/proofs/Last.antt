@@ -2,7 +2,7 @@
 use Rattle.std.proofs.Common.{◌≡◌, ℕ, true, Bool, List, [], ◌∷◌, ◌++◌, length, Option, Some, None, refl, sym, ap, ◌∙◌, arith}
 use Rattle.std.proofs.lemmas.Bool.{false≢true}
 use Rattle.wm_grammar.specs.declared.search.Turn.{Turn}
-use Rattle.wm_grammar.specs.Pieces.{first_of, starts}
+use Rattle.wm_words.specs.Pieces.{first_of, starts}
 use Rattle.wm_grammar.specs.Farthest.{Search, here, farthest}
 use Rattle.wm_grammar.specs.Last.{at_turn, last_of}
 use Rattle.wm_grammar.proofs.Bounds.{first_assoc}

@@ -3,10 +3,10 @@ use Rattle.std.proofs.Common.{◌≡◌, ℕ, zero, suc, ◌-◌, ◌<◌, ◌�
 use Rattle.std.specs.Prelude.{option_map, ◌==◌}
 use Rattle.std.proofs.lemmas.Bool.{eq-eqb, ne_eqb}
 use Rattle.std.proofs.lemmas.List.{take_all}
-use Rattle.wm_grammar.specs.declared.command.Command.{Command}
-use Rattle.wm_grammar.specs.declared.batch.Key.{Key}
-use Rattle.wm_grammar.specs.declared.batch.Group.{Group}
-use Rattle.wm_grammar.specs.Pieces.{◌>>=◌, starts, skip}
+use Rattle.wm_language.specs.declared.command.Command.{Command}
+use Rattle.wm_language.specs.declared.batch.Key.{Key}
+use Rattle.wm_language.specs.declared.batch.Group.{Group}
+use Rattle.wm_words.specs.Pieces.{◌>>=◌, starts, skip}
 use Rattle.wm_grammar.specs.Openings.{command_at}
 use Rattle.wm_grammar.specs.Criteria.{keys_at, key_at, closed_keys, and_keys}
 use Rattle.wm_grammar.specs.Reading.{Commands, Groups, commands_at, and_commands, before_commands, groups_at, some_groups, group_at}

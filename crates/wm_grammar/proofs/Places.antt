@@ -3,15 +3,15 @@ use Rattle.std.proofs.Common.{◌≡◌, ℕ, suc, ◌≤◌, true, false, List,
 use Rattle.std.specs.Prelude.{◌==◌, nat_abs}
 use Rattle.std.specs.Fmt.{signed_decimal}
 use Rattle.std.proofs.lemmas.Bool.{ne_eqb}
-use Rattle.wm_grammar.specs.declared.command.Command.TheVariants as commands
-use Rattle.wm_grammar.specs.declared.verbs.Verb.TheVariants as verbs
+use Rattle.wm_language.specs.declared.command.Command.TheVariants as commands
+use Rattle.wm_words.specs.declared.verbs.Verb.TheVariants as verbs
 use Rattle.wm_grammar.specs.declared.opening.Opening.TheVariants as openings
-use Rattle.wm_grammar.specs.Pieces.{◌>>=◌, is_blank, is_end, until, from, has, skip, ends, word, after, is_word, natural, integer, below_zero, above_zero, unquote}
-use Rattle.wm_grammar.specs.Forms.{verb_of, plain_form, past_px, past_to, position_form, move_to_form, move_form, resize_set, resize_form}
+use Rattle.wm_words.specs.Pieces.{◌>>=◌, is_blank, is_end, until, from, has, skip, ends, word, after, is_word, natural, integer, below_zero, above_zero, unquote}
+use Rattle.wm_words.specs.Forms.{verb_of, plain_form, past_px, past_to, position_form, move_to_form, move_form, resize_set, resize_form}
 use Rattle.wm_grammar.specs.Openings.{opened, rename_opened, finished, text_at, closed, renamed, word_at, past_keyword_to, command_at}
-use Rattle.wm_grammar.specs.Spelling.{escaped, position_text, sides_text, renaming_text}
+use Rattle.wm_language.specs.Spelling.{escaped, position_text, sides_text, renaming_text}
 use Rattle.wm_grammar.specs.Readable.{IsArgument, IsNumber}
-use Rattle.wm_grammar.proofs.NumbersAgain.{stops_at, number_word, number_after, number_other, natural_decimal, number_has, no_end, number_digits}
+use Rattle.wm_words.proofs.NumbersAgain.{stops_at, number_word, number_after, number_other, natural_decimal, number_has, no_end, number_digits}
 use Rattle.wm_grammar.proofs.Again.{unquote_again, command_plain, quoted_again, closed_again}
 use Rattle.wm_grammar.proofs.Again.{command_opened}
 use Rattle.wm_grammar.proofs.Spelled.{argument_again, is_long, skip_first, skip_number, past_px_end}

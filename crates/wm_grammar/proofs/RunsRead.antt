@@ -4,14 +4,14 @@ use Rattle.std.specs.Prelude.{if◌then◌else◌, ◌==◌, ◌||◌, not, opti
 use Rattle.std.proofs.lemmas.Bool.{false≢true}
 use Rattle.std.proofs.lemmas.List.{length-append, length-drop}
 use Rattle.std.proofs.Math.Seq.{get_or-append_seam}
-use Rattle.wm_grammar.specs.declared.command.Command.{Command}
-use Rattle.wm_grammar.specs.declared.batch.Criteria.{Criteria}
-use Rattle.wm_grammar.specs.declared.batch.Group.{Group}
-use Rattle.wm_grammar.specs.Pieces.{◌>>=◌, skip}
+use Rattle.wm_language.specs.declared.command.Command.{Command}
+use Rattle.wm_language.specs.declared.batch.Criteria.{Criteria}
+use Rattle.wm_language.specs.declared.batch.Group.{Group}
+use Rattle.wm_words.specs.Pieces.{◌>>=◌, skip}
 use Rattle.wm_grammar.specs.Openings.{command_at}
 use Rattle.wm_grammar.specs.Reading.{Commands, Groups, and_commands, commands_at, criteria_part, group_of, group_at, and_groups, some_groups, groups_at, groups_of, is_whole, ends_group}
 use Rattle.wm_grammar.specs.Turns.{command_turn, front_turn}
-use Rattle.wm_grammar.proofs.Cuts.{Cut, suffix_length, skip_suffix, AllSome}
+use Rattle.wm_words.proofs.Cuts.{Cut, suffix_length, skip_suffix, AllSome}
 use Rattle.wm_grammar.proofs.CutCommands.{some_at, Tail, command_suffix}
 use Rattle.wm_grammar.proofs.CutCriteria.{criteria_suffix}
 use Rattle.wm_grammar.proofs.TurnCuts.{nothing_behind}

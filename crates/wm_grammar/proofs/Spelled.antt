@@ -7,31 +7,31 @@ use Rattle.wm_base.specs.declared.geometry.Dir.{Dir}
 use Rattle.wm_base.specs.declared.geometry.Dir.TheVariants as dirs
 use Rattle.wm_base.specs.declared.plan.Border.{Border}
 use Rattle.wm_base.specs.declared.plan.Border.TheVariants as borders
-use Rattle.wm_grammar.specs.declared.arguments.SplitArg.{SplitArg}
-use Rattle.wm_grammar.specs.declared.arguments.SplitArg.TheVariants as splits
-use Rattle.wm_grammar.specs.declared.arguments.LayoutArg.{LayoutArg}
-use Rattle.wm_grammar.specs.declared.arguments.LayoutArg.TheVariants as layouts
-use Rattle.wm_grammar.specs.declared.arguments.Cycle.{Cycle}
-use Rattle.wm_grammar.specs.declared.arguments.Cycle.TheVariants as cycles
-use Rattle.wm_grammar.specs.declared.arguments.Kind.{Kind}
-use Rattle.wm_grammar.specs.declared.arguments.Kind.TheVariants as kinds
-use Rattle.wm_grammar.specs.declared.arguments.OnOff.{OnOff}
-use Rattle.wm_grammar.specs.declared.arguments.OnOff.TheVariants as switches
-use Rattle.wm_grammar.specs.declared.arguments.OutArg.{OutArg}
-use Rattle.wm_grammar.specs.declared.arguments.SwapArg.TheVariants as swaps
-use Rattle.wm_grammar.specs.declared.arguments.Side.{Side}
-use Rattle.wm_grammar.specs.declared.arguments.Side.TheVariants as sides
-use Rattle.wm_grammar.specs.declared.arguments.GapOp.{GapOp}
-use Rattle.wm_grammar.specs.declared.arguments.GapOp.TheVariants as ops
-use Rattle.wm_grammar.specs.declared.command.Command.TheVariants as commands
-use Rattle.wm_grammar.specs.declared.verbs.Verb.TheVariants as verbs
+use Rattle.wm_language.specs.declared.arguments.SplitArg.{SplitArg}
+use Rattle.wm_language.specs.declared.arguments.SplitArg.TheVariants as splits
+use Rattle.wm_language.specs.declared.arguments.LayoutArg.{LayoutArg}
+use Rattle.wm_language.specs.declared.arguments.LayoutArg.TheVariants as layouts
+use Rattle.wm_language.specs.declared.arguments.Cycle.{Cycle}
+use Rattle.wm_language.specs.declared.arguments.Cycle.TheVariants as cycles
+use Rattle.wm_language.specs.declared.arguments.Kind.{Kind}
+use Rattle.wm_language.specs.declared.arguments.Kind.TheVariants as kinds
+use Rattle.wm_language.specs.declared.arguments.OnOff.{OnOff}
+use Rattle.wm_language.specs.declared.arguments.OnOff.TheVariants as switches
+use Rattle.wm_language.specs.declared.arguments.OutArg.{OutArg}
+use Rattle.wm_language.specs.declared.arguments.SwapArg.TheVariants as swaps
+use Rattle.wm_language.specs.declared.arguments.Side.{Side}
+use Rattle.wm_language.specs.declared.arguments.Side.TheVariants as sides
+use Rattle.wm_language.specs.declared.arguments.GapOp.{GapOp}
+use Rattle.wm_language.specs.declared.arguments.GapOp.TheVariants as ops
+use Rattle.wm_language.specs.declared.command.Command.TheVariants as commands
+use Rattle.wm_words.specs.declared.verbs.Verb.TheVariants as verbs
 use Rattle.wm_grammar.specs.declared.opening.Opening.TheVariants as openings
-use Rattle.wm_grammar.specs.Pieces.{◌>>=◌, first_of, is_nil, is_blank, is_end, until, from, has, skip, ends, word, after, is_word, says, choice, single, only, only_number, argument}
-use Rattle.wm_grammar.specs.Forms.{sent_words, target_words, verb_of, plain_form, split_form, layout_form, whole, only_output, output_of, focus_word, focus_form, past_px, past_to, move_by, position_form, move_to_form, past_one_to, move_workspace_form, move_form, past_with, swap_form, hundredths, amounts, resize_by, resize_set, resize_form, fullscreen_form, width_form, border_form, gaps_form, kill_form, scratchpad_form}
+use Rattle.wm_words.specs.Pieces.{◌>>=◌, first_of, is_nil, is_blank, is_end, until, from, has, skip, ends, word, after, is_word, says, choice, single, only, only_number, argument}
+use Rattle.wm_words.specs.Forms.{sent_words, target_words, verb_of, plain_form, split_form, layout_form, whole, only_output, output_of, focus_word, focus_form, past_px, past_to, move_by, position_form, move_to_form, past_one_to, move_workspace_form, move_form, past_with, swap_form, hundredths, amounts, resize_by, resize_set, resize_form, fullscreen_form, width_form, border_form, gaps_form, kill_form, scratchpad_form}
 use Rattle.wm_grammar.specs.Openings.{opened, targets_opened, focus_opened, move_to_opened, move_opened, swap_opened, toggle_opened, mark_opened, rename_opened, finished, text_at, made, command_at}
-use Rattle.wm_grammar.specs.Spelling.{spelled, move_text, resize_text, gaps_text}
+use Rattle.wm_language.specs.Spelling.{spelled, move_text, resize_text, gaps_text}
 use Rattle.wm_grammar.specs.Readable.{IsArgument, IsNumber, IsBorder}
-use Rattle.wm_grammar.proofs.NumbersAgain.{number_word, number_after, number_some, natural_decimal, only_number_decimal, number_has, no_end, no_blank, number_clean, number_digits}
+use Rattle.wm_words.proofs.NumbersAgain.{number_word, number_after, number_some, natural_decimal, only_number_decimal, number_has, no_end, no_blank, number_clean, number_digits}
 use Rattle.wm_grammar.proofs.Again.{command_plain, IsOpening}
 
 -- ---- arguments

@@ -2,13 +2,13 @@
 use Rattle.std.proofs.Common.{◌≡◌, ℕ, ◌≤◌, Bool, true, false, List, [], ◌∷◌, ◌++◌, length, Option, Some, None, sym, ap, subst, ◌∙◌, arith, inl, inr}
 use Rattle.std.specs.Prelude.{if◌then◌else◌, ◌==◌, option_map}
 use Rattle.std.proofs.lemmas.List.{length-append, append_cancel_right}
-use Rattle.wm_grammar.specs.declared.command.Command.{Command}
-use Rattle.wm_grammar.specs.declared.batch.Criteria.{Criteria}
-use Rattle.wm_grammar.specs.Pieces.{◌>>=◌, skip}
+use Rattle.wm_language.specs.declared.command.Command.{Command}
+use Rattle.wm_language.specs.declared.batch.Criteria.{Criteria}
+use Rattle.wm_words.specs.Pieces.{◌>>=◌, skip}
 use Rattle.wm_grammar.specs.Openings.{command_at}
 use Rattle.wm_grammar.specs.Reading.{criteria_part}
 use Rattle.wm_grammar.specs.Turns.{command_turn, front_turn, turn_at}
-use Rattle.wm_grammar.proofs.Cuts.{Cut, Suffix, suffix_length, cut_suffix, skip_cut, skip_cut_kept, skip_suffix, quoted_length, AllSome}
+use Rattle.wm_words.proofs.Cuts.{Cut, Suffix, suffix_length, cut_suffix, skip_cut, skip_cut_kept, skip_suffix, quoted_length, AllSome}
 use Rattle.wm_grammar.proofs.CutCommands.{bind_some, each_some, some_at, Tail, Weak, command_weak}
 use Rattle.wm_grammar.proofs.CutCriteria.{criteria_suffix}
 use Rattle.wm_grammar.proofs.CriteriaBack.{Short, Loose, criteria_loose}

@@ -1,16 +1,16 @@
 -- The turns of reading a text: up to the end of each command, or over a blank group.
 use Rattle.std.proofs.Common.{◌≡◌, ℕ, ◌⊎◌, Bool, true, false, List, [], ◌∷◌, ◌++◌, Option, Some, None, refl, sym, ap, subst, ◌∙◌, arith, inl, inr}
 use Rattle.std.specs.Prelude.{if◌then◌else◌, ◌==◌, option_map}
-use Rattle.wm_grammar.specs.declared.command.Command.{Command}
-use Rattle.wm_grammar.specs.declared.batch.Criteria.{Criteria}
-use Rattle.wm_grammar.specs.Pieces.{◌>>=◌, until, from, skip}
-use Rattle.wm_grammar.specs.Forms.{verb_of}
-use Rattle.wm_grammar.specs.Pieces.{is_word}
+use Rattle.wm_language.specs.declared.command.Command.{Command}
+use Rattle.wm_language.specs.declared.batch.Criteria.{Criteria}
+use Rattle.wm_words.specs.Pieces.{◌>>=◌, until, from, skip}
+use Rattle.wm_words.specs.Forms.{verb_of}
+use Rattle.wm_words.specs.Pieces.{is_word}
 use Rattle.wm_grammar.specs.Openings.{command_at}
 use Rattle.wm_grammar.specs.Reading.{criteria_of, criteria_part}
 use Rattle.wm_grammar.specs.Criteria.{criteria_at}
 use Rattle.std.proofs.lemmas.Bool.{eqb-true, false≢true}
-use Rattle.wm_grammar.proofs.Cuts.{Cut, Suffix, suffix_refl, suffix_trans, cut_suffix, skip_cut, skip_cut_kept, skip_suffix, Quoted, AllSome, if_some}
+use Rattle.wm_words.proofs.Cuts.{Cut, Suffix, suffix_refl, suffix_trans, cut_suffix, skip_cut, skip_cut_kept, skip_suffix, Quoted, AllSome, if_some}
 use Rattle.wm_grammar.proofs.CutCommands.{bind_some, map_some, each_some, some_at, Tail, Weak, Kept, command_weak, command_suffix, command_kept}
 use Rattle.wm_grammar.proofs.CutCriteria.{Grows, criteria_grow, criteria_suffix}
 use Rattle.wm_grammar.specs.Turns.{command_turn, front_turn, turn_at, past_criteria, command_part}

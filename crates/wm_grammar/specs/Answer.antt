@@ -1,8 +1,8 @@
 -- What reading a text answers.
 use Rattle.std.specs.Prelude.{◌≡◌, ℕ, List, None, Result, Ok, Err, ⊤}
-use Rattle.wm_grammar.specs.declared.batch.Batch.{Batch}
-use Rattle.wm_grammar.specs.declared.refusal.ReadRefusal.{ReadRefusal}
-use Rattle.wm_grammar.specs.declared.refusal.ReadRefusal.TheVariants as refusals
+use Rattle.wm_language.specs.declared.batch.Batch.{Batch}
+use Rattle.wm_language.specs.declared.refusal.ReadRefusal.{ReadRefusal}
+use Rattle.wm_language.specs.declared.refusal.ReadRefusal.TheVariants as refusals
 use Rattle.wm_grammar.specs.Reading.{batch_of, Reads, IsReach}
 
 -- the batch of which the text is a spelling; or there is none, and this is how far it reads

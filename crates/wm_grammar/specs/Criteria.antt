@@ -1,10 +1,10 @@
 -- Criteria: keys between brackets.
 use Rattle.std.specs.Prelude.{ℕ, zero, suc, Bool, true, false, not, ◌||◌, ◌&&◌, ◌==◌, if◌then◌else◌, List, [], ◌∷◌, ◌++◌, drop, Option, Some, None, codes, option_map}
-use Rattle.wm_grammar.specs.declared.batch.Key.{Key}
-use Rattle.wm_grammar.specs.declared.batch.Key.TheVariants as keys
+use Rattle.wm_language.specs.declared.batch.Key.{Key}
+use Rattle.wm_language.specs.declared.batch.Key.TheVariants as keys
 use Rattle.wm_grammar.specs.declared.keys.KeyName.{KeyName}
 use Rattle.wm_grammar.specs.declared.keys.KeyName.TheVariants as names
-use Rattle.wm_grammar.specs.Pieces.{◌>>=◌, is_nil, is_blank, ends_name, ends_value, starts, until, from, skip, choice, is_text, natural, argument, unquote}
+use Rattle.wm_words.specs.Pieces.{◌>>=◌, is_nil, is_blank, ends_name, ends_value, starts, until, from, skip, choice, is_text, natural, argument, unquote}
 use Rattle.wm_grammar.specs.Openings.{before_rest}
 
 -- the names of keys that have a value

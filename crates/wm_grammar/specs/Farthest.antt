@@ -1,6 +1,6 @@
 -- A search for the farthest place up to which the front of a text may read and end with ;
 use Rattle.std.specs.Prelude.{ℕ, zero, suc, ◌+◌, ◌-◌, Bool, not, ◌==◌, if◌then◌else◌, List, [], ◌∷◌, length, take, drop, Option, Some, None, option_map}
-use Rattle.wm_grammar.specs.Pieces.{◌>>=◌, is_semicolon, first_of, has}
+use Rattle.wm_words.specs.Pieces.{◌>>=◌, is_semicolon, first_of, has}
 use Rattle.wm_grammar.specs.Turns.{turn_at, command_part}
 
 -- a byte before what stands before the last " behind it, or nothing where it is that "

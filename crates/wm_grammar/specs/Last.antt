@@ -1,7 +1,7 @@
 -- The place of the last of some turns that has one.
 use Rattle.std.specs.Prelude.{ℕ, List, [], ◌∷◌, Option, None}
 use Rattle.wm_grammar.specs.declared.search.Turn.{Turn}
-use Rattle.wm_grammar.specs.Pieces.{first_of}
+use Rattle.wm_words.specs.Pieces.{first_of}
 use Rattle.wm_grammar.specs.Farthest.{here, farthest}
 
 -- a place at the end of the turn or inside it

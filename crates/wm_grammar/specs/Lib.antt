@@ -1,13 +1,9 @@
-pub mod Pieces
-pub mod Words
-pub mod Forms
 pub mod Openings
 pub mod Ways
 pub mod Fitted
 pub mod Criteria
 pub mod Reading
 pub mod Answer
-pub mod Spelling
 pub mod Readable
 pub mod Turns
 pub mod Farthest

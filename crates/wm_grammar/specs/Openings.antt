@@ -1,16 +1,16 @@
 -- The forms of commands that end in a text: their keywords, and the text.
 use Rattle.std.specs.Prelude.{ℕ, ◌-◌, Bool, true, false, ◌||◌, ◌&&◌, if◌then◌else◌, List, [], ◌∷◌, ◌++◌, length, drop, Option, Some, None, codes, option_map}
-use Rattle.wm_grammar.specs.declared.arguments.OutArg.TheVariants as outs
-use Rattle.wm_grammar.specs.declared.arguments.Target.TheVariants as targets
-use Rattle.wm_grammar.specs.declared.arguments.SwapArg.TheVariants as swaps
-use Rattle.wm_grammar.specs.declared.command.Command.{Command}
-use Rattle.wm_grammar.specs.declared.command.Command.TheVariants as commands
-use Rattle.wm_grammar.specs.declared.verbs.Verb.{Verb}
-use Rattle.wm_grammar.specs.declared.verbs.Verb.TheVariants as verbs
+use Rattle.wm_language.specs.declared.arguments.OutArg.TheVariants as outs
+use Rattle.wm_language.specs.declared.arguments.Target.TheVariants as targets
+use Rattle.wm_language.specs.declared.arguments.SwapArg.TheVariants as swaps
+use Rattle.wm_language.specs.declared.command.Command.{Command}
+use Rattle.wm_language.specs.declared.command.Command.TheVariants as commands
+use Rattle.wm_words.specs.declared.verbs.Verb.{Verb}
+use Rattle.wm_words.specs.declared.verbs.Verb.TheVariants as verbs
 use Rattle.wm_grammar.specs.declared.opening.Opening.{Opening}
 use Rattle.wm_grammar.specs.declared.opening.Opening.TheVariants as openings
-use Rattle.wm_grammar.specs.Pieces.{◌>>=◌, first_of, is_nil, is_end, is_gap, breaks_word, starts, until, from, has, skip, trim_end, ends, word, after, says, is_word, argument, unquote}
-use Rattle.wm_grammar.specs.Forms.{past_one_to, past_to, past_with, verb_of, plain_form}
+use Rattle.wm_words.specs.Pieces.{◌>>=◌, first_of, is_nil, is_end, is_gap, breaks_word, starts, until, from, has, skip, trim_end, ends, word, after, says, is_word, argument, unquote}
+use Rattle.wm_words.specs.Forms.{past_one_to, past_to, past_with, verb_of, plain_form}
 
 -- ---- which keywords a text follows: each way to read them, with what comes after them
 

@@ -3,20 +3,20 @@ use Rattle.std.specs.Prelude.{◌≡◌, ℕ, ◌<◌, ◌≤◌, true, false, L
 use Rattle.std.specs.Str.{is_utf8}
 use Rattle.wm_base.specs.declared.plan.Border.{Border}
 use Rattle.wm_base.specs.declared.plan.Border.TheVariants as borders
-use Rattle.wm_grammar.specs.declared.arguments.OutArg.{OutArg}
-use Rattle.wm_grammar.specs.declared.arguments.OutArg.TheVariants as outs
-use Rattle.wm_grammar.specs.declared.arguments.Target.{Target}
-use Rattle.wm_grammar.specs.declared.arguments.Target.TheVariants as targets
-use Rattle.wm_grammar.specs.declared.arguments.SwapArg.{SwapArg}
-use Rattle.wm_grammar.specs.declared.arguments.SwapArg.TheVariants as swaps
-use Rattle.wm_grammar.specs.declared.command.Command.{Command}
-use Rattle.wm_grammar.specs.declared.command.Command.TheVariants as commands
-use Rattle.wm_grammar.specs.declared.batch.Key.{Key}
-use Rattle.wm_grammar.specs.declared.batch.Key.TheVariants as keys
-use Rattle.wm_grammar.specs.declared.batch.Criteria.{Criteria}
-use Rattle.wm_grammar.specs.declared.batch.Group.{Group}
-use Rattle.wm_grammar.specs.declared.batch.Batch.{Batch}
-use Rattle.wm_grammar.specs.Pieces.{is_nil}
+use Rattle.wm_language.specs.declared.arguments.OutArg.{OutArg}
+use Rattle.wm_language.specs.declared.arguments.OutArg.TheVariants as outs
+use Rattle.wm_language.specs.declared.arguments.Target.{Target}
+use Rattle.wm_language.specs.declared.arguments.Target.TheVariants as targets
+use Rattle.wm_language.specs.declared.arguments.SwapArg.{SwapArg}
+use Rattle.wm_language.specs.declared.arguments.SwapArg.TheVariants as swaps
+use Rattle.wm_language.specs.declared.command.Command.{Command}
+use Rattle.wm_language.specs.declared.command.Command.TheVariants as commands
+use Rattle.wm_language.specs.declared.batch.Key.{Key}
+use Rattle.wm_language.specs.declared.batch.Key.TheVariants as keys
+use Rattle.wm_language.specs.declared.batch.Criteria.{Criteria}
+use Rattle.wm_language.specs.declared.batch.Group.{Group}
+use Rattle.wm_language.specs.declared.batch.Batch.{Batch}
+use Rattle.wm_words.specs.Pieces.{is_nil}
 use Rattle.wm_grammar.specs.Criteria.{place_of, has_place}
 
 -- a text in UTF-8 of at most 1,024 bytes

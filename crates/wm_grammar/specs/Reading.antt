@@ -1,11 +1,11 @@
 -- Reading a text as a batch, and the place at which a text stops reading.
 use Rattle.std.specs.Prelude.{◌≡◌, ℕ, zero, suc, ◌-◌, ◌<◌, ◌≤◌, Bool, true, false, ◌||◌, ◌&&◌, ◌==◌, if◌then◌else◌, List, [], ◌∷◌, length, take, drop, Option, Some, None, option_map, is_some, slice_index}
-use Rattle.wm_grammar.specs.declared.command.Command.{Command}
-use Rattle.wm_grammar.specs.declared.batch.Key.{Key}
-use Rattle.wm_grammar.specs.declared.batch.Criteria.{Criteria}
-use Rattle.wm_grammar.specs.declared.batch.Group.{Group}
-use Rattle.wm_grammar.specs.declared.batch.Batch.{Batch}
-use Rattle.wm_grammar.specs.Pieces.{◌>>=◌, starts, skip}
+use Rattle.wm_language.specs.declared.command.Command.{Command}
+use Rattle.wm_language.specs.declared.batch.Key.{Key}
+use Rattle.wm_language.specs.declared.batch.Criteria.{Criteria}
+use Rattle.wm_language.specs.declared.batch.Group.{Group}
+use Rattle.wm_language.specs.declared.batch.Batch.{Batch}
+use Rattle.wm_words.specs.Pieces.{◌>>=◌, starts, skip}
 use Rattle.wm_grammar.specs.Openings.{command_at}
 use Rattle.wm_grammar.specs.Criteria.{criteria_at}
 

@@ -1,6 +1,6 @@
 -- One turn of reading a text: to the end of a command, or to the ; of a blank group.
 use Rattle.std.specs.Prelude.{ℕ, Bool, true, false, ◌==◌, if◌then◌else◌, List, [], ◌∷◌, Option, Some, None, option_map}
-use Rattle.wm_grammar.specs.Pieces.{◌>>=◌, skip}
+use Rattle.wm_words.specs.Pieces.{◌>>=◌, skip}
 use Rattle.wm_grammar.specs.Openings.{command_at}
 use Rattle.wm_grammar.specs.Reading.{criteria_part}
 

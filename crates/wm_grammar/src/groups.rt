@@ -2,13 +2,12 @@
 ghost use Rattle.std.specs.Prelude.{◌≡◌, length, IfOk, option_map};
 ghost use Rattle.wm_grammar.specs.Reading.{commands_at, criteria_part, group_at, groups_of};
 
-use crate::batch::{Criteria, Group};
-use crate::command::Command;
 use crate::keys::criteria_at;
 use crate::reading::command_at;
-use crate::words::{past, skip};
 use std::alloc::Global;
 use wm_base::{List, NoMemory};
+use wm_language::{Command, Criteria, Group};
+use wm_words::{past, skip};
 
 /// Commands separated by `,`, and what follows them: the end of their group.
 #[tactic(auto, using(crate::proofs::Loops::commands_steps))]

@@ -2,16 +2,14 @@
 ghost use Rattle.std.specs.Prelude.{◌≡◌, ◌&&◌, ◌++◌, ◌∷◌, if◌then◌else◌, ℕ, List, Option, not, [], IfOk, OnOk, option_map, option_copied, option_and_then};
 ghost use Rattle.wm_grammar.specs.Criteria.{name_words, flag_words, urgent_words, texted, key_of, value_at, valued_at, key_at, place_of, has_place, ends_key, closed_keys, and_keys, keys_at, criteria_at};
 ghost use Rattle.wm_grammar.specs.Fitted.{piece_bytes};
-ghost use Rattle.wm_grammar.specs.Pieces.{choice};
-ghost use Rattle.wm_grammar.specs.declared.batch.Key.{Key};
+ghost use Rattle.wm_words.specs.Pieces.{choice};
+ghost use Rattle.wm_language.specs.declared.batch.Key.{Key};
 
-use crate::batch::Key;
-use crate::numbers::natural;
 use crate::reading::{Piece, before_rest, quoted_piece};
-use crate::verbs::choice;
-use crate::words::{Stop, argument, cut, is_text, past, skip, starts, unquote};
 use std::alloc::Global;
 use wm_base::{NoMemory, Text};
+use wm_language::Key;
+use wm_words::{Stop, argument, choice, cut, is_text, natural, past, skip, starts, unquote};
 
 /// The name of a key that has a value.
 #[derive(Clone, Copy)]

@@ -3,12 +3,9 @@ ghost use Rattle.std.specs.Prelude.{◌≡◌, ◌++◌, ◌∷◌, [], map, IfO
 ghost use Rattle.wm_grammar.specs.Ways.{seen};
 ghost use Rattle.wm_grammar.specs.Openings.{Opened, targets_opened, focus_opened, move_to_opened, move_opened, swap_opened, toggle_opened, mark_opened, rename_opened, opened, is_one_word};
 
-use crate::moving::{past_one_to, past_to};
-use crate::plain::past_with;
-use crate::verbs::Verb;
-use crate::words::{after, is_word, says, split_word};
 use std::alloc::Global;
 use wm_base::NoMemory;
+use wm_words::{Verb, after, is_word, past_one_to, past_to, past_with, says, split_word};
 
 /// The keywords that a text follows.
 #[derive(Clone, Copy)]
@@ -49,7 +46,7 @@ impl Opening {
 pub type Ways<'a> = Vec<(Opening, &'a [u8])>;
 
 /// The ways, and one more behind them.
-#[tactic(auto, using(crate::proofs::Lists::joining))]
+#[tactic(auto, using(wm_language::proofs::Lists::joining))]
 fn with<'a>(ways: Ways<'a>, opening: Opening, rest: &'a [u8]) -> Result<Ways<'a>, NoMemory>
     ensures { IfOk result (λ v. seen v.items ≡ seen ways.entry.items ++ (opening, rest.now) ∷ []) }
 {
@@ -83,7 +80,7 @@ pub fn opened(alloc: Global, verb: Verb, rest: &[u8]) -> Result<Ways<'_>, NoMemo
     }
 }
 
-#[tactic(auto, using(crate::proofs::Lists::joining), unfolding(crate::specs::Openings::targets_opened))]
+#[tactic(auto, using(wm_language::proofs::Lists::joining), unfolding(crate::specs::Openings::targets_opened))]
 fn targets_opened<'a>(
     ways: Ways<'a>,
     numbered: Opening,
@@ -100,7 +97,7 @@ fn targets_opened<'a>(
     with(ways, named, rest)
 }
 
-#[tactic(auto, using(crate::proofs::Lists::joining), unfolding(crate::specs::Openings::focus_opened))]
+#[tactic(auto, using(wm_language::proofs::Lists::joining), unfolding(crate::specs::Openings::focus_opened))]
 fn focus_opened<'a>(ways: Ways<'a>, rest: &'a [u8]) -> Result<Ways<'a>, NoMemory>
     ensures { IfOk result (λ v. seen v.items ≡ seen ways.entry.items ++ focus_opened rest.now) }
 {
@@ -112,7 +109,7 @@ fn focus_opened<'a>(ways: Ways<'a>, rest: &'a [u8]) -> Result<Ways<'a>, NoMemory
     }
 }
 
-#[tactic(auto, using(crate::proofs::Lists::joining), unfolding(crate::specs::Openings::move_to_opened))]
+#[tactic(auto, using(wm_language::proofs::Lists::joining), unfolding(crate::specs::Openings::move_to_opened))]
 fn move_to_opened<'a>(ways: Ways<'a>, rest: &'a [u8]) -> Result<Ways<'a>, NoMemory>
     ensures { IfOk result (λ v. seen v.items ≡ seen ways.entry.items ++ move_to_opened rest.now) }
 {
@@ -135,7 +132,7 @@ fn move_to_opened<'a>(ways: Ways<'a>, rest: &'a [u8]) -> Result<Ways<'a>, NoMemo
     }
 }
 
-#[tactic(auto, using(crate::proofs::Lists::joining), unfolding(crate::specs::Openings::move_opened))]
+#[tactic(auto, using(wm_language::proofs::Lists::joining), unfolding(crate::specs::Openings::move_opened))]
 fn move_opened<'a>(ways: Ways<'a>, rest: &'a [u8]) -> Result<Ways<'a>, NoMemory>
     ensures { IfOk result (λ v. seen v.items ≡ seen ways.entry.items ++ move_opened rest.now) }
 {
@@ -151,7 +148,7 @@ fn move_opened<'a>(ways: Ways<'a>, rest: &'a [u8]) -> Result<Ways<'a>, NoMemory>
     move_to_opened(ways, rest)
 }
 
-#[tactic(auto, using(crate::proofs::Lists::joining), unfolding(crate::specs::Openings::swap_opened))]
+#[tactic(auto, using(wm_language::proofs::Lists::joining), unfolding(crate::specs::Openings::swap_opened))]
 fn swap_opened<'a>(ways: Ways<'a>, rest: &'a [u8]) -> Result<Ways<'a>, NoMemory>
     ensures { IfOk result (λ v. seen v.items ≡ seen ways.entry.items ++ swap_opened rest.now) }
 {
@@ -166,7 +163,7 @@ fn swap_opened<'a>(ways: Ways<'a>, rest: &'a [u8]) -> Result<Ways<'a>, NoMemory>
 }
 
 /// The ways to read a mark, with the word `--toggle` before it or not.
-#[tactic(auto, using(crate::proofs::Lists::joining), unfolding(crate::specs::Openings::toggle_opened))]
+#[tactic(auto, using(wm_language::proofs::Lists::joining), unfolding(crate::specs::Openings::toggle_opened))]
 fn toggle_opened<'a>(ways: Ways<'a>, add: bool, rest: &'a [u8]) -> Result<Ways<'a>, NoMemory>
     ensures { IfOk result (λ v. seen v.items ≡ seen ways.entry.items ++ toggle_opened add rest.now) }
 {
@@ -178,7 +175,7 @@ fn toggle_opened<'a>(ways: Ways<'a>, add: bool, rest: &'a [u8]) -> Result<Ways<'
     with(ways, Opening::Mark { add, toggle: false }, rest)
 }
 
-#[tactic(auto, using(crate::proofs::Lists::joining), unfolding(crate::specs::Openings::mark_opened))]
+#[tactic(auto, using(wm_language::proofs::Lists::joining), unfolding(crate::specs::Openings::mark_opened))]
 fn mark_opened<'a>(ways: Ways<'a>, rest: &'a [u8]) -> Result<Ways<'a>, NoMemory>
     ensures { IfOk result (λ v. seen v.items ≡ seen ways.entry.items ++ mark_opened rest.now) }
 {
@@ -208,7 +205,7 @@ fn mark_opened<'a>(ways: Ways<'a>, rest: &'a [u8]) -> Result<Ways<'a>, NoMemory>
     toggle_opened(ways, false, rest)
 }
 
-#[tactic(auto, using(crate::proofs::Lists::joining), unfolding(crate::specs::Openings::rename_opened))]
+#[tactic(auto, using(wm_language::proofs::Lists::joining), unfolding(crate::specs::Openings::rename_opened))]
 fn rename_opened<'a>(ways: Ways<'a>, rest: &'a [u8]) -> Result<Ways<'a>, NoMemory>
     ensures { IfOk result (λ v. seen v.items ≡ seen ways.entry.items ++ rename_opened rest.now) }
 {

@@ -4,16 +4,14 @@ ghost use Rattle.wm_grammar.specs.Fitted.{piece_bytes};
 ghost use Rattle.wm_grammar.specs.Openings.{text_at, closed, bare, named, made, word_at, past_keyword_to, renamed, renamed_to, renaming, before_rest, finished, first_finished, verb_command, command_at};
 ghost use Rattle.wm_grammar.specs.Ways.{seen};
 
-use crate::arguments::{OutArg, SwapArg, Target};
-use crate::command::Command;
 use crate::opening::{Opening, opened};
-use crate::plain::plain_form;
-use crate::verbs::{Verb, verb_of};
-use crate::words::{
-    Stop, argument, cut, ends, is_word, past, skip, split_word, stops_in, trim_end, unquote,
-};
 use std::alloc::Global;
 use wm_base::{NoMemory, Text};
+use wm_language::{Command, OutArg, SwapArg, Target};
+use wm_words::{
+    Stop, Verb, argument, cut, ends, is_word, past, plain_form, skip, split_word, stops_in,
+    trim_end, unquote, verb_of,
+};
 
 /// The text of a command: a part of what is read, or what a quoted text stands for.
 #[derive(Drop)]
@@ -245,7 +243,7 @@ fn verb_command<'a>(
 ) -> Result<Read<'a>, NoMemory>
     ensures { IfOk result (λ o. option_map (λ x. (x.0, x.1.now)) o ≡ verb_command text.now raw.now rest.now verb) }
 {
-    let told = crate::words::after(raw);
+    let told = wm_words::after(raw);
     if let Some(command) = plain_form(verb, told) {
         return Ok(Some((command, rest)));
     }

@@ -3,14 +3,14 @@ ghost use Rattle.std.specs.Prelude.{◌≡◌, ◌<◌, ◌≤◌, ℕ, length, 
 ghost use Rattle.std.specs.List.{All};
 ghost use Rattle.wm_grammar.specs.Farthest.{before_last_quote, cut_off, here, farthest};
 ghost use Rattle.wm_grammar.specs.Last.{at_turn, last_of};
-ghost use Rattle.wm_grammar.specs.Pieces.{first_of};
+ghost use Rattle.wm_words.specs.Pieces.{first_of};
 ghost use Rattle.wm_grammar.specs.Turns.{command_turn, front_turn, turn_at, command_part};
 
 use crate::groups::criteria_part;
 use crate::reading::command_at;
-use crate::words::{Stop, past, skip, starts, stops_in};
 use std::alloc::Global;
 use wm_base::NoMemory;
+use wm_words::{Stop, past, skip, starts, stops_in};
 
 /// A turn: how many may follow it, whether it stands at the front of a group, its text, and where it stopped.
 #[derive(Drop)]

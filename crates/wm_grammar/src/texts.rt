@@ -1,17 +1,16 @@
-//! Reading a text as a batch.
-ghost use Rattle.std.specs.Prelude.{◌≡◌, ℕ, List, IfOk};
+//! Reading a text as a batch, and printing a batch as a text.
+ghost use Rattle.std.specs.Prelude.{◌≡◌, ℕ, List, string_bytes, IfOk};
 ghost use Rattle.wm_grammar.specs.Answer.{IsAnswer};
 ghost use Rattle.wm_grammar.specs.Readable.{IsReadable};
-ghost use Rattle.wm_grammar.specs.Spelling.{spelling};
+ghost use Rattle.wm_language.specs.Spelling.{spelling};
 ghost use Rattle.wm_grammar.specs.Reading.{Reads, IsReach};
-ghost use Rattle.wm_grammar.specs.declared.batch.Batch.{Batch};
+ghost use Rattle.wm_language.specs.declared.batch.Batch.{Batch};
 
-use crate::batch::Batch;
 use crate::groups::groups_of;
-use crate::refusal::ReadRefusal;
 use crate::search::farthest;
 use std::alloc::Global;
 use wm_base::{List, NoMemory};
+use wm_language::{Batch, ReadRefusal, spell};
 
 /// The batch of which the text is a spelling. The text is refused exactly where there is none, with the number
 /// of bytes at its front that are empty, or read and end with `;`.
@@ -38,6 +37,17 @@ fn reach(alloc: Global, text: &[u8]) -> Result<usize, NoMemory>
         Some(behind) => Ok(text.len() - behind),
         None => Ok(0),
     }
+}
+
+/// A spelling of the batch, with keywords in lower case and quoted arguments. The batch is one that some text
+/// reads as.
+#[tactic(auto, using(crate::proofs::BatchesAgain::batch_again))]
+pub fn print(alloc: Global, batch: &Batch) -> Result<String, NoMemory>
+    requires { IsReadable batch.now }
+    ensures spelling { IfOk result (λ s. string_bytes s ≡ spelling batch.now) }
+    ensures reads { IfOk result (λ s. Reads (string_bytes s) batch.now) }
+{
+    spell(alloc, batch)
 }
 
 /// A text is a spelling of at most one batch.

@@ -25,10 +25,10 @@ use Rattle.wm_focus.specs.Moves.{beside, entry, held_out, is_split_con, move_dir
 use Rattle.wm_focus.specs.Parents.{raised_some}
 use Rattle.wm_focus.specs.Splits.{gives_layout, laid, laid_as, split_as}
 use Rattle.wm_focus.specs.Swaps.{exchanged_with, moved_after}
-use Rattle.wm_grammar.specs.declared.arguments.OnOff.{OnOff}
-use Rattle.wm_grammar.specs.declared.batch.Group.{Group}
-use Rattle.wm_grammar.specs.declared.command.Command.{Command}
-use Rattle.wm_grammar.specs.declared.command.Command.TheVariants as commands
+use Rattle.wm_language.specs.declared.arguments.OnOff.{OnOff}
+use Rattle.wm_language.specs.declared.batch.Group.{Group}
+use Rattle.wm_language.specs.declared.command.Command.{Command}
+use Rattle.wm_language.specs.declared.command.Command.TheVariants as commands
 use Rattle.wm_opens.proofs.FloatLemmas.{kept_floated, kept_fullscreen, kept_hidden, kept_kind, kept_placed, kept_scratchpad, kept_stuck, kept_sunk}
 use Rattle.wm_opens.proofs.KeptLemmas.{Kept, kept_count, kept_edited, kept_exchanged, kept_moved, kept_raised, kept_refl, kept_settled, kept_trans, kept_unmarked, kept_with_marks, kept_wrapped}
 use Rattle.wm_opens.proofs.ShowingLemmas.{kept_entered, kept_focusing, kept_output_focused, kept_remembering}

@@ -27,9 +27,9 @@ use Rattle.wm_focus.specs.Parents.{raised_some}
 use Rattle.wm_focus.specs.Rungs.{nearest}
 use Rattle.wm_focus.specs.Splits.{gives_layout, laid, laid_as, layout_refusal, split_as}
 use Rattle.wm_focus.specs.Swaps.{beside_refusal, deep_error, exchange_refusal, exchanged_with, is_part, moved_after}
-use Rattle.wm_grammar.specs.declared.arguments.OnOff.{OnOff}
-use Rattle.wm_grammar.specs.declared.arguments.OutArg.{OutArg}
-use Rattle.wm_grammar.specs.declared.arguments.OutArg.TheVariants as outs
+use Rattle.wm_language.specs.declared.arguments.OnOff.{OnOff}
+use Rattle.wm_language.specs.declared.arguments.OutArg.{OutArg}
+use Rattle.wm_language.specs.declared.arguments.OutArg.TheVariants as outs
 use Rattle.wm_opens.proofs.KeptLemmas.{kept_edited, kept_trans}
 use Rattle.wm_opens.proofs.SureSizes.{sure_round}
 use Rattle.wm_opens.proofs.SureFloats.{sure_float, sure_placed, sure_sink}

@@ -11,8 +11,8 @@ use Rattle.wm_base.specs.declared.ids.ConId.{ConId}
 use Rattle.wm_base.specs.declared.plan.Border.{Border}
 use Rattle.wm_floats.specs.Rounds.{focus_round_tree, focused_some, round_to}
 use Rattle.wm_floats.specs.Windows.{rect_set, state_of}
-use Rattle.wm_grammar.specs.declared.arguments.GapOp.{GapOp}
-use Rattle.wm_grammar.specs.declared.arguments.Side.{Side}
+use Rattle.wm_language.specs.declared.arguments.GapOp.{GapOp}
+use Rattle.wm_language.specs.declared.arguments.Side.{Side}
 use Rattle.wm_opens.proofs.SureFloats.{sure_restated}
 use Rattle.wm_opens.proofs.SureLemmas.{Sure, sure_by, sure_edited, sure_refl, sure_trans}
 use Rattle.wm_opens.proofs.SureSpaces.{fits_all, sure_focusing}

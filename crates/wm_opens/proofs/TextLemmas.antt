@@ -16,9 +16,9 @@ use Rattle.wm_criteria.specs.declared.verdict.Verdict.{Verdict}
 use Rattle.wm_floats.specs.Scratchpad.{show_scratchpad_refusal, show_scratchpad_tree}
 use Rattle.wm_focus.proofs.SubjectLemmas.{subject_there}
 use Rattle.wm_focus.specs.Marks.{give_refusal, is_mark, mark_tree}
-use Rattle.wm_grammar.specs.declared.batch.Group.{Group}
-use Rattle.wm_grammar.specs.declared.command.Command.{Command}
-use Rattle.wm_grammar.specs.declared.command.Command.TheVariants as commands
+use Rattle.wm_language.specs.declared.batch.Group.{Group}
+use Rattle.wm_language.specs.declared.command.Command.{Command}
+use Rattle.wm_language.specs.declared.command.Command.TheVariants as commands
 use Rattle.wm_opens.proofs.KeptLemmas.{kept_settled}
 use Rattle.wm_opens.proofs.OwnerLemmas.{owners_kept}
 use Rattle.wm_opens.proofs.OpenLemmas.{seen_same}

@@ -5,8 +5,8 @@ use Rattle.wm_base.specs.declared.ids.ConId.{ConId}
 use Rattle.wm_shared.proofs.NeighbourLemmas.{neighbour_two}
 use Rattle.wm_shared.proofs.KidLemmas.{kid_of}
 use Rattle.wm_shared.specs.Neighbours.{neighbour}
-use Rattle.wm_grammar.specs.declared.arguments.Side.{Side}
-use Rattle.wm_grammar.specs.declared.arguments.Side.TheVariants.{Width, Height, At}
+use Rattle.wm_language.specs.declared.arguments.Side.{Side}
+use Rattle.wm_language.specs.declared.arguments.Side.TheVariants.{Width, Height, At}
 use Rattle.wm_shared.proofs.DownLemmas.{Once, not_below, once_kids, once_only, once_rest}
 use Rattle.wm_sizes.proofs.BoolLemmas.{both}
 use Rattle.wm_sizes.proofs.HandLemmas.{or_none}

@@ -5,8 +5,8 @@ use Rattle.wm_base.specs.declared.geometry.Rect.{Rect}
 use Rattle.wm_base.specs.declared.ids.ConId.{ConId}
 use Rattle.wm_base.specs.declared.plan.Border.{Border}
 use Rattle.wm_floats.specs.Windows.{rect_set, restated, state_of}
-use Rattle.wm_grammar.specs.declared.arguments.GapOp.{GapOp}
-use Rattle.wm_grammar.specs.declared.arguments.Side.{Side}
+use Rattle.wm_language.specs.declared.arguments.GapOp.{GapOp}
+use Rattle.wm_language.specs.declared.arguments.Side.{Side}
 use Rattle.wm_shared.proofs.RiseLemmas.{SameIds, ids_same}
 use Rattle.wm_sizes.specs.Borders.{cycle_border_tree, next_border, set_border_tree, turned}
 use Rattle.wm_sizes.specs.Climbing.{rung_of, side_axis}

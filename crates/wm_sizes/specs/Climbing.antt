@@ -5,8 +5,8 @@ use Rattle.wm_base.specs.declared.geometry.Axis.{Axis}
 use Rattle.wm_base.specs.declared.geometry.Axis.TheVariants as axes
 use Rattle.wm_base.specs.declared.ids.ConId.{ConId}
 use Rattle.wm_shared.specs.Neighbours.{axis_of, dir_axis, same_axis}
-use Rattle.wm_grammar.specs.declared.arguments.Side.{Side}
-use Rattle.wm_grammar.specs.declared.arguments.Side.TheVariants.{Width, Height, At}
+use Rattle.wm_language.specs.declared.arguments.Side.{Side}
+use Rattle.wm_language.specs.declared.arguments.Side.TheVariants.{Width, Height, At}
 use Rattle.wm_sizes.specs.declared.climbing.Climbed.{Climbed}
 use Rattle.wm_sizes.specs.declared.climbing.Rung.{Rung}
 use Rattle.wm_forest.specs.declared.part.ConKind.{ConKind}

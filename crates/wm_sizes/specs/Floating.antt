@@ -7,8 +7,8 @@ use Rattle.wm_base.specs.declared.geometry.Rect.{Rect}
 use Rattle.wm_base.specs.declared.ids.ConId.{ConId}
 use Rattle.wm_floats.specs.Places.{is_in_range}
 use Rattle.wm_floats.specs.Windows.{rect_set}
-use Rattle.wm_grammar.specs.declared.arguments.Side.{Side}
-use Rattle.wm_grammar.specs.declared.arguments.Side.TheVariants.{Width, Height, At}
+use Rattle.wm_language.specs.declared.arguments.Side.{Side}
+use Rattle.wm_language.specs.declared.arguments.Side.TheVariants.{Width, Height, At}
 use Rattle.wm_shared.specs.Refusing.{error_if}
 use Rattle.wm_shared.specs.Subject.{is_hidden, is_space}
 use Rattle.wm_sizes.specs.declared.floating.Frame.{Frame}

@@ -4,8 +4,8 @@ use Rattle.std.specs.Option.{option_map}
 use Rattle.wm_base.specs.declared.errors.ErrorText.TheVariants as texts
 use Rattle.wm_base.specs.declared.errors.Refusal.{Refusal}
 use Rattle.wm_base.specs.declared.ids.ConId.{ConId}
-use Rattle.wm_grammar.specs.declared.arguments.GapOp.{GapOp}
-use Rattle.wm_grammar.specs.declared.arguments.GapOp.TheVariants.{Set, Plus, Minus}
+use Rattle.wm_language.specs.declared.arguments.GapOp.{GapOp}
+use Rattle.wm_language.specs.declared.arguments.GapOp.TheVariants.{Set, Plus, Minus}
 use Rattle.wm_shared.specs.Refusing.{error_if}
 use Rattle.wm_shared.specs.Subject.{is_hidden}
 use Rattle.wm_sizes.specs.declared.gaps.Change.{Change}

@@ -7,8 +7,8 @@ use Rattle.wm_base.specs.declared.errors.Refusal.{Refusal}
 use Rattle.wm_base.specs.declared.errors.Refusal.TheVariants.{NoTarget}
 use Rattle.wm_base.specs.declared.ids.ConId.{ConId}
 use Rattle.wm_shared.specs.Neighbours.{neighbour}
-use Rattle.wm_grammar.specs.declared.arguments.Side.{Side}
-use Rattle.wm_grammar.specs.declared.arguments.Side.TheVariants.{Width, Height, At}
+use Rattle.wm_language.specs.declared.arguments.Side.{Side}
+use Rattle.wm_language.specs.declared.arguments.Side.TheVariants.{Width, Height, At}
 use Rattle.wm_shared.specs.Refusing.{error_if}
 use Rattle.wm_sizes.specs.Climbing.{has_two, rung_of, side_axis}
 use Rattle.wm_sizes.specs.Deals.{amount, dealt, fits_all, siblings}

@@ -4,7 +4,7 @@ ghost use Rattle.wm_forest.specs.Look.{first_kids, has, only};
 ghost use Rattle.wm_sizes.specs.Climbing.{climb, has_two, rung_at, rung_of, runs, runs_con, side_axis};
 
 use wm_base::{Axis, ConId, Dir};
-use wm_grammar::Side;
+use wm_language::Side;
 use wm_shared::layout_axis;
 use wm_tree::{ConKind, Cursor, NodeKind, Part, Tree};
 

@@ -7,7 +7,7 @@ ghost use Rattle.wm_tree.specs.Sound.{IsSound};
 
 use crate::windows::put_rect;
 use wm_base::{ConId, Dir, ErrorText, Rect, Refusal};
-use wm_grammar::Side;
+use wm_language::Side;
 use wm_shared::{is_hidden, is_space, rect_of};
 use wm_tree::Tree;
 

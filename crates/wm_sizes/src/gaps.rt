@@ -1,13 +1,13 @@
 //! Gaps of workspaces.
 ghost use Rattle.std.specs.Prelude.{◌≡◌, ◌<◌, true, slice_get, length, OnSome, None, Some, OnOk, OnErr, IfErr};
-ghost use Rattle.wm_grammar.specs.declared.arguments.GapOp.{GapOp};
+ghost use Rattle.wm_language.specs.declared.arguments.GapOp.{GapOp};
 ghost use Rattle.wm_shared.specs.Subject.{IsSubject};
 ghost use Rattle.wm_sizes.specs.Gaps.{AllGapped, all_gapped, default_gapped, each_gapped, gap_after, gapped, set_gaps_refusal, set_gaps_tree, space_gapped};
 ghost use Rattle.wm_tree.specs.Sound.{IsSound};
 ghost use Rattle.wm_tree.specs.TreeValue.{workspace_of};
 
 use wm_base::{ConId, ErrorText, Refusal};
-use wm_grammar::GapOp;
+use wm_language::GapOp;
 use wm_tree::Tree;
 
 /// How wide a gap is at most, in pixels.

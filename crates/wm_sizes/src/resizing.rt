@@ -10,7 +10,7 @@ ghost use Rattle.wm_tree.specs.TreeValue.{is_tiled_con};
 use crate::floating::grow_floating;
 use crate::tiled::{Growth, grow_tiled};
 use wm_base::{ConId, ErrorText, Refusal};
-use wm_grammar::Side;
+use wm_language::Side;
 use wm_shared::{is_hidden, is_space};
 use wm_tree::Tree;
 

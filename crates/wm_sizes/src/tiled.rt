@@ -13,7 +13,7 @@ use crate::climbing::{Rung, kids_in, rung_of, side_axis};
 use crate::deals::{Deal, Sibling, amount};
 use wm_arrange::area_of;
 use wm_base::{Axis, ConId, ErrorText, Rect, Refusal};
-use wm_grammar::Side;
+use wm_language::Side;
 use wm_shared::neighbour;
 use wm_tree::{Cursor, Tree};
 

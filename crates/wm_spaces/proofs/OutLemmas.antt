@@ -4,8 +4,8 @@ use Rattle.std.specs.Prelude.{IfSome, option_and_then}
 use Rattle.std.specs.Option.{option_map, option_or}
 use Rattle.wm_base.specs.declared.geometry.Dir.{Dir}
 use Rattle.wm_base.specs.declared.ids.ConId.{ConId}
-use Rattle.wm_grammar.specs.declared.arguments.OutArg.{OutArg}
-use Rattle.wm_grammar.specs.declared.arguments.OutArg.TheVariants as outs
+use Rattle.wm_language.specs.declared.arguments.OutArg.{OutArg}
+use Rattle.wm_language.specs.declared.arguments.OutArg.TheVariants as outs
 use Rattle.wm_shared.proofs.KeyLemmas.{listed_by}
 use Rattle.wm_shared.proofs.SpaceLemmas.{placed, space_of_node}
 use Rattle.wm_shared.specs.declared.keys.Key.{Key}

@@ -2,8 +2,8 @@
 use Rattle.std.specs.Prelude.{Option, option_and_then}
 use Rattle.std.specs.Option.{option_or}
 use Rattle.wm_base.specs.declared.ids.ConId.{ConId}
-use Rattle.wm_grammar.specs.declared.arguments.OutArg.{OutArg}
-use Rattle.wm_grammar.specs.declared.arguments.OutArg.TheVariants as outs
+use Rattle.wm_language.specs.declared.arguments.OutArg.{OutArg}
+use Rattle.wm_language.specs.declared.arguments.OutArg.TheVariants as outs
 use Rattle.wm_shared.specs.Outputs.{output_from, output_of}
 use Rattle.wm_spaces.specs.Names.{output_named}
 use Rattle.wm_forest.specs.Forest.{Forest}

@@ -6,7 +6,7 @@ use Rattle.wm_base.specs.declared.errors.Refusal.{Refusal}
 use Rattle.wm_base.specs.declared.errors.Refusal.TheVariants.{NoTarget}
 use Rattle.wm_base.specs.declared.geometry.Rect.{Rect}
 use Rattle.wm_base.specs.declared.ids.ConId.{ConId}
-use Rattle.wm_grammar.specs.declared.arguments.Target.{Target}
+use Rattle.wm_language.specs.declared.arguments.Target.{Target}
 use Rattle.wm_shared.specs.Rects.{held, output_part_of, rect_of}
 use Rattle.wm_shared.specs.Refusing.{error_if, full_error}
 use Rattle.wm_shared.specs.Showing.{shown_on}

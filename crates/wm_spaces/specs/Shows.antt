@@ -3,7 +3,7 @@ use Rattle.std.specs.Prelude.{ℕ, List, Option, None, Some}
 use Rattle.wm_base.specs.declared.errors.Refusal.{Refusal}
 use Rattle.wm_base.specs.declared.errors.Refusal.TheVariants.{NoTarget}
 use Rattle.wm_base.specs.declared.ids.ConId.{ConId}
-use Rattle.wm_grammar.specs.declared.arguments.Target.{Target}
+use Rattle.wm_language.specs.declared.arguments.Target.{Target}
 use Rattle.wm_shared.specs.Refusing.{full_error}
 use Rattle.wm_shared.specs.Showing.{remembering, showing, shown_there}
 use Rattle.wm_spaces.specs.declared.targets.Goal.{Goal}

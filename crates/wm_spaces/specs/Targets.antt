@@ -4,8 +4,8 @@ use Rattle.std.specs.Option.{option_or}
 use Rattle.std.specs.Str.{bytes_eq}
 use Rattle.wm_base.specs.declared.errors.ErrorText.TheVariants as texts
 use Rattle.wm_base.specs.declared.ids.ConId.{ConId}
-use Rattle.wm_grammar.specs.declared.arguments.Target.{Target}
-use Rattle.wm_grammar.specs.declared.arguments.Target.TheVariants as targets
+use Rattle.wm_language.specs.declared.arguments.Target.{Target}
+use Rattle.wm_language.specs.declared.arguments.Target.TheVariants as targets
 use Rattle.wm_shared.specs.declared.keys.Key.{Key}
 use Rattle.wm_shared.specs.Subject.{is_space}
 use Rattle.wm_spaces.specs.declared.order.Pick.{Pick}

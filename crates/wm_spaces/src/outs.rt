@@ -7,7 +7,7 @@ ghost use Rattle.wm_tree.specs.Sound.{IsSound};
 
 use crate::names::output_named;
 use wm_base::ConId;
-use wm_grammar::OutArg;
+use wm_language::OutArg;
 use wm_shared::{output_from, output_of};
 use wm_tree::{Cursor, Tree};
 

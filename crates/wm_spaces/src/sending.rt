@@ -13,7 +13,7 @@ ghost use Rattle.wm_tree.specs.Sound.{IsSound};
 
 use crate::targets::{Goal, find_goal, home};
 use wm_base::{ConId, ErrorText, Rect, Refusal, Text};
-use wm_grammar::Target;
+use wm_language::Target;
 use wm_shared::{held, is_hidden, is_space, output_part_of, rect_of, refused, shown_on};
 use wm_tree::{OutputPart, Place, Tree};
 

@@ -10,7 +10,7 @@ ghost use Rattle.wm_tree.specs.TreeValue.{parent};
 
 use crate::targets::{Goal, find_goal, home};
 use wm_base::{ConId, NoMemory, Refusal, Text};
-use wm_grammar::Target;
+use wm_language::Target;
 use wm_shared::{refused, remember, show_space, show_there, space_name};
 use wm_tree::Tree;
 

@@ -2,7 +2,7 @@
 ghost use Rattle.std.specs.Prelude.{◌≡◌, ℕ, List, IfOk};
 ghost use Rattle.std.specs.Option.{option_copied};
 ghost use Rattle.wm_spaces.specs.Targets.{IsGoal, before, best_at, by_name, by_number, focused_key, goal_named, goal_of, home, home_name, neighbour, numbered, past};
-ghost use Rattle.wm_grammar.specs.declared.arguments.Target.TheVariants as targets;
+ghost use Rattle.wm_language.specs.declared.arguments.Target.TheVariants as targets;
 ghost use Rattle.wm_forest.specs.Look.{node_in};
 ghost use Rattle.wm_tree.specs.Outputs.{IsOutput};
 ghost use Rattle.wm_tree.specs.Sound.{IsSound};
@@ -10,7 +10,7 @@ ghost use Rattle.wm_tree.specs.Sound.{IsSound};
 use crate::names::{is_reserved, output_named, space_named};
 use crate::order::{Pick, best_in, best_on, num, space_key};
 use wm_base::{ConId, ErrorText, NoMemory, Text};
-use wm_grammar::Target;
+use wm_language::Target;
 use wm_shared::Key;
 use wm_tree::{Cursor, Tree};
 

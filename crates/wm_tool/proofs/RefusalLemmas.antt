@@ -15,7 +15,7 @@ use Rattle.wm_criteria.specs.Verdict.{IsVerdict, OnRefusal, refused_patterns}
 use Rattle.wm_criteria.specs.declared.verdict.Verdict.{Verdict}
 use Rattle.wm_criteria.specs.declared.verdict.Verdict.TheVariants.{Ready, Bad, PatternRefused}
 use Rattle.wm_grammar.specs.Reading.{batch_of, groups_of, is_whole, IsReach}
-use Rattle.wm_grammar.specs.declared.batch.Group.{Group}
+use Rattle.wm_language.specs.declared.batch.Group.{Group}
 use Rattle.wm_tool.specs.declared.status.Refused.{Refused}
 use Rattle.wm_tool.specs.Refusals.{IsRefusable, IsRising, RoseBy, pattern_in, patterns_in, reach, refusal_at, text_at, verdict_by, verdict_of}
 use Rattle.wm_tool.specs.Running.{Backs, Grows, IsBackedTo, fresh}

@@ -9,7 +9,7 @@ use Rattle.wm_criteria.specs.Patterns.{pattern_at, unless_plain}
 use Rattle.wm_criteria.specs.declared.verdict.Verdict.{Verdict}
 use Rattle.wm_criteria.specs.declared.verdict.Verdict.TheVariants.{Ready, Bad, PatternRefused}
 use Rattle.wm_grammar.specs.Reading.{batch_of, is_whole}
-use Rattle.wm_grammar.specs.declared.batch.Batch.{Batch}
+use Rattle.wm_language.specs.declared.batch.Batch.{Batch}
 use Rattle.wm_tool.specs.declared.status.Refused.{Refused}
 
 -- the number of the pattern that was refused at a place of the history

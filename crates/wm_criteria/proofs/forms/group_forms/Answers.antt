@@ -1,6 +1,6 @@
 use Rattle.std.proofs.Common.{◌≡◌, [], ◌∷◌, ◌+◌, ◌-◌, List, arith, length, take, drop}
 use Rattle.std.specs.Prelude.{map}
-use Rattle.wm_grammar.specs.declared.batch.Group.{Group}
+use Rattle.wm_language.specs.declared.batch.Group.{Group}
 use Rattle.wm_criteria.specs.Patterns.{key_patterns, keys_of, patterns_of, to_build}
 use Rattle.wm_criteria.specs.Building.{Tells}
 use Rattle.wm_criteria.specs.Stop.{IsStop, stop_texts}

@@ -1,5 +1,5 @@
 use Rattle.std.proofs.Common.{◌≡◌, [], ◌∷◌, ◌-◌, List, arith, length, take, drop}
-use Rattle.wm_grammar.specs.declared.batch.Key.{Key}
+use Rattle.wm_language.specs.declared.batch.Key.{Key}
 use Rattle.std.specs.Option.{option_to_list}
 use Rattle.wm_criteria.specs.Patterns.{pattern_of, to_build}
 use Rattle.wm_criteria.proofs.BuildingLemmas.{tells_both}

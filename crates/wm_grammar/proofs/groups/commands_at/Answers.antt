@@ -1,7 +1,7 @@
 use Rattle.std.proofs.Common.{arith, ◌≡◌, ◌∷◌, [], ◌++◌, List, Some, ap, ◌∙◌, ◌-◌, take, drop, length}
-use Rattle.wm_grammar.specs.declared.command.Command.{Command}
+use Rattle.wm_language.specs.declared.command.Command.{Command}
 use Rattle.wm_grammar.specs.Openings.{command_at}
-use Rattle.wm_grammar.specs.Pieces.{skip}
+use Rattle.wm_words.specs.Pieces.{skip}
 use Rattle.wm_grammar.specs.Reading.{commands_at}
 use Rattle.wm_grammar.proofs.Loops.{commands_step, with_commands}
 use Rattle.wm_grammar.proofs.groups.commands_at.Goals as goal

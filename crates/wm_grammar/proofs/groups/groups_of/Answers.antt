@@ -1,6 +1,6 @@
 use Rattle.std.proofs.Common.{arith, ◌≡◌, ◌<◌, ◌≤◌, ◌∷◌, [], ◌++◌, List, ℕ, Some, refl, ap, ◌∙◌, ◌-◌, take, drop, length, get_or}
 use denote.Bor.{Bor}
-use Rattle.wm_grammar.specs.Pieces.{skip}
+use Rattle.wm_words.specs.Pieces.{skip}
 use Rattle.wm_grammar.specs.Reading.{group_at}
 use Rattle.wm_grammar.proofs.Loops.{groups_step, groups_blank}
 use Rattle.wm_grammar.proofs.groups.groups_of.Goals as goal

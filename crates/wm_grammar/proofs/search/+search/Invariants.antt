@@ -1,6 +1,6 @@
 use Rattle.std.proofs.Common.{◌≡◌, ◌<◌, ◌≤◌, ◌+◌, ◌*◌, length}
 use Rattle.std.specs.List.{All}
-use Rattle.wm_grammar.specs.Pieces.{first_of}
+use Rattle.wm_words.specs.Pieces.{first_of}
 use Rattle.wm_grammar.specs.Farthest.{farthest}
 use Rattle.wm_grammar.specs.Last.{last_of}
 use Rattle.wm_grammar.proofs.search.+search.Given as goal

@@ -1,7 +1,7 @@
 use Rattle.std.proofs.Common.{◌≡◌, ◌<◌, ◌-◌, length, arith, [], ◌∙◌, sym, List, ℕ, refl, None, ◌∷◌}
 use Rattle.std.proofs.lemmas.List.{length-take}
 use Rattle.wm_grammar.specs.Farthest.{before_last_quote}
-use Rattle.wm_grammar.proofs.Pieces.{last_quote_found, last_quote_other}
+use Rattle.wm_grammar.proofs.LastQuote.{last_quote_found, last_quote_other}
 use Rattle.wm_grammar.proofs.search.before_last_quote.Goals as goal
 
 pub loop-rest-preserved : goal.loop-rest-preserved

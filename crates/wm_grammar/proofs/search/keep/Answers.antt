@@ -1,6 +1,6 @@
 use Rattle.std.proofs.Common.{arith, ◌≡◌, true, List, [], ◌∷◌, ◌++◌, refl, ap, ◌∙◌}
 use Rattle.wm_grammar.specs.declared.search.Turn.{Turn}
-use Rattle.wm_grammar.specs.Pieces.{starts}
+use Rattle.wm_words.specs.Pieces.{starts}
 use Rattle.wm_grammar.specs.Last.{last_of}
 use Rattle.wm_grammar.proofs.Last.{last_push, last_alone}
 use Rattle.wm_grammar.proofs.search.keep.Goals as goal

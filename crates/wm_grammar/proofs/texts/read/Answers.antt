@@ -1,5 +1,5 @@
 use Rattle.std.proofs.Common.{arith}
-use Rattle.wm_grammar.specs.declared.batch.Batch.{Batch}
+use Rattle.wm_language.specs.declared.batch.Batch.{Batch}
 use Rattle.wm_grammar.specs.Reading.{Reads}
 use Rattle.wm_grammar.proofs.Fits.{readable}
 use Rattle.wm_grammar.proofs.texts.read.Goals as goal

@@ -1,6 +1,0 @@
-use Rattle.wm_grammar.specs.Words.{stops}
-use Rattle.wm_grammar.proofs.Pieces.{NoneBefore}
-use Rattle.wm_grammar.proofs.words.cut.Given as goal
-
-abbrev pub invariant-loop-i : goal.invariant-loop-i
-invariant-loop-i l = NoneBefore (stops l.stop) l.text l.i

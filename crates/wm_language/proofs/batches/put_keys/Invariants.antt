@@ -1,0 +1,10 @@
+use Rattle.std.proofs.Common.{◌≡◌, ◌++◌, length}
+use Rattle.std.specs.Prelude.{string_bytes}
+use Rattle.wm_language.specs.Spelling.{keys_text}
+use Rattle.wm_language.proofs.batches.put_keys.Given as goal
+
+abbrev pub invariant-loop-rest : goal.invariant-loop-rest
+invariant-loop-rest l = string_bytes l.out ++ keys_text l.rest ≡ string_bytes l.fn.out ++ keys_text l.keys
+
+abbrev pub decreases-loop-rest : goal.decreases-loop-rest
+decreases-loop-rest l = length l.rest
