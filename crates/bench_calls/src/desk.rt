@@ -71,7 +71,9 @@ fn named(word: &str) -> Result<Call, Fault> {
 
 fn time_on_desk(rt: &HostRuntime, windows: u32, call: Call) -> Result<u128, Fault> {
     let mut desk = started(rt.alloc())?;
-    time_answers(rt, &mut desk, windows, call)
+    let took = time_answers(rt, &mut desk, windows, call);
+    drop(desk);
+    took
 }
 
 fn started(alloc: Global) -> Result<Desk, NoMemory> {
@@ -113,10 +115,10 @@ fn show_workspace(alloc: Global, desk: &mut Desk, number: u32) -> Result<(), Fau
 /// Takes the step that runs a text.
 fn run(alloc: Global, desk: &mut Desk, text: &str) -> Result<(), Fault> {
     let step = running(alloc, text)?;
-    match take(desk, &step) {
-        Ok(_) => Ok(()),
-        Err(_) => Err(Fault::Refused),
-    }
+    let answer = take(desk, &step);
+    drop(step);
+    drop(answer?);
+    Ok(())
 }
 
 /// The step that runs a text.
@@ -125,6 +127,7 @@ fn running(alloc: Global, text: &str) -> Result<Step, Fault>
 {
     let prepared = prepare_bare(alloc, text)?;
     if !prepared.built() {
+        drop(prepared);
         return Err(Fault::Refused);
     }
     Ok(Step::Run(prepared))
@@ -142,9 +145,19 @@ fn take(desk: &mut Desk, step: &Step) -> Result<Answer, Fault>
 
 fn open_window(alloc: Global, desk: &mut Desk) -> Result<ConId, Fault> {
     let step = window(alloc)?;
-    match take(desk, &step) {
-        Ok(Answer::Mapped(con)) => Ok(con),
-        _ => Err(Fault::Refused),
+    let answer = take(desk, &step);
+    drop(step);
+    let answer = answer?;
+    let con = mapped(&answer);
+    drop(answer);
+    con.ok_or(Fault::Refused)
+}
+
+/// The id of the window that a step opened.
+fn mapped(answer: &Answer) -> Option<ConId> {
+    match answer {
+        Answer::Mapped(con) => Some(*con),
+        _ => None,
     }
 }
 
@@ -208,13 +221,18 @@ fn end_steps(rt: &HostRuntime, desk: &mut Desk, shown: &[ConId]) -> Result<u128,
     let rounds = FOLLOWING as usize / answers.max(FEWEST);
     let mut took = Duration::ZERO;
     for _ in 0..rounds {
-        time_out_all(desk)?;
-        run(rt.alloc(), desk, "layout toggle split")?;
-        let waiting = desk.state().waiting.ok_or(Fault::Refused)?;
-        let more = timed(rt, desk, shown, waiting.number)?;
+        let more = end_step(rt, desk, shown)?;
         took = took.checked_add(more).ok_or(Fault::Refused)?;
     }
     Ok(took.as_nanos() / (rounds * answers).max(1) as u128)
+}
+
+/// Turns the workspace on the screen, and tells how long the answers took that end what waits then.
+fn end_step(rt: &HostRuntime, desk: &mut Desk, shown: &[ConId]) -> Result<Duration, Fault> {
+    time_out_all(desk)?;
+    run(rt.alloc(), desk, "layout toggle split")?;
+    let waiting = desk.state().waiting.ok_or(Fault::Refused)?;
+    timed(rt, desk, shown, waiting.number)
 }
 
 /// How long the answers take that end the transaction of this number, a reading of the clock taken off.

@@ -28,7 +28,9 @@ pub fn bench(alloc: Global, count: &str, call: &str) -> Result<(), Fault> {
     };
     let call = named(call)?;
     let mut tree = opened(alloc)?;
-    run(alloc, &mut tree, chains, call)
+    let done = run(alloc, &mut tree, chains, call);
+    drop(tree);
+    done
 }
 
 fn named(word: &str) -> Result<Call, Fault> {

@@ -92,15 +92,20 @@ fn open(
 fn props(alloc: Global, class: &str, kind: &str) -> Result<Props, Fault> {
     let (instance, role) = ended_pair(alloc, class, "-i", "-r")?;
     let (machine, title) = ended_pair(alloc, class, "-m", "-t")?;
-    let kind = Text::new(alloc, kind)?;
+    let (class, kind) = pair(alloc, class, kind)?;
     Ok(Props {
-        class: Text::new(alloc, class)?,
+        class,
         instance,
         role,
         kind,
         machine,
         title,
     })
+}
+
+fn pair(alloc: Global, first: &str, second: &str) -> Result<(Text, Text), Fault> {
+    let first = Text::new(alloc, first)?;
+    Ok((first, Text::new(alloc, second)?))
 }
 
 fn ended_pair(

@@ -60,6 +60,13 @@ fn tell(words: &mut Words<'_>, out: &mut String) -> Result<(), Fault> {
         "both" => reads::tell_both(words, out),
         "long" => reads::tell_long(words, out),
         "plain" => patterns::tell_plain(words, out),
+        word => tell_whole(word, words, out),
+    }
+}
+
+/// Writes what comes of a case of prepared texts, of plans or of matching.
+fn tell_whole(word: &str, words: &mut Words<'_>, out: &mut String) -> Result<(), Fault> {
+    match word {
         "prepares" => prepared::tell_prepared(words, out),
         "prepares_long" => prepared::tell_long(words, out),
         "plan" => plans::tell_plan(words, out),

@@ -2,6 +2,7 @@
 use crate::desk::NO_EDGES;
 use case_data::{Fault, Words};
 use std::alloc::Global;
+use std::mem;
 use wm_base::{Border, Edges, List, OutputPlan};
 use wm_layouts::{Plan, is_fit_rect};
 
@@ -19,7 +20,14 @@ pub fn tell_fit(words: &mut Words<'_>, out: &mut String) -> Result<(), Fault> {
 /// `normal N`. Without any output it has none.
 pub fn tell_plan(words: &mut Words<'_>, out: &mut String) -> Result<(), Fault> {
     let mut plan = Plan::standard(words.alloc)?;
-    change_all(&mut plan, words)?;
+    let done = tell_changed(&mut plan, words, out);
+    drop(plan);
+    done
+}
+
+/// Changes a plan as the parts say, and tells whether it is sound then.
+fn tell_changed(plan: &mut Plan, words: &mut Words<'_>, out: &mut String) -> Result<(), Fault> {
+    change_all(plan, words)?;
     Ok(out.push_str(if plan.sound() {
         "  sound\n"
     } else {
@@ -30,11 +38,18 @@ pub fn tell_plan(words: &mut Words<'_>, out: &mut String) -> Result<(), Fault> {
 fn change_all(plan: &mut Plan, words: &mut Words<'_>) -> Result<(), Fault> {
     let data = words.rest();
     if data != "standard" {
-        plan.outputs = List::of(outputs_of(words.alloc, data)?);
+        put_outputs(words.alloc, plan, data)?;
     }
     for part in data.split(" | ") {
         change(plan, &mut Words::of(words.alloc, part))?;
     }
+    Ok(())
+}
+
+/// Gives a plan the outputs among the parts.
+fn put_outputs(alloc: Global, plan: &mut Plan, data: &str) -> Result<(), Fault> {
+    let outputs = List::of(outputs_of(alloc, data)?);
+    drop(mem::replace(&mut plan.outputs, outputs));
     Ok(())
 }
 

@@ -1,6 +1,6 @@
 -- What each command does to one subject, or to the tree as a whole, and why it is refused: a case for each command that is
 -- built.
-use Rattle.std.specs.Prelude.{if◌then◌else◌, List, ℕ, Option, None, Some}
+use Rattle.std.specs.Prelude.{if◌then◌else◌, Bool, true, false, List, ℕ, Option, None, Some}
 use Rattle.wm_base.specs.declared.errors.ErrorText.TheVariants as errors
 use Rattle.wm_base.specs.declared.errors.Refusal.{Refusal}
 use Rattle.wm_base.specs.declared.errors.Refusal.TheVariants.{NoTarget}
@@ -64,6 +64,42 @@ abbrev pub whole_tree : List (List ℕ × List ℕ) → Command → TreeValue �
 whole_tree homes (commands.Workspace target) t = show_tree target homes t
 whole_tree homes (commands.Rename was name) t = rename_tree was name t
 whole_tree homes other t = t
+
+-- the homes of workspaces: names, and the outputs on which workspaces of these names are made
+abbrev pub Homes : Type 0
+Homes = List (List ℕ × List ℕ)
+
+-- the commands of layouts, of focus and moves in the tree, and of marks
+abbrev pub is_inner : Command → Bool
+is_inner (commands.Split arg) = true
+is_inner (commands.SetLayout arg) = true
+is_inner (commands.CycleLayout cycle) = true
+is_inner commands.Focus = true
+is_inner (commands.FocusDir d) = true
+is_inner commands.FocusParent = true
+is_inner commands.FocusChild = true
+is_inner (commands.MoveDir d px) = true
+is_inner (commands.MoveToMark name) = true
+is_inner (commands.Swap arg) = true
+is_inner (commands.Mark add toggle name) = true
+is_inner (commands.Unmark name) = true
+is_inner other = false
+
+-- the commands of outputs, workspaces, floating windows and the scratchpad
+abbrev pub is_placing : Command → Bool
+is_placing (commands.FocusOutput arg) = true
+is_placing (commands.MoveToOutput arg) = true
+is_placing (commands.MoveToWorkspace target) = true
+is_placing (commands.MoveWorkspace arg) = true
+is_placing (commands.FocusKind kind) = true
+is_placing (commands.Floating arg) = true
+is_placing (commands.Fullscreen arg) = true
+is_placing (commands.Sticky arg) = true
+is_placing (commands.MovePosition x y) = true
+is_placing commands.MoveCenter = true
+is_placing commands.MoveToScratchpad = true
+is_placing commands.ScratchpadShow = true
+is_placing other = false
 
 -- why the command is refused on the subject c
 abbrev pub row_refusal : List (List ℕ × List ℕ) → How → Command → ConId → TreeValue → Option Refusal

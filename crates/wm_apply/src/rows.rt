@@ -1,6 +1,7 @@
 //! One command on one subject, or on the tree as a whole: a case for each command that is built.
-ghost use Rattle.std.specs.Prelude.{◌≡◌, None, OnOk, OnErr, IfErr};
-ghost use Rattle.wm_apply.specs.Rows.{come_refusal, focus_refusal, focus_tree, row_refusal, row_tree, matched_subject, whole_refusal, whole_tree};
+ghost use Rattle.std.specs.Prelude.{◌≡◌, false, None, OnOk, OnErr, IfErr};
+ghost use Rattle.wm_apply.specs.Rows.{Homes, come_refusal, focus_refusal, focus_tree, is_inner, is_placing, row_refusal, row_tree, matched_subject, whole_refusal, whole_tree};
+ghost use Rattle.wm_apply.specs.declared.rows.How.{How};
 ghost use Rattle.wm_shared.specs.Refusing.{IsCause};
 ghost use Rattle.wm_shared.specs.Subject.{IsSubject};
 ghost use Rattle.wm_tree.specs.Sound.{IsSound};
@@ -58,6 +59,28 @@ pub fn run_row(
         Command::Swap(arg) => swap(t, con, arg),
         Command::Mark { add, toggle, name } => mark(t, con, name, *add, *toggle),
         Command::Unmark(name) => unmark(t, how.matched_subject(con), name.as_ref()),
+        _ => run_placing(alloc, t, homes, how, command, con),
+    }
+}
+
+/// Does a command to one subject that is none of layouts, of focus and moves in the tree, or of marks.
+fn run_placing(
+    alloc: Global,
+    t: &mut Tree,
+    homes: &[(Text, Text)],
+    how: How,
+    command: &Command,
+    con: ConId,
+) -> Result<(), Refusal>
+    requires subject { IsSubject t.old con }
+    requires other { is_inner command.now ≡ false }
+    ensures tree { OnOk result (t.new ≡ row_tree homes.now how command.now con t.old) }
+    ensures fine { OnOk result (row_refusal homes.now how command.now con t.old ≡ None) }
+    ensures err { OnErr result (t.new ≡ t.old) }
+    ensures cause { IfErr result (IsCause (row_refusal homes.now how command.now con t.old)) }
+    ensures sound { IsSound t.new }
+{
+    match command {
         Command::FocusOutput(arg) => focus_named(t, con, arg),
         Command::MoveToOutput(arg) => send_to_named(t, con, arg),
         Command::MoveToWorkspace(target) => send_to(t, con, target, homes),
@@ -70,6 +93,22 @@ pub fn run_row(
         Command::MoveCenter => centre(t, con),
         Command::MoveToScratchpad => to_scratchpad(t, con),
         Command::ScratchpadShow => show_scratchpad(t, how.matched_subject(con)),
+        _ => run_sizing(t, command, con),
+    }
+}
+
+/// Does a command to one subject that is none of outputs, workspaces, floating windows or the scratchpad either.
+fn run_sizing(t: &mut Tree, command: &Command, con: ConId) -> Result<(), Refusal>
+    requires subject { IsSubject t.old con }
+    requires other { is_inner command.now ≡ false }
+    requires unplaced { is_placing command.now ≡ false }
+    ensures tree { (homes : Homes) (how : How) → OnOk result (t.new ≡ row_tree homes how command.now con t.old) }
+    ensures fine { (homes : Homes) (how : How) → OnOk result (row_refusal homes how command.now con t.old ≡ None) }
+    ensures err { OnErr result (t.new ≡ t.old) }
+    ensures cause { (homes : Homes) (how : How) → IfErr result (IsCause (row_refusal homes how command.now con t.old)) }
+    ensures sound { IsSound t.new }
+{
+    match command {
         Command::Resize {
             grow,
             side,

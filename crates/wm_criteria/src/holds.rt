@@ -1,8 +1,9 @@
 //! What each key asks of a container.
-ghost use Rattle.std.specs.Prelude.{◌≡◌, ◌&&◌, not, if◌then◌else◌, option_map, is_some, Some, IfOk};
+ghost use Rattle.std.specs.Prelude.{◌≡◌, ◌==◌, ◌&&◌, not, if◌then◌else◌, option_map, is_some, Some, IfOk};
 ghost use Rattle.std.specs.List.{list_any};
 ghost use Rattle.std.specs.Option.{option_copied};
 ghost use Rattle.wm_base.specs.declared.properties.Props.{Props};
+ghost use Rattle.wm_language.specs.declared.batch.Key.TheVariants.{Con};
 ghost use Rattle.wm_forest.specs.Change.{is_id};
 ghost use Rattle.wm_forest.specs.Look.{first_marks, only};
 ghost use Rattle.wm_tree.specs.TreeValue.{is_tiled_con, shown, workspace_of};
@@ -41,12 +42,11 @@ pub fn key_holds(
         Key::Title(x) => window_asks(alloc, tree, Property::Title, x, form, con),
         Key::Mark(x) => some_mark(alloc, tree, x, form, con),
         Key::Workspace(x) => workspace_asks(alloc, tree, x, form, con),
-        Key::Id(n) => Ok(is_window(tree, con) && con.0 == *n),
-        Key::Con(None) => Ok(con == tree.focused()),
-        Key::Con(Some(n)) => Ok(con.0 == *n),
+        Key::Id(n) => Ok(is_window_of(tree, *n, con)),
+        Key::Con(n) => Ok(is_con(tree, *n, con)),
         Key::Urgent { latest } => Ok(is_end(tree.urgent_ids(), *latest, con)),
         Key::Floating => Ok(is_floating(tree, con)),
-        Key::Tiling => Ok(is_window(tree, con) && tree.is_tiled(con)),
+        Key::Tiling => Ok(is_tiling(tree, con)),
         Key::All => Ok(is_window(tree, con)),
     }
 }
@@ -77,6 +77,30 @@ fn is_window(tree: &Tree, con: ConId) -> bool
     ensures { result ≡ is_window tree.now con }
 {
     window(tree, con).is_some()
+}
+
+/// Whether this is the window of that id.
+fn is_window_of(tree: &Tree, id: u32, con: ConId) -> bool
+    ensures { result ≡ (is_window tree.now con && (con.0 == id)) }
+{
+    is_window(tree, con) && con.0 == id
+}
+
+/// Whether this is the container of that id, or the focused one where no id is asked for.
+fn is_con(tree: &Tree, id: Option<u32>, con: ConId) -> bool
+    ensures { result ≡ key_holds tree.now con (Con id) }
+{
+    match id {
+        Some(id) => con.0 == id,
+        None => con == tree.focused(),
+    }
+}
+
+/// Whether this is a window that is tiled.
+fn is_tiling(tree: &Tree, con: ConId) -> bool
+    ensures { result ≡ (is_window tree.now con && is_tiled_con tree.now con) }
+{
+    is_window(tree, con) && tree.is_tiled(con)
 }
 
 /// Whether there is a text, and it is this one.

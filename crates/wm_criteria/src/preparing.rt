@@ -59,13 +59,18 @@ fn with_forms<B: Build>(
         forms = match group_forms(alloc, batch.groups.items(), build) {
             Ok(forms) => Some(forms),
             Err(Stop::Refused { pattern }) => {
+                drop(batch);
                 return Ok(Prepared {
                     text,
                     verdict: Verdict::PatternRefused { pattern },
                     forms: None,
                 });
             }
-            Err(Stop::NoMemory) => return Err(NoMemory),
+            Err(Stop::NoMemory) => {
+                drop(batch);
+                drop(text);
+                return Err(NoMemory);
+            }
         };
     }
     Ok(Prepared {

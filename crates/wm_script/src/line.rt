@@ -2,14 +2,14 @@
 use wm_base::{Border, Buffer, ConId, Edges, OutputPlan, Props, Str, Text};
 
 /// A line of a script, and the number of the caller who speaks: 0 where it names none.
-#[derive(Debug, Drop)]
+#[derive(Drop)]
 pub struct Line {
     pub who: u32,
     pub deed: Deed,
 }
 
 /// What a line does: it says something of the plan, takes a step, has the frame painted, or looks at the desk.
-#[derive(Debug, Drop)]
+#[derive(Drop)]
 pub enum Deed {
     /// There is this output.
     Output(OutputPlan),

@@ -94,6 +94,7 @@ pub fn properties(
         return Ok(Some(given));
     }
     if most == 0 {
+        drop(given);
         return Ok(None);
     }
     match property(alloc, given, text)? {
@@ -107,13 +108,23 @@ fn property(alloc: Global, given: Given, text: &[u8]) -> Result<Option<(Given, &
     ensures { IfOk result (λ more. option_map (λ found. (found.0, found.1.now)) more ≡ property_at given text.now) }
 {
     let Some(text) = behind(text, b" ") else {
+        drop(given);
         return Ok(None);
     };
     let Some((field, text)) = named_field(text) else {
+        drop(given);
         return Ok(None);
     };
-    let Some((said, rest)) = quoted(alloc, text)? else {
-        return Ok(None);
+    let (said, rest) = match quoted(alloc, text) {
+        Ok(Some(found)) => found,
+        Ok(None) => {
+            drop(given);
+            return Ok(None);
+        }
+        Err(fault) => {
+            drop(given);
+            return Err(fault);
+        }
     };
     match given.with(field, said) {
         Some(given) => Ok(Some((given, rest))),

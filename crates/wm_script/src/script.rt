@@ -46,7 +46,10 @@ fn spoken_line(alloc: Global, text: &[u8]) -> Result<Option<Line>, NoMemory>
     };
     match read_deed(alloc, rest)? {
         Some(deed) if !is_plan_deed(&deed) => Ok(Some(Line { who, deed })),
-        _ => Ok(None),
+        other => {
+            drop(other);
+            Ok(None)
+        }
     }
 }
 
@@ -149,6 +152,7 @@ fn line_in_order(
     if may_follow(begun, before, &line) {
         Ok(Some(line))
     } else {
+        drop(line);
         Ok(None)
     }
 }

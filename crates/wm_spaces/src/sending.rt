@@ -12,6 +12,7 @@ ghost use Rattle.wm_tree.specs.Outputs.{IsOutput};
 ghost use Rattle.wm_tree.specs.Sound.{IsSound};
 
 use crate::targets::{Goal, find_goal, home};
+use std::mem;
 use wm_base::{ConId, ErrorText, Rect, Refusal, Text};
 use wm_language::Target;
 use wm_shared::{held, is_hidden, is_space, output_part_of, rect_of, refused, shown_on};
@@ -168,12 +169,18 @@ fn send_new(t: &mut Tree, con: ConId, output: ConId, name: &Text) -> Result<(), 
     };
     let w = match t.add_workspace(output, name) {
         Ok(w) => w,
-        Err(error) => return Err(refused(error)),
+        Err(error) => {
+            drop(before);
+            return Err(refused(error));
+        }
     };
     match send(t, con, w) {
-        Ok(()) => Ok(()),
+        Ok(()) => {
+            drop(before);
+            Ok(())
+        }
         Err(error) => {
-            *t = before;
+            drop(mem::replace(t, before));
             Err(error)
         }
     }
