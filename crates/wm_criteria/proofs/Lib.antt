@@ -6,3 +6,4 @@ pub mod PartLemmas
 pub mod FormLemmas
 pub mod SearchLemmas
 pub mod GatherLemmas
+pub mod OrderLemmas

@@ -9,3 +9,4 @@ pub mod Parts
 pub mod Searching
 pub mod Holds
 pub mod Gathered
+pub mod Order

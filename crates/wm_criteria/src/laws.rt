@@ -1,5 +1,6 @@
-//! Laws on the definitions of plain patterns.
+//! Laws on the definitions of plain patterns, and of what criteria match.
 ghost use Rattle.std.specs.Prelude.{◌≡◌, ◌++◌, Some, List, ℕ, Bool, true};
+ghost use Rattle.wm_criteria.specs.Order.{MatchingIsAll, MatchingIsOnce, MatchingRises};
 ghost use Rattle.wm_criteria.specs.Parts.{HasPart, mark, quoted};
 ghost use Rattle.wm_criteria.specs.Plain.{Plain, is_found, plain_of};
 
@@ -18,4 +19,13 @@ pub fn any_text_is_asked_for()
     ensures { (first : Bool) (text : List ℕ) (last : Bool) →
         plain_of (mark first 94 ++ (quoted text ++ mark last 36))
         ≡ Some (record { first = first; wanted = text; last = last }) }
+{}
+
+/// The containers that criteria match stand by rising id; each container for which all keys hold is there as often as
+/// in the tree, and nothing else is there. In a sound tree none is there twice.
+#[tactic(auto, using(crate::proofs::OrderLemmas::matching_rises, crate::proofs::OrderLemmas::matching_is_all, crate::proofs::OrderLemmas::matching_is_once))]
+pub fn matching_is_in_order()
+    ensures rise { MatchingRises }
+    ensures all { MatchingIsAll }
+    ensures once { MatchingIsOnce }
 {}

@@ -20,7 +20,7 @@ mod verdict;
 pub use build::{Build, BuildFault};
 pub use gathering::matching;
 pub use groups::matches;
-pub use laws::{any_text_is_asked_for, matches_a_part};
+pub use laws::{any_text_is_asked_for, matches_a_part, matching_is_in_order};
 pub use list_build::ListBuild;
 pub use plain::{is_plain, plain_search};
 pub use prepared::Prepared;
