@@ -6,6 +6,7 @@ mod arranging;
 mod borders;
 mod children;
 mod comparing;
+mod copying;
 mod covering;
 mod cutting;
 mod filling;

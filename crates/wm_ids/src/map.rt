@@ -1,5 +1,5 @@
 //! The map: a hash map of std, seen by rising id.
-ghost use Rattle.std.specs.Prelude.{◌≡◌, ℕ, [], None, OnOk, OnErr, option_copied, if◌then◌else◌};
+ghost use Rattle.std.specs.Prelude.{◌≡◌, ℕ, [], None, IfOk, OnOk, OnErr, option_copied, if◌then◌else◌};
 ghost use Rattle.std.specs.BTreeMap.{insert_entry, is_at};
 ghost use Rattle.std.specs.List.Sorted.{IsStrictlySortedBy};
 ghost use Rattle.std.specs.Map.{keys_of, lookup, remove_entry, set_value};
@@ -77,5 +77,15 @@ impl<V: Drop> IdMap<V> {
         ensures ordered { IsStrictlySortedBy nat_cmp (keys_of self.new) }
     {
         drop(self.values.remove(&id));
+    }
+}
+
+impl<V: Clone> IdMap<V> {
+    /// An equal map, where a clone of a value is equal to it.
+    pub fn copy(&self) -> Result<IdMap<V>, NoMemory>
+        ensures { ((v w : V) → V.is_clone v w → w ≡ v) → IfOk result (λ copy. copy ≡ self.now) }
+    {
+        let values = self.values.clone()?;
+        Ok(IdMap { values })
     }
 }
