@@ -13,10 +13,10 @@ mod play;
 mod sets;
 mod showing;
 mod telling;
-mod turns;
+mod transactions;
 
 use crate::play::play;
-use crate::turns::play_turns;
+use crate::transactions::play_transactions;
 use case_data::Fault;
 use std::alloc::Global;
 use std::{env, fs};
@@ -39,7 +39,7 @@ fn play_file(rt: &HostRuntime, name: &str) -> Result<(), Fault> {
 
 fn play_text(alloc: Global, name: &str, text: &str, out: &mut String) -> Result<(), Fault> {
     if name == "transactions.cases" {
-        play_turns(alloc, text, out)
+        play_transactions(alloc, text, out)
     } else {
         play(alloc, text, out)
     }

@@ -8,10 +8,16 @@ use Rattle.wm_base.specs.declared.plan.OutputPlan.{OutputPlan}
 use Rattle.wm_base.specs.declared.properties.Props.{Props}
 use Rattle.wm_core.proofs.GoneLemmas.{owned_containers, some_part, still_containers}
 use Rattle.wm_core.proofs.OpeningLemmas.{fit_plans}
-use Rattle.wm_core.specs.Act.{Act, Run, Map, Close, Retitle, Urgent, Gone, OutputAdd, OutputRemove, Reserve, Ack, Give, Deadline, Still}
+use Rattle.wm_core.specs.Act.{Act, Run, Map, Close, Retitle, Urgent, Gone, OutputAdd, OutputRemove, Reserve, Key, Tick, Ack, Give, Deadline}
 use Rattle.wm_core.specs.declared.step.Answer.{Answer}
 use Rattle.wm_core.specs.declared.step.Answer.TheVariants as answers
-use Rattle.wm_core.specs.History.{Entry, Start, has_no_pixels, if_done, limit_of, map_tree, opening_of, tree, tree_after, window_answer}
+use Rattle.wm_core.specs.Effect.{Effect, ack_said, done_or_refused, effect, has_no_pixels, limit_of, map_effect, refused, run_effect, telling, window_answer}
+use Rattle.wm_core.specs.History.{Entry, Start, opening_of, tree}
+use Rattle.wm_criteria.specs.declared.verdict.Verdict.{Verdict}
+use Rattle.wm_criteria.specs.declared.verdict.Verdict.TheVariants.{Ready, Bad, PatternRefused}
+use Rattle.wm_layouts.specs.declared.plan.Env.{Env}
+use Rattle.wm_txn.specs.History as commits
+use Rattle.wm_base.specs.declared.ids.Buffer.{Buffer}
 use Rattle.law_desk.specs.LastingLaws.{IsInOrder}
 use Rattle.wm_core.specs.Outputs.{add_answer, added, remove_answer, removed, reserve_answer, reserved, reserved_at, unless_full}
 use Rattle.wm_core.specs.Windows.{AreContainers, is_window, owned, retitled, with_urgency, with_urgent, without_urgent, without_windows}
@@ -69,15 +75,20 @@ module _ {P : TreeValue → Type 0} (k : Lasts P) where
       by true e = has_detached k v t g (each.0 e)
       by false e = subst (HasLast P) (sym (none_out v t e)) g
 
-  has_done : (a : Answer) (new t : TreeValue) → HasLast P t → (a ≡ answers.Done → HasLast P new) → HasLast P (if_done a new t)
+  has_done : (a : Answer) (new t : TreeValue) → HasLast P t → (a ≡ answers.Done → HasLast P new) → HasLast P (done_or_refused a t new).tree
   has_done answers.Done new t g h = h refl
   has_done other new t g h = g
 
-  has_map : (who : ℕ) (props : Props) (natural : Size) (o : Option Limit) (t : TreeValue) → limit_of t ≡ o → HasLast P t → HasLast P (map_tree t who props natural o)
-  has_map who props natural (Some limit) t e g = g
-  has_map who props natural None t e g =
-      let there : TreeValue = attached (newcomer_place t) (new.Window props who natural) t in
-      has_mapped k who props natural (fills_alone (id t.next_id) (workspace_of there (id t.next_id)) there) (id t.next_id) t g e
+  has_run : (env : Env) (verdict : Verdict) (t : TreeValue) → HasLast P t → HasLast P (run_effect env verdict t).tree
+  has_run env (Ready batch) t g = has_outcome k env.homes (Ready batch) None t g
+  has_run env (Bad at) t g = g
+  has_run env (PatternRefused pattern) t g = g
+
+  has_map : (who : ℕ) (props : Props) (buffer : Buffer) (o : Option Limit) (t : TreeValue) → limit_of t ≡ o → HasLast P t → HasLast P (map_effect t who props buffer o).tree
+  has_map who props buffer (Some limit) t e g = g
+  has_map who props buffer None t e g =
+      let there : TreeValue = attached (newcomer_place t) (new.Window props who buffer.size) t in
+      has_mapped k who props buffer.size (fills_alone (id t.next_id) (workspace_of there (id t.next_id)) there) (id t.next_id) t g e
 
   has_urgency : (v : ConId) (on : Bool) (t : TreeValue) → HasLast P t → HasLast P (with_urgency v on t)
   has_urgency v true t g = has_settled k (with_urgent v t) (step (lists v t.urgent))
@@ -97,14 +108,14 @@ module _ {P : TreeValue → Type 0} (k : Lasts P) where
       has_settled k (output_added_tree plan t) (has_added k plan t g (sound-with_output plan (free_name t) t (output_rect plan.rect may.0) may.1 g.sound))
 
   -- a step keeps what lasts
-  pub has_after : (homes : List (List ℕ × List ℕ)) (t : TreeValue) (who : ℕ) (act : Act) → HasLast P t → HasLast P (tree_after homes t who act)
-  has_after homes t who (Run text verdict) g = has_outcome k homes verdict None t g
-  has_after homes t who (Map props buffer) g = by (has_no_pixels buffer.size)
+  pub has_after : (env : Env) (t : TreeValue) (who : ℕ) (act : Act) → HasLast P t → HasLast P (effect env t who act).tree
+  has_after env t who (Run text) g = has_run env text.verdict t g
+  has_after env t who (Map props buffer text) g = by (has_no_pixels buffer.size)
     where
-      by : (b : Bool) → HasLast P (cond b t (map_tree t who props buffer.size (limit_of t)))
+      by : (b : Bool) → HasLast P (cond b (refused answers.Empty t) (map_effect t who props buffer (limit_of t))).tree
       by true = g
-      by false = has_map who props buffer.size (limit_of t) t refl g
-  has_after homes t who (Close v) g = has_done (window_answer t who v) (settled (detached v t)) t g (λ h. has_closed k v t g (is_con h))
+      by false = has_map who props buffer (limit_of t) t refl g
+  has_after env t who (Close v) g = has_done (window_answer t who v) (settled (detached v t)) t g (λ h. has_closed k v t g (is_con h))
     where
       is_con : window_answer t who v ≡ answers.Done → kind_of con_kind v t.nodes ≢ None
       is_con h = by (is_window t who v) refl h
@@ -112,21 +123,31 @@ module _ {P : TreeValue → Type 0} (k : Lasts P) where
           by : (b : Bool) → is_window t who v ≡ b → cond b answers.Done answers.NoView ≡ answers.Done → kind_of con_kind v t.nodes ≢ None
           by true e z = some_part who (kind_of con_kind v t.nodes) e
           by false e z = cc
-  has_after homes t who (Retitle v title) g = has_done (window_answer t who v) (retitled v title t) t g (λ h. has_settled k _ (has_titled k v title t g))
-  has_after homes t who (Urgent v on) g = has_done (window_answer t who v) (with_urgency v on t) t g (λ h. has_urgency v on t g)
-  has_after homes t who Gone g = has_settled k (without_windows (owned who t) t) (has_without (owned who t) t (owned_containers who t) g)
-  has_after homes t who (OutputAdd plan) g = has_done (add_answer plan t) (added plan t) t g (λ h. has_add plan t g h)
-  has_after homes t who (OutputRemove name) g = has_done (remove_answer name t) (removed name t) t g (λ h. has_settled k _ (has_removed k name t g))
-  has_after homes t who (Reserve name edges) g = has_done (reserve_answer name t) (reserved name edges t) t g (λ h. has_reserve (output_named name t) edges t g)
-  has_after homes t who (Ack v serial) g = g
-  has_after homes t who (Give v buffer) g = g
-  has_after homes t who (Deadline number) g = g
-  has_after homes t who Still g = g
+  has_after env t who (Retitle v title) g = has_done (window_answer t who v) (retitled v title t) t g (λ h. has_settled k _ (has_titled k v title t g))
+  has_after env t who (Urgent v on) g = has_done (window_answer t who v) (with_urgency v on t) t g (λ h. has_urgency v on t g)
+  has_after env t who Gone g = has_settled k (without_windows (owned who t) t) (has_without (owned who t) t (owned_containers who t) g)
+  has_after env t who (OutputAdd plan) g = has_done (add_answer plan t) (added plan t) t g (λ h. has_add plan t g h)
+  has_after env t who (OutputRemove name) g = has_done (remove_answer name t) (removed name t) t g (λ h. has_settled k _ (has_removed k name t g))
+  has_after env t who (Reserve name edges) g = has_done (reserve_answer name t) (reserved name edges t) t g (λ h. has_reserve (output_named name t) edges t g)
+  has_after env t who (Key chord choices) g = g
+  has_after env t who (Tick payload) g = g
+  has_after env t who (Ack v serial) g = by (is_window t who v)
+    where
+      by : (b : Bool) → HasLast P (cond b (telling (commits.Acked v serial) (λ judge. ack_said (judge v serial)) t) (refused answers.NoView t)).tree
+      by true = g
+      by false = g
+  has_after env t who (Give v buffer) g = by (is_window t who v) (has_no_pixels buffer.size)
+    where
+      by : (b c : Bool) → HasLast P (cond b (cond c (refused answers.Empty t) (telling (commits.Gave v buffer) (λ judge. answers.Done) t)) (refused answers.NoView t)).tree
+      by true true = g
+      by true false = g
+      by false c = g
+  has_after env t who (Deadline number) g = g
 
   -- and so does each history
   pub has_history : (start : Start) (history : List Entry) → HasLast P start.opened → HasLast P (tree start history)
   has_history start [] g = g
-  has_history start (entry ∷ history) g = has_after start.homes (tree start history) entry.who entry.act (has_history start history g)
+  has_history start (entry ∷ history) g = has_after start.env (tree start history) entry.who entry.act (has_history start history g)
 
 -- ---- trees in order
 

@@ -34,21 +34,12 @@ impl<V: Kept> Door for Book<V> {
     type Pass = Seat<V>;
 
     ghost use Rattle.std.specs.Prelude.{◌≡◌};
-    ghost use Rattle.wm_core.specs.Entries.{history_of};
+    ghost use Rattle.wm_book.specs.Carried.{carried, carried_legal};
+    ghost use Rattle.wm_turn.specs.Pass.{IsLegal};
 
-    ghost is_of = { λ book seat. seat.door ≡ book.door };
+    ghost is_of = { λ book seat. (seat.door ≡ book.door) × IsLegal seat };
 
-    ghost caller = { λ seat. seat.caller };
-
-    ghost parts = { λ seat. seat.parts };
-
-    ghost opening = { λ seat. seat.opening };
-
-    ghost turn = { λ seat. seat.turn };
-
-    ghost seen = { λ seat. history_of seat.seen };
-
-    ghost mine = { λ seat. seat.mine };
+    ghost carried = { carried };
 
     fn act<R: Wait>(&self, rt: &R, seat: &mut Seat<V>, step: &Step) -> Result<Answer, ActRefusal> {
         let mut value = self.turnstile.enter(rt, seat);
@@ -79,7 +70,9 @@ impl<V: Kept> Door for Book<V> {
             return Err(Exhausted { steps });
         }
         let answer = value.answer_client(seat.caller(), step);
-        self.turnstile.log(seat, &Step::Client(*step));
+        let entry = Step::Client(*step);
+        self.turnstile.log(seat, &entry);
+        drop(entry);
         self.turnstile.leave(seat, value);
         Ok(answer)
     }
@@ -111,6 +104,8 @@ impl<V: Kept> Door for Book<V> {
         self.turnstile.leave_read(seat, value, &Asked::Stopped);
         stopped
     }
+
+    ghost legal = { λ book seat is. carried_legal seat is.1 };
 }
 
 impl<V: Kept> Book<V> {
@@ -125,6 +120,7 @@ impl<V: Kept> Book<V> {
         requires stands { V.stands value [] }
         ensures gate { IfOk result (λ started. (started.0.seats ≡ seats) × (started.0.opening ≡ V.opening value)) }
         ensures seats { IfOk result (λ started. started.1.items ≡ new_passes started.0.door (V.opening value) 0 seats) }
+        ensures legal { IfOk result (λ started. All IsLegal started.1.items) }
         ensures err { IfErr result (λ refused. refused.1 ≡ value) }
     {
         let (turnstile, seats) = Turnstile::start(alloc, value, seats)?;

@@ -1,12 +1,14 @@
 //! Steps as a recorded desk stores them.
-ghost use Rattle.std.specs.Prelude.{◌≡◌, IfOk};
+ghost use Rattle.std.specs.Prelude.{◌≡◌, None, IfOk};
 ghost use Rattle.wm_core.specs.Entries.{bare, bare_step};
 ghost use Rattle.wm_core.specs.Sizes.{IsFitStep};
+ghost use Rattle.wm_core.specs.declared.step.Step.TheVariants as steps;
 
-use std::alloc::{AllocError, Global};
-use wm_base::{NoMemory, OutputPlan};
+use std::alloc::Global;
+use wm_base::{Buffer, ConId, Edges, NoMemory, Props, Text};
 use wm_core::Step;
 use wm_criteria::Prepared;
+use wm_layouts::copy_output;
 use wm_tree::copy_props;
 
 /// A step that was taken, without built patterns, and the number of its caller.
@@ -29,42 +31,49 @@ pub(crate) fn bare_copy(alloc: Global, step: &Step) -> Result<Step, NoMemory>
     requires fit { IsFitStep step.now }
     ensures { IfOk result (λ copy. copy ≡ bare_step step.now) }
 {
-    let copy = match step {
-        Step::Run(text) => Step::Run(bare_text(alloc, text)?),
-        Step::Map { props, buffer, .. } => Step::Map {
-            props: copy_props(props)?,
-            buffer: *buffer,
-            then: None,
-        },
-        Step::Retitle { con, title } => Step::Retitle {
-            con: *con,
-            title: title.clone()?,
-        },
-        Step::Urgent { con, on } => Step::Urgent { con: *con, on: *on },
-        Step::Close { con } => Step::Close { con: *con },
-        Step::Gone => Step::Gone,
-        Step::Client(step) => Step::Client(*step),
-        Step::OutputAdd { plan } => Step::OutputAdd {
-            plan: copy_plan(plan)?,
-        },
-        Step::OutputRemove { name } => Step::OutputRemove {
+    match step {
+        Step::Run(text) => Ok(Step::Run(bare_text(alloc, text)?)),
+        Step::Map { props, buffer, .. } => map_copy(props, *buffer),
+        Step::Retitle { con, title } => retitle_copy(*con, title),
+        Step::Urgent { con, on } => Ok(Step::Urgent { con: *con, on: *on }),
+        Step::Close { con } => Ok(Step::Close { con: *con }),
+        Step::Gone => Ok(Step::Gone),
+        Step::Client(step) => Ok(Step::Client(*step)),
+        Step::OutputAdd { plan } => Ok(Step::OutputAdd {
+            plan: copy_output(plan)?,
+        }),
+        Step::OutputRemove { name } => Ok(Step::OutputRemove {
             name: name.clone()?,
-        },
-        Step::Reserve { name, edges } => Step::Reserve {
-            name: name.clone()?,
-            edges: *edges,
-        },
+        }),
+        Step::Reserve { name, edges } => reserve_copy(name, *edges),
         Step::Key { .. } | Step::Tick { .. } => unreachable!(),
-    };
-    Ok(copy)
+    }
 }
 
-fn copy_plan(plan: &OutputPlan) -> Result<OutputPlan, AllocError>
-    ensures { IfOk result (λ copy. copy ≡ plan.now) }
+fn map_copy(props: &Props, buffer: Buffer) -> Result<Step, NoMemory>
+    ensures { IfOk result (λ copy. copy ≡ steps.Map props.now buffer None) }
 {
-    Ok(OutputPlan {
-        name: plan.name.clone()?,
-        rect: plan.rect,
-        reserved: plan.reserved,
+    Ok(Step::Map {
+        props: copy_props(props)?,
+        buffer,
+        then: None,
+    })
+}
+
+fn retitle_copy(con: ConId, title: &Text) -> Result<Step, NoMemory>
+    ensures { IfOk result (λ copy. copy ≡ steps.Retitle con title.now) }
+{
+    Ok(Step::Retitle {
+        con,
+        title: title.clone()?,
+    })
+}
+
+fn reserve_copy(name: &Text, edges: Edges) -> Result<Step, NoMemory>
+    ensures { IfOk result (λ copy. copy ≡ steps.Reserve name.now edges) }
+{
+    Ok(Step::Reserve {
+        name: name.clone()?,
+        edges,
     })
 }

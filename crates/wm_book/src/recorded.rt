@@ -91,6 +91,8 @@ impl Recorded {
     {
         if self.entries.len() < MOST_STORED {
             self.entries.push_reserved(Entry { who, step });
+        } else {
+            drop(step);
         }
     }
 }
@@ -105,9 +107,16 @@ impl Kept for Recorded {
             return Ok(self.desk.step(who, step)?);
         }
         let copy = bare_copy(self.alloc, step)?;
-        let answer = self.desk.step(who, step)?;
-        self.store(who, copy);
-        Ok(answer)
+        match self.desk.step(who, step) {
+            Ok(answer) => {
+                self.store(who, copy);
+                Ok(answer)
+            }
+            Err(error) => {
+                drop(copy);
+                Err(error)
+            }
+        }
     }
 
     fn answer_client(&mut self, who: u32, step: &ClientStep) -> Answer {

@@ -11,15 +11,17 @@ use Rattle.wm_tree.specs.TreeValue.{TreeValue}
 use Rattle.wm_tree.specs.Words.{detached, settled}
 use Rattle.wm_arrange.specs.declared.parts.Placed.{Placed}
 use Rattle.wm_arrange.specs.Arranged.{arranged}
-use Rattle.wm_txn.specs.Commits.{current, done, ended_turns, prefix, prefix_of}
-use Rattle.wm_txn.specs.Heard.{hear, is_due, is_empty}
+use Rattle.wm_txn.specs.Commits.{current, done, ended_transactions, prefix, prefix_of}
+use Rattle.wm_txn.specs.Accepted.{accept, is_due, is_empty}
 use Rattle.wm_txn.specs.History as commits
 use Rattle.wm_txn.specs.History.{arrangement, is_open, parts_after}
-use Rattle.wm_txn.specs.Schedule.{Turn, differs, first_when, last_parts, or_here, past}
+use Rattle.wm_txn.specs.Schedule.{Transaction, differs, first_when, last_parts, or_here, past}
 use Rattle.wm_txn.proofs.BeginLemmas.{beginning as begun_by}
 use Rattle.wm_txn.proofs.LastingLemmas.{done_past}
-use Rattle.wm_core.specs.Act.{Act, Run, Map, Close, Retitle, Urgent, Gone, OutputAdd, OutputRemove, Reserve, Ack, Give, Deadline, Still}
-use Rattle.wm_core.specs.History.{Entry, Start, first, has_no_pixels, heard_of, if_done, left_if_done, limit_of, map_tree, said, said_by_map, said_by_run, tree, tree_after, verdict_tree, window_answer}
+use Rattle.wm_core.specs.Act.{Act, Run, Map, Close, Retitle, Urgent, Gone, OutputAdd, OutputRemove, Reserve, Key, Tick, Ack, Give, Deadline}
+use Rattle.wm_core.specs.Effect.{Effect, ack_said, done_or_refused, effect, has_no_pixels, limit_of, map_effect, refused, run_effect, telling, window_answer}
+use Rattle.wm_core.specs.History.{Entry, Start, effect_after, first, accepted_of, tree}
+use Rattle.wm_layouts.specs.declared.plan.Env.{Env}
 use Rattle.wm_core.specs.Outputs.{add_answer, added, remove_answer, removed, reserve_answer, reserved}
 use Rattle.wm_core.specs.Screen.{beginning}
 use Rattle.wm_core.specs.Windows.{is_window, retitled, with_urgency}
@@ -28,23 +30,27 @@ use Rattle.wm_core.specs.declared.step.Answer.TheVariants as answers
 
 -- ---- the last arrangement is that of the tree
 
--- what is heard of an entry leaves the arrangement that the entry leaves
-heard_parts : (o : commits.Opening) (entry : commits.Entry) (history : List commits.Entry) (before : List Placed) → parts_after (hear o entry history) before ≡ parts_after entry before
-heard_parts o (commits.Arranged newest fresh gone) history before = refl
-heard_parts o (commits.Acked v serial) history before = by (is_open o v history && is_due o v serial history)
+-- what is accepted of an entry leaves the arrangement that the entry leaves
+accepted_parts : (o : commits.Opening) (entry : commits.Entry) (history : List commits.Entry) (before : List Placed) → parts_after (accept o entry history) before ≡ parts_after entry before
+accepted_parts o (commits.Arranged newest fresh gone) history before = refl
+accepted_parts o (commits.Acked v serial) history before = by (is_open o v history && is_due o v serial history)
   where
     by : (b : Bool) → parts_after (cond b (commits.Acked v serial) commits.Still) before ≡ before
     by true = refl
     by false = refl
-heard_parts o (commits.Gave v buffer) history before = by (is_open o v history && not (is_empty buffer.size))
+accepted_parts o (commits.Gave v buffer) history before = by (is_open o v history && not (is_empty buffer.size))
   where
     by : (b : Bool) → parts_after (cond b (commits.Gave v buffer) commits.Still) before ≡ before
     by true = refl
     by false = refl
-heard_parts o (commits.Deadline number) history before = refl
-heard_parts o commits.Still history before = refl
+accepted_parts o (commits.Deadline number) history before = refl
+accepted_parts o commits.Still history before = refl
 
-done_parts : (a : Answer) (new t : TreeValue) → parts_after (left_if_done a t new) (arranged t) ≡ arranged (if_done a new t)
+-- an effect tells of the arrangement of the tree that it leaves
+abbrev TellsParts : TreeValue → Effect → Type 0
+TellsParts t e = parts_after e.told (arranged t) ≡ arranged e.tree
+
+done_parts : (a : Answer) (new t : TreeValue) → TellsParts t (done_or_refused a t new)
 done_parts answers.Done new t = refl
 done_parts (answers.Mapped c) new t = refl
 done_parts (answers.Replies replies) new t = refl
@@ -56,51 +62,50 @@ done_parts answers.NameTaken new t = refl
 done_parts answers.NoTarget new t = refl
 done_parts answers.BadRect new t = refl
 
-run_parts : (homes : List (List ℕ × List ℕ)) (verdict : Verdict) (t : TreeValue) → parts_after (said_by_run homes verdict t) (arranged t) ≡ arranged (verdict_tree homes verdict t)
-run_parts homes (Ready batch) t = refl
-run_parts homes (Bad at) t = refl
-run_parts homes (PatternRefused pattern) t = refl
+run_parts : (env : Env) (verdict : Verdict) (t : TreeValue) → TellsParts t (run_effect env verdict t)
+run_parts env (Ready batch) t = refl
+run_parts env (Bad at) t = refl
+run_parts env (PatternRefused pattern) t = refl
 
-map_parts : (t : TreeValue) (who : ℕ) (props : Props) (buffer : Buffer) (limit : Option Limit) → parts_after (said_by_map t who props buffer limit) (arranged t) ≡ arranged (map_tree t who props buffer.size limit)
+map_parts : (t : TreeValue) (who : ℕ) (props : Props) (buffer : Buffer) (limit : Option Limit) → TellsParts t (map_effect t who props buffer limit)
 map_parts t who props buffer None = refl
 map_parts t who props buffer (Some limit) = refl
 
--- what a step says leaves the arrangement of the tree that it leaves
-said_parts : (homes : List (List ℕ × List ℕ)) (t : TreeValue) (who : ℕ) (act : Act) → parts_after (said homes t who act) (arranged t) ≡ arranged (tree_after homes t who act)
-said_parts homes t who (Run text verdict) = run_parts homes verdict t
-said_parts homes t who (Map props buffer) = by (has_no_pixels buffer.size)
+effect_parts : (env : Env) (t : TreeValue) (who : ℕ) (act : Act) → TellsParts t (effect env t who act)
+effect_parts env t who (Run text) = run_parts env text.verdict t
+effect_parts env t who (Map props buffer text) = by (has_no_pixels buffer.size)
   where
-    by : (b : Bool) → parts_after (cond b commits.Still (said_by_map t who props buffer (limit_of t))) (arranged t) ≡ arranged (cond b t (map_tree t who props buffer.size (limit_of t)))
+    by : (b : Bool) → TellsParts t (cond b (refused answers.Empty t) (map_effect t who props buffer (limit_of t)))
     by true = refl
     by false = map_parts t who props buffer (limit_of t)
-said_parts homes t who (Close v) = done_parts (window_answer t who v) (settled (detached v t)) t
-said_parts homes t who (Retitle v title) = done_parts (window_answer t who v) (retitled v title t) t
-said_parts homes t who (Urgent v on) = done_parts (window_answer t who v) (with_urgency v on t) t
-said_parts homes t who Gone = refl
-said_parts homes t who (OutputAdd plan) = done_parts (add_answer plan t) (added plan t) t
-said_parts homes t who (OutputRemove name) = done_parts (remove_answer name t) (removed name t) t
-said_parts homes t who (Reserve name edges) = done_parts (reserve_answer name t) (reserved name edges t) t
-said_parts homes t who (Ack v serial) = by (is_window t who v)
+effect_parts env t who (Close v) = done_parts (window_answer t who v) (settled (detached v t)) t
+effect_parts env t who (Retitle v title) = done_parts (window_answer t who v) (retitled v title t) t
+effect_parts env t who (Urgent v on) = done_parts (window_answer t who v) (with_urgency v on t) t
+effect_parts env t who Gone = refl
+effect_parts env t who (OutputAdd plan) = done_parts (add_answer plan t) (added plan t) t
+effect_parts env t who (OutputRemove name) = done_parts (remove_answer name t) (removed name t) t
+effect_parts env t who (Reserve name edges) = done_parts (reserve_answer name t) (reserved name edges t) t
+effect_parts env t who (Key chord choices) = refl
+effect_parts env t who (Tick payload) = refl
+effect_parts env t who (Ack v serial) = by (is_window t who v)
   where
-    by : (b : Bool) → parts_after (cond b (commits.Acked v serial) commits.Still) (arranged t) ≡ arranged t
+    by : (b : Bool) → TellsParts t (cond b (telling (commits.Acked v serial) (λ judge. ack_said (judge v serial)) t) (refused answers.NoView t))
     by true = refl
     by false = refl
-said_parts homes t who (Give v buffer) = by (is_window t who v) (has_no_pixels buffer.size)
+effect_parts env t who (Give v buffer) = by (is_window t who v) (has_no_pixels buffer.size)
   where
-    by : (b c : Bool) → parts_after (cond b (cond c commits.Still (commits.Gave v buffer)) commits.Still) (arranged t) ≡ arranged t
+    by : (b c : Bool) → TellsParts t (cond b (cond c (refused answers.Empty t) (telling (commits.Gave v buffer) (λ judge. answers.Done) t)) (refused answers.NoView t))
     by true true = refl
     by true false = refl
     by false c = refl
-said_parts homes t who (Deadline number) = refl
-said_parts homes t who Still = refl
+effect_parts env t who (Deadline number) = refl
 
-arrangement_is : (start : Start) (history : List Entry) → arrangement (first start) (heard_of start history) ≡ arranged (tree start history)
+arrangement_is : (start : Start) (history : List Entry) → arrangement (first start) (accepted_of start history) ≡ arranged (tree start history)
 arrangement_is start [] = refl
 arrangement_is start (entry ∷ history) =
-    let t = tree start history in
-    let e = said start.homes t entry.who entry.act in
-    heard_parts (first start) e (heard_of start history) (arrangement (first start) (heard_of start history))
-    ∙ (ap (parts_after e) (arrangement_is start history) ∙ said_parts start.homes t entry.who entry.act)
+    let told = (effect_after start history entry).told in
+    accepted_parts (first start) told (accepted_of start history) (arrangement (first start) (accepted_of start history))
+    ∙ (ap (parts_after told) (arrangement_is start history) ∙ effect_parts start.env (tree start history) entry.who entry.act)
 
 -- ---- what is found is a beginning
 
@@ -126,46 +131,46 @@ found_behind test n [] place h = behind_none (leb n 0 && test []) place h
 found_behind test n (entry ∷ history) place h =
     behind_step (first_when test n history) (leb n (length history + 1) && test (entry ∷ history)) entry history place h (λ z found. found_behind test n history z found)
 
-heard_length : (start : Start) (history : List Entry) → length (heard_of start history) ≡ length history
-heard_length start [] = refl
-heard_length start (entry ∷ history) = ap suc (heard_length start history)
+accepted_length : (start : Start) (history : List Entry) → length (accepted_of start history) ≡ length history
+accepted_length start [] = refl
+accepted_length start (entry ∷ history) = ap suc (accepted_length start history)
 
-heard_drop : (start : Start) (n : ℕ) (history : List Entry) → drop n (heard_of start history) ≡ heard_of start (drop n history)
-heard_drop start zero history = refl
-heard_drop start (suc n) [] = refl
-heard_drop start (suc n) (entry ∷ history) = heard_drop start n history
+accepted_drop : (start : Start) (n : ℕ) (history : List Entry) → drop n (accepted_of start history) ≡ accepted_of start (drop n history)
+accepted_drop start zero history = refl
+accepted_drop start (suc n) [] = refl
+accepted_drop start (suc n) (entry ∷ history) = accepted_drop start n history
 
 module _ (start : Start) (history : List Entry) where
   abbrev o : commits.Opening
   o = first start
 
   abbrev g : List commits.Entry
-  g = heard_of start history
+  g = accepted_of start history
 
-  -- a place that was found is what was heard of the beginning of its length
-  place_is : (place : List commits.Entry) → IsBehind g place → place ≡ heard_of start (beginning (length place) history)
+  -- a place that was found is what was accepted of the beginning of its length
+  place_is : (place : List commits.Entry) → IsBehind g place → place ≡ accepted_of start (beginning (length place) history)
   place_is place b =
       let n = length history - length place in
       let lengths : length g ≡ length b.0 + length place = ap length b.1 ∙ length-append b.0 place in
-      let front : length b.0 ≡ n = omega (arith, lengths, heard_length start history) in
-      sym (drop_at b.0 place n front) ∙ (ap (drop n) (sym b.1) ∙ heard_drop start n history)
+      let front : length b.0 ≡ n = omega (arith, lengths, accepted_length start history) in
+      sym (drop_at b.0 place n front) ∙ (ap (drop n) (sym b.1) ∙ accepted_drop start n history)
 
   none_left : beginning 0 history ≡ []
   none_left = drop_of_length-le history (omega arith)
 
   -- the arrangement of the last of these transactions is that of the tree at its prefix
-  turns_parts : (i : ℕ) (turns : List Turn) → past o i g ≡ Some turns → last_parts o turns ≡ arranged (tree start (beginning (prefix_of turns) history))
-  turns_parts i [] h = sym (ap (λ z. arranged (tree start z)) none_left)
-  turns_parts zero (t ∷ turns) h = cc
-  turns_parts (suc i) (t ∷ turns) h =
-      let b = begun_by o g (past o i g) t turns h in
-      let behind = found_behind (differs o turns) (length b.ended_place) g b.place b.found in
-      let parts_are : t.parts ≡ arrangement o b.place = ap (λ (z : Turn). z.parts) b.turn_is in
-      let prefix_is : t.prefix ≡ length b.place = ap (λ (z : Turn). z.prefix) b.turn_is in
+  transactions_parts : (i : ℕ) (transactions : List Transaction) → past o i g ≡ Some transactions → last_parts o transactions ≡ arranged (tree start (beginning (prefix_of transactions) history))
+  transactions_parts i [] h = sym (ap (λ z. arranged (tree start z)) none_left)
+  transactions_parts zero (t ∷ transactions) h = cc
+  transactions_parts (suc i) (t ∷ transactions) h =
+      let b = begun_by o g (past o i g) t transactions h in
+      let behind = found_behind (differs o transactions) (length b.ended_place) g b.place b.found in
+      let parts_are : t.parts ≡ arrangement o b.place = ap (λ (z : Transaction). z.parts) b.transaction_is in
+      let prefix_is : t.prefix ≡ length b.place = ap (λ (z : Transaction). z.prefix) b.transaction_is in
       parts_are
       ∙ (ap (arrangement o) (place_is b.place behind)
       ∙ (arrangement_is start (beginning (length b.place) history) ∙ ap (λ n. arranged (tree start (beginning n history))) (sym prefix_is)))
 
   -- what is shown is the arrangement of the tree at the prefix of the frame
   pub current_is : current o g ≡ arranged (tree start (beginning (prefix o g) history))
-  current_is = turns_parts (done o g) (ended_turns o g) (done_past o g)
+  current_is = transactions_parts (done o g) (ended_transactions o g) (done_past o g)

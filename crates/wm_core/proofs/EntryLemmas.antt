@@ -4,7 +4,7 @@ use Rattle.std.proofs.Common.{◌≡◌, ◌++◌, ℕ, List, [], ◌∷◌, ap,
 use Rattle.std.proofs.lemmas.List.{length-map}
 use Rattle.wm_core.specs.Entries.{desk_entry, history_of}
 use Rattle.wm_core.specs.History.{History}
-use Rattle.wm_core.specs.Passes.{Begins, IsLegal, acts, places}
+use Rattle.wm_core.specs.Passes.{Begins, acts, places}
 use Rattle.wm_core.specs.declared.asked.Asked.{Asked}
 use Rattle.wm_core.specs.declared.step.Step.{Step}
 use Rattle.wm_turn.specs.History as turn
@@ -34,7 +34,7 @@ history_places who (entry ∷ entries) =
     rw (history_places who entries, acts_length (history_of entries) ∙ history_length entries) refl
 
 -- marks that are legal for entries are legal for their history
-pub history_legal : (caller : ℕ) (entries : List (Entry Step)) (mine : List (Mark Asked)) → turn.AreLegal caller entries mine → IsLegal caller (history_of entries) mine
+pub history_legal : (caller : ℕ) (entries : List (Entry Step)) (mine : List (Mark Asked)) → turn.AreLegal caller entries mine → turn.AreLegal caller (acts (history_of entries)) mine
 history_legal caller entries mine legal = record {
   written = history_places caller entries ∙ legal.written;
   in_order = legal.in_order;

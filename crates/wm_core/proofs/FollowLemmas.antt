@@ -26,7 +26,7 @@ use Rattle.wm_opens.proofs.MeasureLemmas.{IsFresh, IsMeasure, windows_fresh, win
 use Rattle.wm_opens.proofs.OwnerLemmas.{owned_fewer}
 use Rattle.wm_opens.proofs.WordLemmas.{put_most}
 use Rattle.wm_core.specs.DeskValue.{Follows, one_if_some}
-use Rattle.wm_core.specs.History.{closed, fresh_ids}
+use Rattle.wm_core.specs.Effect.{closed, fresh_ids}
 use Rattle.wm_core.specs.Windows.{window_count, window_part}
 use Rattle.wm_core.proofs.OpenLemmas.{counted_is_found, found_is_counted, ranked_window}
 

@@ -8,8 +8,10 @@ pub mod LawLemmas
 pub mod LookLemmas
 pub mod OpenLemmas
 pub mod OpeningLemmas
+pub mod OrderLemmas
 pub mod OwnedLemmas
 pub mod OwnerLemmas
+pub mod PutLemmas
 pub mod ScreenLemmas
 pub mod StandsLemmas
 pub mod StepLemmas

@@ -9,7 +9,7 @@ use Rattle.wm_forest.specs.Counts.{con_count, count, one_con}
 use Rattle.wm_forest.specs.Forest.{Forest, end, con}
 use Rattle.wm_forest.specs.Look.{first_floats, first_kids, first_part, rest_of, same}
 use Rattle.wm_tree.specs.Sound.{IsSound}
-use Rattle.wm_forest.specs.SoundRow.{ranked, ranks}
+use Rattle.wm_forest.specs.SoundRow.{ranked, ranks, tally}
 use Rattle.wm_tree.specs.TreeValue.{TreeValue}
 use Rattle.wm_focus.specs.Swaps.{is_window_kind}
 use Rattle.wm_opens.specs.Opens.{is_window_of, window_at, windows, windows_at}
@@ -57,6 +57,18 @@ pub ranked_window : (v : ConId) (f : Forest) → count (window_at v) f ≤ ranke
 ranked_window v end = omega arith
 ranked_window v (con part kids floats rest) =
     omega (arith, by_id (same part.id v) (windows part.kind) (ranks part.kind) (kind_ranks part.kind), ranked_window v kids, ranked_window v floats, ranked_window v rest)
+
+rank_one : (kind : NodeKind) → ranks kind ≤ 1
+rank_one (Root c) = omega arith
+rank_one (Output o) = omega arith
+rank_one (Space s) = omega arith
+rank_one (Con c) = omega arith
+
+-- what the order of recency knows is there
+pub ranked_tally : (v : ConId) (f : Forest) → ranked v f ≤ tally v f
+ranked_tally v end = omega arith
+ranked_tally v (con part kids floats rest) =
+    omega (arith, by_id (same part.id v) (ranks part.kind) 1 (rank_one part.kind), ranked_tally v kids, ranked_tally v floats, ranked_tally v rest)
 
 -- ---- windows in a map
 

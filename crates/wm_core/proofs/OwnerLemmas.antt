@@ -21,7 +21,7 @@ use Rattle.wm_tree.specs.TreeValue.{TreeValue}
 use Rattle.wm_txn.specs.History.{is_fresh}
 use Rattle.wm_core.specs.ByWindow.{left_of, value_at}
 use Rattle.wm_core.specs.DeskValue.{AreOwners, Follows}
-use Rattle.wm_core.specs.History.{closed}
+use Rattle.wm_core.specs.Effect.{closed}
 use Rattle.wm_core.specs.Windows.{is_caller, is_window, kind_owner, owner_of, owner_then, part_owner}
 use Rattle.wm_core.proofs.FollowLemmas.{closed_are}
 use Rattle.wm_core.proofs.GoneLemmas.{some_part}

@@ -14,14 +14,15 @@ use Rattle.wm_arrange.specs.Arranged.{arranged}
 use Rattle.wm_arrange.specs.Sizes.{content_size}
 use Rattle.wm_txn.specs.History as commits
 use Rattle.wm_txn.specs.History.{is_fresh, is_open, maps, open_after, was_open}
-use Rattle.wm_txn.specs.Machine.{TxnValue, asked_of}
+use Rattle.wm_txn.specs.Machine.{TxnValue, configured_of}
 use Rattle.wm_txn.specs.Stands as transactions
-use Rattle.wm_txn.proofs.HeardLemmas.{open_was}
+use Rattle.wm_txn.proofs.AcceptedLemmas.{open_was}
 use Rattle.wm_txn.proofs.StandingLemmas.{still_stands}
 use Rattle.wm_opens.specs.Opens.{is_window_of, window_at, windows_at}
-use Rattle.wm_core.specs.DeskValue.{DeskValue, Follows, Stands, kill_after, kill_in, may_come}
+use Rattle.wm_core.specs.DeskValue.{DeskValue, Follows, Stands, StandsFrom, kill_after, kill_in, may_come}
 use Rattle.wm_core.specs.Frame.{quad_of, quads, what_of}
-use Rattle.wm_core.specs.History.{Beside, Entry, beside, closed, entries, first, kill_of, left, nothing, opening_of, said, tree, tree_after}
+use Rattle.wm_core.specs.Effect.{Effect, Judge, changing, closed, rearranged, refused, telling}
+use Rattle.wm_core.specs.History.{Entry, Start, answer, done_by, effect_after, entries, first, judged, kill_of, opening_of, tree}
 use Rattle.wm_core.proofs.ContentLemmas.{content_held, contents_held}
 use Rattle.wm_core.proofs.FollowLemmas.{closed_are, comes, opens}
 use Rattle.wm_core.proofs.LookLemmas.{wants_same}
@@ -31,95 +32,95 @@ use Rattle.wm_core.proofs.ScreenLemmas.{last_sound}
 use Rattle.wm_core.specs.Look.{wants}
 use Rattle.wm_core.specs.Windows.{owned_in_order}
 use Rattle.wm_core.specs.declared.state.Want.{Want}
-use Rattle.wm_txn.proofs.ReadingLemmas.{asked_is}
-use Rattle.wm_txn.specs.Commits.{asked}
-use Rattle.wm_txn.specs.Heard.{heard}
+use Rattle.wm_core.specs.declared.step.Answer.{Answer}
+use Rattle.wm_txn.proofs.ReadingLemmas.{configured_is}
+use Rattle.wm_txn.specs.Commits.{configured}
+use Rattle.wm_txn.specs.Accepted.{accepted}
 use Rattle.wm_txn.specs.Windows.{find}
 use Rattle.wm_forest.specs.Counts.{count}
 use Rattle.wm_base.specs.declared.geometry.Size.{Size}
 use Rattle.wm_base.specs.declared.plan.OutputPlan.{OutputPlan}
 
-pub entries_length : (d : DeskValue) (history : List Entry) → length (entries (opening_of d.plan) history) ≡ length history
-entries_length d [] = refl
-entries_length d (entry ∷ history) = ap suc (entries_length d history)
+pub entries_length : (start : Start) (history : List Entry) → length (entries start history) ≡ length history
+entries_length start [] = refl
+entries_length start (entry ∷ history) = ap suc (entries_length start history)
 
-abbrev stops_by : Beside → Bool
-stops_by b = b.stops
+or_false : (b : Bool) → (b || false) ≡ b
+or_false true = refl
+or_false false = refl
 
-abbrev asked_by : Beside → List ConId
-asked_by b = b.asked
-
-module _ (d : DeskValue) (history : List Entry) (s : Stands d history) where
+module _ (d : DeskValue) (start : Start) (history : List Entry) (s : StandsFrom start d history) where
   abbrev o : commits.Opening
-  o = first (opening_of d.plan)
+  o = first start
 
   abbrev h : List commits.Entry
-  h = entries (opening_of d.plan) history
+  h = entries start history
 
   -- as many entries came as steps were taken
   pub place : length h ≡ d.steps
-  place = entries_length d history ∙ sym s.counted
+  place = entries_length start history ∙ sym s.counted
 
-  -- a step that says this to the transactions, leaves this tree, and stops the desk or not
-  module _ (entry : Entry) (e : commits.Entry) (t : TreeValue) (txn : TxnValue) (stops : Bool) (ids : List ConId) (kills : List (ℕ × ℕ)) (says : said d.plan.env.homes d.tree entry.who entry.act ≡ e)
-      (after : t ≡ tree_after d.plan.env.homes d.tree entry.who entry.act) (does : beside d.plan.env.homes d.tree entry.act ≡ record { stops = stops; asked = ids })
-      (noted : (v : ConId) → may_come t v ≡ true → kill_in kills v ≡ kill_after ids (d.steps + 1) v (kill_in d.kills v)) (came : (v : ConId) → may_come t v ≡ true → may_come d.tree v ≡ true)
-      (stands : transactions.Stands o (e ∷ h) txn) (same_open : (v : ConId) → open_after e v (is_window_of d.tree v) ≡ is_window_of t v)
-      (new : (v : ConId) → t.next_id ≤ v.0 → maps v e ≡ false) (next : d.tree.next_id ≤ t.next_id) (sound_next : IsSound t)
+  -- what an entry does on the desk it does after the history
+  pub effect_there : (entry : Entry) (e : Effect) → done_by d.plan.env d.tree entry ≡ e → effect_after start history entry ≡ e
+  effect_there entry e is = ap₂ (λ env t. done_by env t entry) (sym s.env_is) (sym s.tree_is) ∙ is
+
+  -- and is answered as it is there
+  pub answered : (entry : Entry) (e : Effect) → done_by d.plan.env d.tree entry ≡ e → e.answer (judged start history) ≡ answer start history entry
+  answered entry e is = ap (λ (e : Effect). e.answer (judged start history)) (sym (effect_there entry e is))
+
+  -- a step with this effect
+  module _ (entry : Entry) (e : Effect) (txn : TxnValue) (kills : List (ℕ × ℕ)) (is : done_by d.plan.env d.tree entry ≡ e)
+      (noted : (v : ConId) → may_come e.tree v ≡ true → kill_in kills v ≡ kill_after e.closes (d.steps + 1) v (kill_in d.kills v)) (came : (v : ConId) → may_come e.tree v ≡ true → may_come d.tree v ≡ true)
+      (stands : transactions.Stands o (e.told ∷ h) txn) (same_open : (v : ConId) → open_after e.told v (is_window_of d.tree v) ≡ is_window_of e.tree v)
+      (new : (v : ConId) → e.tree.next_id ≤ v.0 → maps v e.told ≡ false) (next : d.tree.next_id ≤ e.tree.next_id) (sound_next : IsSound e.tree)
     where
-      abbrev there : TreeValue
-      there = tree (opening_of d.plan) history
+      there : e ≡ effect_after start history entry
+      there = sym (effect_there entry e is)
 
-      says_there : e ≡ said d.plan.env.homes there entry.who entry.act
-      says_there = sym says ∙ ap (λ z. said d.plan.env.homes z entry.who entry.act) s.tree_is
+      entries_there : e.told ∷ h ≡ entries start (entry ∷ history)
+      entries_there = ap (λ (e : Effect). e.told ∷ h) there
 
-      entries_there : e ∷ h ≡ entries (opening_of d.plan) (entry ∷ history)
-      entries_there = ap (λ z. z ∷ h) says_there
+      tree_there : e.tree ≡ tree start (entry ∷ history)
+      tree_there = ap (λ (e : Effect). e.tree) there
 
-      given : (v : ConId) → t.next_id ≤ v.0 → (maps v e || was_open o v h) ≡ false
+      given : (v : ConId) → e.tree.next_id ≤ v.0 → (maps v e.told || was_open o v h) ≡ false
       given v above = ap₂ (λ a b. a || b) (new v above) (s.given v (omega arith))
 
-      does_there : record { stops = stops; asked = ids } ≡ beside d.plan.env.homes there entry.act
-      does_there = sym does ∙ ap (λ z. beside d.plan.env.homes z entry.act) s.tree_is
-
-      kill_there : (v : ConId) → may_come t v ≡ true → kill_in kills v ≡ kill_after (beside d.plan.env.homes there entry.act).asked (length history + 1) v (kill_of (opening_of d.plan) history v)
+      kill_there : (v : ConId) → may_come e.tree v ≡ true → kill_in kills v ≡ kill_after (effect_after start history entry).closes (length history + 1) v (kill_of start history v)
       kill_there v may =
           noted v may
-          ∙ (ap (λ b. kill_after (asked_by b) (d.steps + 1) v (kill_in d.kills v)) does_there
-          ∙ ap₂ (λ n k. kill_after (beside d.plan.env.homes there entry.act).asked (n + 1) v k) s.counted (s.kills_are v (came v may)))
+          ∙ (ap (λ (e : Effect). kill_after e.closes (d.steps + 1) v (kill_in d.kills v)) there
+          ∙ ap₂ (λ n k. kill_after (effect_after start history entry).closes (n + 1) v k) s.counted (s.kills_are v (came v may)))
 
-      tree_there : t ≡ tree (opening_of d.plan) (entry ∷ history)
-      tree_there = after ∙ ap (λ z. tree_after d.plan.env.homes z entry.who entry.act) s.tree_is
+      open_there : (v : ConId) → is_open o v (entries start (entry ∷ history)) ≡ is_window_of e.tree v
+      open_there v = subst (λ z. is_open o v z ≡ is_window_of e.tree v) entries_there (ap (open_after e.told v) (s.open_is v) ∙ same_open v)
 
-      pub stands_next : Stands (record { plan = d.plan; steps = d.steps + 1; tree = t; txn = txn; stopped = d.stopped || stops; kills = kills }) (entry ∷ history)
+      pub stands_next : StandsFrom start (record { plan = d.plan; steps = d.steps + 1; tree = e.tree; txn = txn; stopped = d.stopped || e.stops; kills = kills }) (entry ∷ history)
       stands_next = record {
+        env_is = s.env_is;
         counted = omega (arith, s.counted);
         tree_is = tree_there;
-        sounds = (subst IsSound tree_there sound_next, s.sounds);
-        stopped_is = ap₂ (λ a b. a || b) s.stopped_is (ap stops_by does_there);
+        in_step = (record { sound = subst IsSound tree_there sound_next; open_is = λ v. open_there v ∙ ap (λ t. is_window_of t v) tree_there }, s.in_step);
+        stopped_is = ap₂ (λ a b. a || b) s.stopped_is (ap (λ (e : Effect). e.stops) there);
         kills_are = kill_there;
         commits = subst (λ z. transactions.Stands o z txn) entries_there stands;
-        open_is = λ v. subst (λ z. is_open o v z ≡ is_window_of t v) entries_there (ap (open_after e v) (s.open_is v) ∙ same_open v);
+        open_is = open_there;
         given = λ v above. subst (λ z. was_open o v z ≡ false) entries_there (given v above);
       }
 
-  or_false : (b : Bool) → (b || false) ≡ b
-  or_false true = refl
-  or_false false = refl
-
   -- a step that tells the transactions something, and leaves the tree
-  pub stands_told : (entry : Entry) (e : commits.Entry) (txn : TxnValue) → said d.plan.env.homes d.tree entry.who entry.act ≡ e → d.tree ≡ tree_after d.plan.env.homes d.tree entry.who entry.act
-      → beside d.plan.env.homes d.tree entry.act ≡ nothing → ((v : ConId) (b : Bool) → open_after e v b ≡ b) → ((v : ConId) → maps v e ≡ false) → transactions.Stands o (e ∷ h) txn
-      → Stands (record { plan = d.plan; steps = d.steps + 1; tree = d.tree; txn = txn; stopped = d.stopped; kills = d.kills }) (entry ∷ history)
-  stands_told entry e txn says after does same_open new stands =
-      subst (λ b. Stands (record { plan = d.plan; steps = d.steps + 1; tree = d.tree; txn = txn; stopped = b; kills = d.kills }) (entry ∷ history)) (or_false d.stopped)
-      (stands_next entry e d.tree txn false [] d.kills says after does (λ v may. refl) (λ v may. may) stands (λ v. same_open v (is_window_of d.tree v)) (λ v above. new v) (omega arith)
-      (subst IsSound (sym s.tree_is) (last_sound (opening_of d.plan) history s.sounds)))
+  pub stands_told : (entry : Entry) (told : commits.Entry) (said : Judge → Answer) (txn : TxnValue) → done_by d.plan.env d.tree entry ≡ telling told said d.tree
+      → ((v : ConId) (b : Bool) → open_after told v b ≡ b) → ((v : ConId) → maps v told ≡ false) → transactions.Stands o (told ∷ h) txn
+      → StandsFrom start (record { plan = d.plan; steps = d.steps + 1; tree = d.tree; txn = txn; stopped = d.stopped; kills = d.kills }) (entry ∷ history)
+  stands_told entry told said txn is same_open new stands =
+      subst (λ b. StandsFrom start (record { plan = d.plan; steps = d.steps + 1; tree = d.tree; txn = txn; stopped = b; kills = d.kills }) (entry ∷ history)) (or_false d.stopped)
+      (stands_next entry (telling told said d.tree) txn d.kills is (λ v may. refl) (λ v may. may) stands (λ v. same_open v (is_window_of d.tree v)) (λ v above. new v) (omega arith)
+      (subst IsSound (sym s.tree_is) (last_sound start history s.in_step)))
 
-  -- a step that changes nothing is counted
-  pub stands_counted : (entry : Entry) → d.tree ≡ tree_after d.plan.env.homes d.tree entry.who entry.act → said d.plan.env.homes d.tree entry.who entry.act ≡ commits.Still → beside d.plan.env.homes d.tree entry.act ≡ nothing
-      → Stands (record { plan = d.plan; steps = d.steps + 1; tree = d.tree; txn = d.txn; stopped = d.stopped; kills = d.kills }) (entry ∷ history)
-  stands_counted entry after says does = stands_told entry commits.Still d.txn says after does (λ v b. refl) (λ v. refl) (still_stands o h d.txn s.commits)
+  -- a step that is refused is counted
+  pub stands_counted : (entry : Entry) (said : Answer) → done_by d.plan.env d.tree entry ≡ refused said d.tree
+      → StandsFrom start (record { plan = d.plan; steps = d.steps + 1; tree = d.tree; txn = d.txn; stopped = d.stopped; kills = d.kills }) (entry ∷ history)
+  stands_counted entry said is = stands_told entry commits.Still (λ judge. said) d.txn is (λ v b. refl) (λ v. refl) (still_stands o h d.txn s.commits)
 
   -- ---- a step that leaves a tree
 
@@ -168,22 +169,22 @@ module _ (d : DeskValue) (history : List Entry) (s : Stands d history) where
             rw (not_fresh v above (is_fresh v fresh) refl, not_yet v (omega (arith, f.next))) refl
         by false false there late may = cc
 
-    pub stands_left : (entry : Entry) (txn : TxnValue) (stops : Bool) (ids : List ConId) (kills : List (ℕ × ℕ)) → said d.plan.env.homes d.tree entry.who entry.act ≡ left d.tree t fresh → t ≡ tree_after d.plan.env.homes d.tree entry.who entry.act
-        → beside d.plan.env.homes d.tree entry.act ≡ record { stops = stops; asked = ids } → ((v : ConId) → may_come t v ≡ true → kill_in kills v ≡ kill_after ids (d.steps + 1) v (kill_in d.kills v)) → transactions.Stands o (left d.tree t fresh ∷ h) txn
-        → Stands (record { plan = d.plan; steps = d.steps + 1; tree = t; txn = txn; stopped = d.stopped || stops; kills = kills }) (entry ∷ history)
-    stands_left entry txn stops ids kills says after does noted stands =
-        stands_next entry (left d.tree t fresh) t txn stops ids kills says after does noted (λ v may. came v (is_window_of t v) (leb t.next_id v.0) refl refl may) stands (opens d.tree t fresh sound sound_new f) (λ v above. not_fresh v above (is_fresh v fresh) refl) f.next sound_new
+    pub stands_left : (entry : Entry) (said : Answer) (txn : TxnValue) (stops : Bool) (ids : List ConId) (kills : List (ℕ × ℕ)) → done_by d.plan.env d.tree entry ≡ changing said d.tree t fresh stops ids
+        → ((v : ConId) → may_come t v ≡ true → kill_in kills v ≡ kill_after ids (d.steps + 1) v (kill_in d.kills v)) → transactions.Stands o (rearranged d.tree t fresh ∷ h) txn
+        → StandsFrom start (record { plan = d.plan; steps = d.steps + 1; tree = t; txn = txn; stopped = d.stopped || stops; kills = kills }) (entry ∷ history)
+    stands_left entry said txn stops ids kills is noted stands =
+        stands_next entry (changing said d.tree t fresh stops ids) txn kills is noted (λ v may. came v (is_window_of t v) (leb t.next_id v.0) refl refl may) stands (opens d.tree t fresh sound sound_new f) (λ v above. not_fresh v above (is_fresh v fresh) refl) f.next sound_new
 
   -- ---- what is asked of windows
 
-  pub wants_seen : (who serial kill : ℕ) (windows : List ConId) (found : List Want) → windows ≡ owned_in_order who d.tree → found ≡ wants (λ v. asked_of (find v d.txn.windows)) (kill_in d.kills) serial kill windows
-      → found ≡ wants (λ v. asked o v (heard o h)) (kill_of (opening_of d.plan) history) serial kill (owned_in_order who (tree (opening_of d.plan) history))
+  pub wants_seen : (who serial kill : ℕ) (windows : List ConId) (found : List Want) → windows ≡ owned_in_order who d.tree → found ≡ wants (λ v. configured_of (find v d.txn.windows)) (kill_in d.kills) serial kill windows
+      → found ≡ wants (λ v. configured o v (accepted o h)) (kill_of start history) serial kill (owned_in_order who (tree start history))
   wants_seen who serial kill windows found listed made =
       made
-      ∙ (ap (wants (λ v. asked_of (find v d.txn.windows)) (kill_in d.kills) serial kill) listed
-      ∙ (wants_same (λ v. asked_of (find v d.txn.windows)) (λ v. asked o v (heard o h)) (kill_in d.kills) (kill_of (opening_of d.plan) history) serial kill (owned_in_order who d.tree)
-      (asked_is o (heard o h) d.txn s.commits) (λ v there. s.kills_are v (ap (λ b. b || leb d.tree.next_id v.0) (owned_window who d.tree v there)))
-      ∙ ap (λ z. wants (λ v. asked o v (heard o h)) (kill_of (opening_of d.plan) history) serial kill (owned_in_order who z)) s.tree_is))
+      ∙ (ap (wants (λ v. configured_of (find v d.txn.windows)) (kill_in d.kills) serial kill) listed
+      ∙ (wants_same (λ v. configured_of (find v d.txn.windows)) (λ v. configured o v (accepted o h)) (kill_in d.kills) (kill_of start history) serial kill (owned_in_order who d.tree)
+      (configured_is o (accepted o h) d.txn s.commits) (λ v there. s.kills_are v (ap (λ b. b || leb d.tree.next_id v.0) (owned_window who d.tree v there)))
+      ∙ ap (λ z. wants (λ v. configured o v (accepted o h)) (kill_of start history) serial kill (owned_in_order who z)) s.tree_is))
 
 -- ---- the opening
 
@@ -217,15 +218,16 @@ pub opens_no_window : (plan : Plan) (t : TreeValue) → t ≡ (opening_of plan).
 opens_no_window plan t opened sound v = sym (not_window t v sound (ap (windows_at v) opened ∙ opens_empty plan v) (is_window_of t v) refl)
 
 -- a desk at the opening of its plan stands for the history without entries
-pub stands_start : (plan : Plan) (t : TreeValue) (txn : TxnValue) (kills : List (ℕ × ℕ)) (parts : List Placed) → t ≡ (opening_of plan).opened → IsSound t → kills ≡ [] → parts ≡ arranged t → transactions.Stands (record { parts = parts; windows = [] }) [] txn
+pub stands_start : (plan : Plan) (t : TreeValue) (txn : TxnValue) (kills : List (ℕ × ℕ)) → t ≡ (opening_of plan).opened → IsSound t → kills ≡ [] → transactions.Stands (first (opening_of plan)) [] txn
     → Stands (record { plan = plan; steps = 0; tree = t; txn = txn; stopped = false; kills = kills }) []
-stands_start plan t txn kills parts opened sound none laid stands = record {
+stands_start plan t txn kills opened sound none stands = record {
+  env_is = refl;
   counted = refl;
   tree_is = opened;
-  sounds = subst IsSound opened sound;
+  in_step = record { sound = subst IsSound opened sound; open_is = λ v. sym (opens_no_window plan t opened sound v) ∙ ap (λ z. is_window_of z v) opened };
   stopped_is = refl;
   kills_are = λ v may. ap (λ m. kill_in m v) none;
-  commits = subst (λ z. transactions.Stands (record { parts = z; windows = [] }) [] txn) (laid ∙ ap arranged opened) stands;
+  commits = stands;
   open_is = λ v. sym (opens_no_window plan t opened sound v);
   given = λ v above. refl;
 }

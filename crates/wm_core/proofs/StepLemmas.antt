@@ -1,5 +1,5 @@
--- What a step on outputs leaves, by what is known of the tree.
-use Rattle.std.proofs.Common.{◌≡◌, Bool, true, false, not, is_some, Option, Some, None, refl, ap, sym, ◌∙◌, ℕ, List}
+-- What a step on outputs does, by what is known of the tree, and what steps promise.
+use Rattle.std.proofs.Common.{◌≡◌, Result, Ok, Err, Bool, true, false, not, is_some, Option, Some, None, refl, ap, subst, sym, ◌∙◌, ℕ, List, ◌∷◌}
 use Rattle.wm_base.specs.declared.errors.Limit.{Limit}
 use Rattle.wm_base.specs.declared.errors.Refusal.{Refusal}
 use Rattle.wm_base.specs.declared.errors.Refusal.TheVariants.{Full, NameTaken}
@@ -9,13 +9,16 @@ use Rattle.wm_spaces.specs.Coming.{output_added_refusal, output_removed_refusal}
 use Rattle.wm_spaces.specs.Names.{output_named}
 use Rattle.wm_tree.specs.Outputs.{passed_by_output}
 use Rattle.wm_tree.specs.TreeValue.{TreeValue}
-use Rattle.wm_core.specs.History.{if_done, left, left_if_done}
-use Rattle.wm_txn.specs.History.{Still}
+use Rattle.wm_base.specs.declared.errors.NoMemory.{NoMemory}
+use Rattle.wm_core.specs.DeskValue.{DeskValue, Stands, StandsFrom}
+use Rattle.wm_core.specs.Effect.{done_or_refused, leaving, refused}
+use Rattle.wm_core.specs.History.{Entry, opening_of}
+use Rattle.wm_core.specs.Steps.{Answers, Commits, GoesOn, IsAnswer, Takes}
 use Rattle.wm_core.specs.Outputs.{add_answer, added, remove_answer, removed, unless_full}
 use Rattle.wm_core.specs.declared.step.Answer.{Answer}
 use Rattle.wm_core.specs.declared.step.Answer.TheVariants as answers
 use Rattle.wm_layouts.specs.Plan.{is_fit_rect}
-use Rattle.std.specs.Prelude.{if◌then◌else◌}
+use Rattle.std.specs.Prelude.{IsErrAnd, if◌then◌else◌}
 
 room : (p : Option Limit) → full_error p ≡ None → p ≡ None
 room None h = refl
@@ -50,37 +53,39 @@ add_is plan t passed free fit h =
 
 -- an output for which there is room comes
 pub is_added : (plan : OutputPlan) (t : TreeValue) → is_some (output_named plan.name t) ≡ false → is_fit_rect plan.rect ≡ true → passed_by_output t.nodes t.next_id ≡ None
-    → added plan t ≡ if_done (add_answer plan t) (added plan t) t
-is_added plan t free fit h = sym (ap (λ a. if_done a (added plan t) t) (add_is plan t None free fit h))
+    → done_or_refused (add_answer plan t) t (added plan t) ≡ leaving answers.Done t (added plan t) None
+is_added plan t free fit h = ap (λ a. done_or_refused a t (added plan t)) (add_is plan t None free fit h)
 
--- another one leaves the tree
+-- another one is refused
 pub not_added : (plan : OutputPlan) (t : TreeValue) (l : Limit) → is_some (output_named plan.name t) ≡ false → is_fit_rect plan.rect ≡ true → passed_by_output t.nodes t.next_id ≡ Some l
-    → t ≡ if_done (add_answer plan t) (added plan t) t
-not_added plan t l free fit h = sym (ap (λ a. if_done a (added plan t) t) (add_is plan t (Some l) free fit h))
+    → done_or_refused (add_answer plan t) t (added plan t) ≡ refused (answers.Full l) t
+not_added plan t l free fit h = ap (λ a. done_or_refused a t (added plan t)) (add_is plan t (Some l) free fit h)
 
--- an output that is not taken out leaves the tree
-pub not_removed : (name : List ℕ) (t copy : TreeValue) (e : Refusal) → copy ≡ t → output_removed_refusal name copy ≡ Some e → t ≡ if_done (remove_answer name t) (removed name t) t
+-- an output that is not taken out is refused
+pub not_removed : (name : List ℕ) (t copy : TreeValue) (e : Refusal) → copy ≡ t → output_removed_refusal name copy ≡ Some e
+    → done_or_refused (remove_answer name t) t (removed name t) ≡ refused answers.NoTarget t
 not_removed name t copy e same h =
     let refused : output_removed_refusal name t ≡ Some e = ap (output_removed_refusal name) (sym same) ∙ h in
     rw refused refl
 
--- ---- what these steps say to the transactions
-
-pub says_added : (plan : OutputPlan) (t : TreeValue) → is_some (output_named plan.name t) ≡ false → is_fit_rect plan.rect ≡ true → passed_by_output t.nodes t.next_id ≡ None
-    → left_if_done (add_answer plan t) t (added plan t) ≡ left t (added plan t) None
-says_added plan t free fit h = ap (λ a. left_if_done a t (added plan t)) (add_is plan t None free fit h)
-
-pub says_not_added : (plan : OutputPlan) (t : TreeValue) (l : Limit) → is_some (output_named plan.name t) ≡ false → is_fit_rect plan.rect ≡ true → passed_by_output t.nodes t.next_id ≡ Some l
-    → left_if_done (add_answer plan t) t (added plan t) ≡ Still
-says_not_added plan t l free fit h = ap (λ a. left_if_done a t (added plan t)) (add_is plan t (Some l) free fit h)
-
-pub says_not_removed : (name : List ℕ) (t copy : TreeValue) (e : Refusal) → copy ≡ t → output_removed_refusal name copy ≡ Some e → left_if_done (remove_answer name t) t (removed name t) ≡ Still
-says_not_removed name t copy e same h =
-    let refused : output_removed_refusal name t ≡ Some e = ap (output_removed_refusal name) (sym same) ∙ h in
-    rw refused refl
-
-pub says_removed : (name : List ℕ) (t : TreeValue) → output_removed_refusal name t ≡ None → left_if_done (remove_answer name t) t (removed name t) ≡ left t (removed name t) None
-says_removed name t h = rw h refl
-
-pub is_removed : (name : List ℕ) (t : TreeValue) → output_removed_refusal name t ≡ None → removed name t ≡ if_done (remove_answer name t) (removed name t) t
+pub is_removed : (name : List ℕ) (t : TreeValue) → output_removed_refusal name t ≡ None → done_or_refused (remove_answer name t) t (removed name t) ≡ leaving answers.Done t (removed name t) None
 is_removed name t h = rw h refl
+
+-- ---- what a step promises
+
+-- one that takes no memory promises no less than one that may
+pub taken : (old new : DeskValue) (said : Answer) (entry : Entry) → Answers old new said entry → Takes old new (Ok said) entry
+taken old new said entry a = record { answer = a.answer; stands = a.stands; plan = a.plan; count = a.count; err = tt }
+
+-- what is answered after the rest was done
+pub answered_after : (old new : DeskValue) (said : Answer) (entry : Entry) → IsAnswer old entry said → Commits old new (Ok tt) entry → Takes old new (Ok said) entry
+answered_after old new said entry a c = record { answer = a; stands = c.stands; plan = c.plan; count = c.count; err = tt }
+
+-- after want of memory nothing is answered
+pub none_answered : (old new : DeskValue) (entry : Entry) (r : Result Answer NoMemory) (e f : NoMemory) → IsErrAnd r (λ x. x ≡ f) → Commits old new (Err e) entry → Takes old new r entry
+none_answered old new entry (Ok said) e f is c = absurd is
+none_answered old new entry (Err x) e f is c = record { answer = tt; stands = tt; plan = c.plan; count = tt; err = c.err }
+
+-- a desk that goes on stands for the entry from the opening of its plan
+pub goes_on : (old new : DeskValue) (entry : Entry) → GoesOn old new entry → new.plan ≡ old.plan → (history : List Entry) → Stands old history → Stands new (entry ∷ history)
+goes_on old new entry goes plan history s = subst (λ p. StandsFrom (opening_of p) new (entry ∷ history)) (sym plan) (goes (opening_of old.plan) history s)

@@ -15,7 +15,8 @@ use Rattle.wm_txn.specs.Windows.{find}
 use Rattle.wm_opens.specs.Opens.{is_window_of, owned_at, windows_at}
 use Rattle.wm_core.specs.ByWindow.{put_at, value_at}
 use Rattle.wm_core.specs.Windows.{owner_of, window_count}
-use Rattle.wm_core.specs.History.{Entry, Judge, Start, entries, first, kill_of, opening_of, stopped, tree}
+use Rattle.wm_core.specs.Effect.{Judge}
+use Rattle.wm_core.specs.History.{Entry, Start, entries, first, kill_of, opening_of, stopped, tree}
 
 pub record DeskValue : Type 0 where
   -- the opening plan
@@ -36,7 +37,7 @@ kill_in kills v = value_at kills v
 
 -- what is kept of v after the step of this number asked these windows to close
 abbrev pub kill_after : List ConId → ℕ → ConId → Option ℕ → Option ℕ
-kill_after asked number v before = put_at asked number v before
+kill_after closes number v before = put_at closes number v before
 
 -- the map has the caller of each window of the tree, and no other window
 abbrev pub AreOwners : List (ℕ × ℕ) → TreeValue → Type 0
@@ -50,23 +51,33 @@ may_come t v = is_window_of t v || nat_le t.next_id v.0
 abbrev pub judge_of : TxnValue → Judge
 judge_of txn v serial = judge_ack txn.number serial (find v txn.windows)
 
--- the tree after each beginning of the history is sound
-abbrev pub AreSound : Start → List Entry → Type 0
-AreSound start [] = IsSound start.opened
-AreSound start (entry ∷ history) = IsSound (tree start (entry ∷ history)) × AreSound start history
+-- the tree after a history is sound, and its windows are those that are open
+pub record IsInStep (start : Start) (history : List Entry) : Type 0 where
+  pub sound : IsSound (tree start history)
+  pub open_is : (v : ConId) → is_open (first start) v (entries start history) ≡ is_window_of (tree start history) v
 
--- the desk stands for the history: it is what the history leaves
-pub record Stands (d : DeskValue) (history : List Entry) : Type 0 where
+-- so it is after each beginning of the history
+abbrev pub AreInStep : Start → List Entry → Type 0
+AreInStep start [] = IsInStep start []
+AreInStep start (entry ∷ history) = IsInStep start (entry ∷ history) × AreInStep start history
+
+-- the desk stands for the history from this opening: it is what the history leaves
+pub record StandsFrom (start : Start) (d : DeskValue) (history : List Entry) : Type 0 where
+  pub env_is : d.plan.env ≡ start.env
   pub counted : d.steps ≡ length history
-  pub tree_is : d.tree ≡ tree (opening_of d.plan) history
-  pub sounds : AreSound (opening_of d.plan) history
-  pub stopped_is : d.stopped ≡ stopped (opening_of d.plan) history
+  pub tree_is : d.tree ≡ tree start history
+  pub in_step : AreInStep start history
+  pub stopped_is : d.stopped ≡ stopped start history
   -- of a window that is gone the number may be forgotten
-  pub kills_are : (v : ConId) → may_come d.tree v ≡ true → kill_in d.kills v ≡ kill_of (opening_of d.plan) history v
-  pub commits : transactions.Stands (first (opening_of d.plan)) (entries (opening_of d.plan) history) d.txn
+  pub kills_are : (v : ConId) → may_come d.tree v ≡ true → kill_in d.kills v ≡ kill_of start history v
+  pub commits : transactions.Stands (first start) (entries start history) d.txn
   -- the windows of the tree are those that are open, and none had an id that is still to be given
-  pub open_is : (v : ConId) → is_open (first (opening_of d.plan)) v (entries (opening_of d.plan) history) ≡ is_window_of d.tree v
-  pub given : (v : ConId) → d.tree.next_id ≤ v.0 → was_open (first (opening_of d.plan)) v (entries (opening_of d.plan) history) ≡ false
+  pub open_is : (v : ConId) → is_open (first start) v (entries start history) ≡ is_window_of d.tree v
+  pub given : (v : ConId) → d.tree.next_id ≤ v.0 → was_open (first start) v (entries start history) ≡ false
+
+-- the desk stands for the history from the opening of its plan
+abbrev pub Stands : DeskValue → List Entry → Type 0
+Stands d history = StandsFrom (opening_of d.plan) d history
 
 abbrev pub one_if_some : Option (ConId × Buffer) → ℕ
 one_if_some None = 0

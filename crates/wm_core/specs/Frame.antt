@@ -10,7 +10,7 @@ use Rattle.wm_paint.specs.declared.frame.Quad.{Quad}
 use Rattle.wm_paint.specs.declared.frame.What.{What}
 use Rattle.wm_paint.specs.declared.frame.What.TheVariants as shows
 use Rattle.wm_txn.specs.Commits.{current, done, prefix, shown}
-use Rattle.wm_core.specs.History.{Entry, Start, first, heard_of}
+use Rattle.wm_core.specs.History.{Entry, Start, first, accepted_of}
 
 abbrev pub window_of : Option Buffer → Option What
 window_of None = None
@@ -38,7 +38,7 @@ quads buffers (p ∷ parts) = quad_of p (what_of p.part (buffers p.con)) ++ quad
 -- and its arrangement, each window with its last buffer under a number not above that one
 abbrev pub frame : Start → List Entry → Frame
 frame start history = record {
-  number = done (first start) (heard_of start history);
-  prefix = prefix (first start) (heard_of start history);
-  quads = quads (λ v. shown (first start) v (heard_of start history)) (current (first start) (heard_of start history));
+  number = done (first start) (accepted_of start history);
+  prefix = prefix (first start) (accepted_of start history);
+  quads = quads (λ v. shown (first start) v (accepted_of start history)) (current (first start) (accepted_of start history));
 }

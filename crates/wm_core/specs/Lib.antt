@@ -1,13 +1,17 @@
 pub mod Act
 pub mod ByWindow
 pub mod DeskValue
+pub mod Effect
 pub mod Entries
 pub mod Frame
 pub mod History
 pub mod Laws
 pub mod Look
+pub mod Opening
+pub mod Order
 pub mod Outputs
 pub mod Passes
 pub mod Screen
 pub mod Sizes
+pub mod Steps
 pub mod Windows

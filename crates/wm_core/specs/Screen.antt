@@ -9,7 +9,7 @@ use Rattle.wm_forest.specs.Forest.{Forest, end, con}
 use Rattle.wm_forest.specs.Look.{first_kids, output_kind}
 use Rattle.wm_tree.specs.TreeValue.{TreeValue}
 use Rattle.wm_txn.specs.Commits.{prefix}
-use Rattle.wm_core.specs.History.{Entry, Start, first, heard_of, tree}
+use Rattle.wm_core.specs.History.{Entry, Start, first, accepted_of, tree}
 
 -- the first so many entries of a history, which has the newest first
 abbrev pub beginning : ℕ → List Entry → List Entry
@@ -35,7 +35,7 @@ first_rect t = rect_in (first_kids t.nodes)
 
 -- the rectangle of the first output of the tree at the prefix of the frame
 abbrev pub screen : Start → List Entry → Rect
-screen start history = first_rect (tree start (beginning (prefix (first start) (heard_of start history)) history))
+screen start history = first_rect (tree start (beginning (prefix (first start) (accepted_of start history)) history))
 
 -- ---- in an arrangement
 

@@ -1,8 +1,8 @@
 //! Steps that clients and timers take for the transactions.
-ghost use Rattle.std.specs.Prelude.{◌≡◌, ◌+◌, ◌<◌, ◌^◌, ◌∷◌};
 ghost use Rattle.wm_core.specs.Act.{Ack, Deadline, Give, client_act};
-ghost use Rattle.wm_core.specs.DeskValue.{judge_of, Stands};
-ghost use Rattle.wm_core.specs.History.{ack_said, answer, answer_to, opening_of, History};
+ghost use Rattle.std.specs.Prelude.{◌≡◌, ◌<◌, ◌^◌};
+ghost use Rattle.wm_core.specs.Effect.{ack_said};
+ghost use Rattle.wm_core.specs.Steps.{Answers};
 
 use crate::desk::Desk;
 use crate::mapping::has_no_pixels;
@@ -26,13 +26,7 @@ impl Desk {
     /// that it brings.
     pub fn answer_client(&mut self, who: u32, step: &ClientStep) -> Answer
         requires few { self.old.steps < 2 ^ 48 }
-        ensures answer { (history : History) → Stands self.old history →
-            result ≡ answer (opening_of self.old.plan) history (record { who = who; act = client_act step.now }) }
-        ensures there { result ≡ answer_to self.old.plan.env.homes (judge_of self.old.txn) self.old.tree who (client_act step.now) }
-        ensures stands { (history : History) → Stands self.old history →
-            Stands self.new (record { who = who; act = client_act step.now } ∷ history) }
-        ensures plan { self.new.plan ≡ self.old.plan }
-        ensures count { self.new.steps ≡ self.old.steps + 1 }
+        ensures { Answers self.old self.new result (record { who = who; act = client_act step.now }) }
     {
         match step {
             ClientStep::Ack { con, serial } => self.ack(who, *con, *serial),
@@ -44,13 +38,7 @@ impl Desk {
     /// The caller's window acknowledges a serial.
     fn ack(&mut self, who: u32, con: ConId, serial: u64) -> Answer
         requires few { self.old.steps < 2 ^ 48 }
-        ensures answer { (history : History) → Stands self.old history →
-            result ≡ answer (opening_of self.old.plan) history (record { who = who; act = Ack con serial }) }
-        ensures there { result ≡ answer_to self.old.plan.env.homes (judge_of self.old.txn) self.old.tree who (Ack con serial) }
-        ensures stands { (history : History) → Stands self.old history →
-            Stands self.new (record { who = who; act = Ack con serial } ∷ history) }
-        ensures plan { self.new.plan ≡ self.old.plan }
-        ensures count { self.new.steps ≡ self.old.steps + 1 }
+        ensures { Answers self.old self.new result (record { who = who; act = Ack con serial }) }
     {
         if !self.is_window(who, con) {
             return self.stay(Answer::NoView);
@@ -63,13 +51,7 @@ impl Desk {
     /// The caller's window gives a buffer.
     fn give(&mut self, who: u32, con: ConId, buffer: Buffer) -> Answer
         requires few { self.old.steps < 2 ^ 48 }
-        ensures answer { (history : History) → Stands self.old history →
-            result ≡ answer (opening_of self.old.plan) history (record { who = who; act = Give con buffer }) }
-        ensures there { result ≡ answer_to self.old.plan.env.homes (judge_of self.old.txn) self.old.tree who (Give con buffer) }
-        ensures stands { (history : History) → Stands self.old history →
-            Stands self.new (record { who = who; act = Give con buffer } ∷ history) }
-        ensures plan { self.new.plan ≡ self.old.plan }
-        ensures count { self.new.steps ≡ self.old.steps + 1 }
+        ensures { Answers self.old self.new result (record { who = who; act = Give con buffer }) }
     {
         if !self.is_window(who, con) {
             return self.stay(Answer::NoView);
@@ -85,13 +67,7 @@ impl Desk {
     /// The time of the transaction of this number is over.
     fn time_out(&mut self, who: u32, number: u64) -> Answer
         requires few { self.old.steps < 2 ^ 48 }
-        ensures answer { (history : History) → Stands self.old history →
-            result ≡ answer (opening_of self.old.plan) history (record { who = who; act = Deadline number }) }
-        ensures there { result ≡ answer_to self.old.plan.env.homes (judge_of self.old.txn) self.old.tree who (Deadline number) }
-        ensures stands { (history : History) → Stands self.old history →
-            Stands self.new (record { who = who; act = Deadline number } ∷ history) }
-        ensures plan { self.new.plan ≡ self.old.plan }
-        ensures count { self.new.steps ≡ self.old.steps + 1 }
+        ensures { Answers self.old self.new result (record { who = who; act = Deadline number }) }
     {
         self.txn.deadline(self.steps, number);
         self.steps += 1;

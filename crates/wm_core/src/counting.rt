@@ -1,7 +1,7 @@
 //! Counting the windows of a tree, and finding those that were closed.
 ghost use Rattle.std.specs.Prelude.{◌≡◌, ◌≤◌, filter, not, IfOk};
 ghost use Rattle.wm_core.specs.DeskValue.{one_if_some, Follows};
-ghost use Rattle.wm_core.specs.History.{closed, fresh_ids};
+ghost use Rattle.wm_core.specs.Effect.{closed, fresh_ids};
 ghost use Rattle.wm_core.specs.Windows.{window_count, window_part};
 ghost use Rattle.wm_focus.specs.Swaps.{is_window_kind};
 ghost use Rattle.wm_opens.specs.Opens.{is_window_of, windows};

@@ -14,24 +14,24 @@ use wm_base::{ConId, NoMemory};
 /// The numbers of all windows after the step of this number asked these windows to close. `None` where it asked none.
 pub fn noted(
     kills: &BTreeMap<u32, u64>,
-    asked: &[ConId],
+    closes: &[ConId],
     number: u64,
 ) -> Result<Option<BTreeMap<u32, u64>>, NoMemory>
-    ensures { (v : ConId) → IfOk result (λ noted. kill_in (new_or (option_map (λ m. m.entries) noted) kills.now.entries) v ≡ kill_after asked.now number v (kill_in kills.now.entries v)) }
+    ensures { (v : ConId) → IfOk result (λ noted. kill_in (new_or (option_map (λ m. m.entries) noted) kills.now.entries) v ≡ kill_after closes.now number v (kill_in kills.now.entries v)) }
 {
-    if asked.is_empty() {
+    if closes.is_empty() {
         return Ok(None);
     }
     let mut after = kills.clone()?;
-    put_all(&mut after, asked, number)?;
+    put_all(&mut after, closes, number)?;
     Ok(Some(after))
 }
 
 /// Puts the number at each of the windows.
-fn put_all(kills: &mut BTreeMap<u32, u64>, asked: &[ConId], number: u64) -> Result<(), NoMemory>
-    ensures { (v : ConId) → OnOk result (kill_in kills.new.entries v ≡ kill_after asked.now number v (kill_in kills.old.entries v)) }
+fn put_all(kills: &mut BTreeMap<u32, u64>, closes: &[ConId], number: u64) -> Result<(), NoMemory>
+    ensures { (v : ConId) → OnOk result (kill_in kills.new.entries v ≡ kill_after closes.now number v (kill_in kills.old.entries v)) }
 {
-    let mut rest = asked;
+    let mut rest = closes;
     while let [con, after @ ..] = rest {
         put(kills, *con, number)?;
         rest = after;

@@ -4,6 +4,8 @@
 mod asked;
 mod by_window;
 mod client;
+mod committing;
+mod copying;
 mod counting;
 mod desk;
 mod door;
@@ -20,6 +22,7 @@ mod replies;
 mod running;
 mod screen;
 mod stands;
+mod starting;
 mod state;
 mod step;
 mod windows;
@@ -29,8 +32,9 @@ pub use client::ClientStep;
 pub use desk::Desk;
 pub use door::Door;
 pub use laws::{
-    a_window_shows_what_was_asked, at_most_two_end, frames_go_on,
-    open_windows_are_those_of_the_tree, the_second_awaits_nobody,
+    a_window_shows_its_answer, a_window_shows_its_configured_size, at_most_two_end,
+    each_window_in_the_frame_is_shown, frames_go_on, marks_are_in_order,
+    open_windows_are_those_of_the_tree, the_second_awaits_nobody, windows_are_in_order,
 };
 pub use look::{Query, View};
 pub use refusals::{ActRefusal, Exhausted};

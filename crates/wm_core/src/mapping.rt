@@ -1,13 +1,16 @@
 //! Opening windows.
-ghost use Rattle.std.specs.Prelude.{◌≡◌, ◌+◌, ◌<◌, ◌^◌, ◌∷◌, IfOk, OnOk, OnErr};
-ghost use Rattle.wm_core.specs.Act.{Map};
-ghost use Rattle.wm_core.specs.DeskValue.{judge_of, Stands};
-ghost use Rattle.wm_core.specs.History.{answer_to, has_no_pixels, raised_unless_full, History};
 ghost use Rattle.wm_tree.specs.Sound as trees;
+ghost use Rattle.std.specs.Prelude.{◌≡◌, ◌<◌, ◌^◌, Option, None, IfErr, IfOk, OnOk};
+ghost use Rattle.wm_core.specs.Act.{CommandText, Map};
+ghost use Rattle.wm_core.specs.Effect.{has_no_pixels, limit_of, mapped, raised_unless_full};
+ghost use Rattle.wm_core.specs.Opening.{IsCause};
+ghost use Rattle.wm_forest.specs.RootId.{id};
+ghost use Rattle.wm_core.specs.Steps.{Takes};
 
 use crate::desk::Desk;
 use crate::step::Answer;
-use wm_base::{Buffer, ConId, NoMemory, Props, Size};
+use std::alloc::AllocError;
+use wm_base::{Buffer, ConId, Limit, NoMemory, Props, Size};
 use wm_floats::fills_alone;
 use wm_tree::{NewCon, Tree, TreeRefusal, copy_props};
 
@@ -20,39 +23,71 @@ impl Desk {
         buffer: Buffer,
     ) -> Result<Answer, NoMemory>
         requires few { self.old.steps < 2 ^ 48 }
-        ensures answer { IfOk result (λ a. a ≡ answer_to self.old.plan.env.homes (judge_of self.old.txn) self.old.tree who (Map props.now buffer)) }
-        ensures stands { (history : History) → Stands self.old history →
-            OnOk result (Stands self.new (record { who = who; act = Map props.now buffer } ∷ history)) }
-        ensures plan { self.new.plan ≡ self.old.plan }
-        ensures count { OnOk result (self.new.steps ≡ self.old.steps + 1) }
-        ensures err { OnErr result (self.new ≡ self.old) }
+        ensures { (then : Option CommandText) → Takes self.old self.new result (record { who = who; act = Map props.now buffer then }) }
     {
         if has_no_pixels(buffer.size) {
             return Ok(self.stay(Answer::Empty));
         }
         let mut tree = self.tree.copy()?;
-        let window = NewCon::Window {
-            props: copy_props(props)?,
-            owner: who,
-            natural: buffer.size,
-        };
-        let id = match tree.attach(tree.newcomer_place(), window) {
-            Ok(id) => id,
-            Err(TreeRefusal::Full { limit }) => {
-                drop(tree);
-                return Ok(self.stay(Answer::Full(limit)));
+        match open(&mut tree, who, props, buffer.size) {
+            Ok(id) => {
+                self.commit(tree, Some((id, buffer)), false, &[])?;
+                Ok(Answer::Mapped(id))
             }
-            Err(TreeRefusal::Missing(_)) => unreachable!(),
-            Err(TreeRefusal::NoMemory) => {
+            Err(NotOpened::Full(limit)) => {
                 drop(tree);
-                return Err(NoMemory);
+                Ok(self.stay(Answer::Full(limit)))
             }
-        };
-        raise_newcomer(&mut tree, id);
-        tree.settle();
-        self.commit(tree, Some((id, buffer)), false, &[])?;
-        Ok(Answer::Mapped(id))
+            Err(NotOpened::NoMemory) => {
+                drop(tree);
+                Err(NoMemory)
+            }
+        }
     }
+}
+
+/// Why a window is not opened.
+#[derive(Clone, Copy)]
+enum NotOpened {
+    /// This limit would be passed.
+    Full(Limit),
+    NoMemory,
+}
+
+impl From<AllocError> for NotOpened {
+    ghost use Rattle.std.specs.Prelude.{◌≡◌};
+    ghost use Rattle.wm_core.specs.declared.mapping.NotOpened.TheVariants as not_opened;
+
+    ghost from_gives = { λ _ refusal. refusal ≡ not_opened.NoMemory };
+
+    fn from(_error: AllocError) -> NotOpened {
+        NotOpened::NoMemory
+    }
+}
+
+/// Opens a window of the caller in the tree, raises it, unless its workspace has a fullscreen one, and settles the tree.
+fn open(tree: &mut Tree, who: u32, props: &Props, natural: Size) -> Result<ConId, NotOpened>
+    requires { trees.IsSound tree.old }
+    ensures tree { OnOk result (tree.new ≡ mapped tree.old who props.now natural) }
+    ensures id { IfOk result (λ c. c ≡ id tree.old.next_id) }
+    ensures room { OnOk result (limit_of tree.old ≡ None) }
+    ensures sound { OnOk result (trees.IsSound tree.new) }
+    ensures cause { IfErr result (IsCause tree.old) }
+{
+    let window = NewCon::Window {
+        props: copy_props(props)?,
+        owner: who,
+        natural,
+    };
+    let id = match tree.attach(tree.newcomer_place(), window) {
+        Ok(id) => id,
+        Err(TreeRefusal::Full { limit }) => return Err(NotOpened::Full(limit)),
+        Err(TreeRefusal::Missing(_)) => unreachable!(),
+        Err(TreeRefusal::NoMemory) => return Err(NotOpened::NoMemory),
+    };
+    raise_newcomer(tree, id);
+    tree.settle();
+    Ok(id)
 }
 
 /// Raises a new container, unless another one of its workspace is fullscreen.

@@ -1,9 +1,8 @@
 //! Outputs that come and go, and the edges that bars reserve of them.
-ghost use Rattle.std.specs.Prelude.{◌≡◌, ◌+◌, ◌<◌, ◌^◌, ◌∷◌, IfOk, OnOk, OnErr};
 ghost use Rattle.wm_core.specs.Act.{OutputAdd, OutputRemove, Reserve};
-ghost use Rattle.wm_core.specs.DeskValue.{judge_of, Stands};
-ghost use Rattle.wm_core.specs.History.{answer_to, History};
 ghost use Rattle.wm_spaces.specs.Names.{output_named};
+ghost use Rattle.std.specs.Prelude.{◌≡◌, ◌<◌, ◌^◌, IfOk};
+ghost use Rattle.wm_core.specs.Steps.{Takes};
 
 use crate::desk::Desk;
 use crate::step::Answer;
@@ -17,12 +16,7 @@ impl Desk {
     /// Adds an output, where its name is free, its rectangle within the limits, and there is room for it.
     pub(crate) fn add_output(&mut self, who: u32, plan: &OutputPlan) -> Result<Answer, NoMemory>
         requires few { self.old.steps < 2 ^ 48 }
-        ensures answer { IfOk result (λ a. a ≡ answer_to self.old.plan.env.homes (judge_of self.old.txn) self.old.tree who (OutputAdd plan.now)) }
-        ensures stands { (history : History) → Stands self.old history →
-            OnOk result (Stands self.new (record { who = who; act = OutputAdd plan.now } ∷ history)) }
-        ensures plan { self.new.plan ≡ self.old.plan }
-        ensures count { OnOk result (self.new.steps ≡ self.old.steps + 1) }
-        ensures err { OnErr result (self.new ≡ self.old) }
+        ensures { Takes self.old self.new result (record { who = who; act = OutputAdd plan.now }) }
     {
         if output_named(&self.tree, &plan.name)?.is_some() {
             return Ok(self.stay(Answer::NameTaken));
@@ -49,12 +43,7 @@ impl Desk {
     /// Removes the output of this name, where it is not the only one.
     pub(crate) fn remove_output(&mut self, who: u32, name: &Text) -> Result<Answer, NoMemory>
         requires few { self.old.steps < 2 ^ 48 }
-        ensures answer { IfOk result (λ a. a ≡ answer_to self.old.plan.env.homes (judge_of self.old.txn) self.old.tree who (OutputRemove name.now)) }
-        ensures stands { (history : History) → Stands self.old history →
-            OnOk result (Stands self.new (record { who = who; act = OutputRemove name.now } ∷ history)) }
-        ensures plan { self.new.plan ≡ self.old.plan }
-        ensures count { OnOk result (self.new.steps ≡ self.old.steps + 1) }
-        ensures err { OnErr result (self.new ≡ self.old) }
+        ensures { Takes self.old self.new result (record { who = who; act = OutputRemove name.now }) }
     {
         let mut tree = self.tree.copy()?;
         match output_removed(&mut tree, name) {
@@ -79,12 +68,7 @@ impl Desk {
         edges: Edges,
     ) -> Result<Answer, NoMemory>
         requires few { self.old.steps < 2 ^ 48 }
-        ensures answer { IfOk result (λ a. a ≡ answer_to self.old.plan.env.homes (judge_of self.old.txn) self.old.tree who (Reserve name.now edges)) }
-        ensures stands { (history : History) → Stands self.old history →
-            OnOk result (Stands self.new (record { who = who; act = Reserve name.now edges } ∷ history)) }
-        ensures plan { self.new.plan ≡ self.old.plan }
-        ensures count { OnOk result (self.new.steps ≡ self.old.steps + 1) }
-        ensures err { OnErr result (self.new ≡ self.old) }
+        ensures { Takes self.old self.new result (record { who = who; act = Reserve name.now edges }) }
     {
         let Some(output) = output_named(&self.tree, name)? else {
             return Ok(self.stay(Answer::NoTarget));

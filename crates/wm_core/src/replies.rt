@@ -1,6 +1,6 @@
 //! The replies to commands, as they are answered.
 ghost use Rattle.std.specs.Prelude.{◌≡◌, map, IfOk};
-ghost use Rattle.wm_core.specs.History.{reply_to};
+ghost use Rattle.wm_core.specs.Effect.{reply_to};
 
 use std::alloc::{AllocError, Global};
 use wm_apply::CommandReply;

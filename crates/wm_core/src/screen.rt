@@ -1,7 +1,7 @@
 //! The part of the desktop that a picture of a frame shows.
 ghost use Rattle.std.specs.Prelude.{◌≡◌};
-ghost use Rattle.wm_core.specs.DeskValue.{Stands};
-ghost use Rattle.wm_core.specs.History.{opening_of, History};
+ghost use Rattle.wm_core.specs.DeskValue.{StandsFrom};
+ghost use Rattle.wm_core.specs.History.{History, Start};
 ghost use Rattle.wm_core.specs.Screen.{first_back, screen};
 ghost use Rattle.wm_paint.specs.CanvasValue.{IsArea};
 
@@ -12,8 +12,8 @@ use wm_base::Rect;
 impl Desk {
     /// The rectangle of the first output of the tree at the prefix of the frame, in pixels.
     pub fn screen(&self) -> Rect
-        ensures rect { (history : History) → Stands self.now history → result ≡ screen (opening_of self.now.plan) history }
-        ensures area { (history : History) → Stands self.now history → IsArea result }
+        ensures rect { (start : Start) (history : History) → StandsFrom start self.now history → result ≡ screen start history }
+        ensures area { (start : Start) (history : History) → StandsFrom start self.now history → IsArea result }
     {
         first_back(self.txn.current().parts.items())
     }

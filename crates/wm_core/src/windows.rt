@@ -1,13 +1,12 @@
 //! The windows of a caller: what they say of themselves, and how they go.
-ghost use Rattle.std.specs.Prelude.{◌≡◌, ◌≢◌, ◌+◌, ◌<◌, ◌^◌, ◌∷◌, true, None, IfOk, OnOk, OnErr, filter, if◌then◌else◌};
 ghost use Rattle.std.specs.Bool.{OnTrue};
 ghost use Rattle.wm_core.specs.Act.{Close, Gone, Retitle, Urgent};
-ghost use Rattle.wm_core.specs.DeskValue.{judge_of, Stands};
-ghost use Rattle.wm_core.specs.History.{answer_to, History};
 ghost use Rattle.wm_core.specs.Windows.{AreContainers, is_window, owned, with_urgent, without_urgent, without_windows};
 ghost use Rattle.wm_forest.specs.Look.{con_kind, has, kind_of};
 ghost use Rattle.wm_forest.specs.Recency.{lists};
 ghost use Rattle.wm_tree.specs.Sound as trees;
+ghost use Rattle.std.specs.Prelude.{◌≡◌, ◌≢◌, ◌<◌, ◌^◌, true, None, IfOk, OnOk, filter, if◌then◌else◌};
+ghost use Rattle.wm_core.specs.Steps.{Takes};
 
 use crate::desk::Desk;
 use crate::owners::is_caller;
@@ -20,12 +19,7 @@ impl Desk {
     /// Closes the caller's window.
     pub(crate) fn close(&mut self, who: u32, con: ConId) -> Result<Answer, NoMemory>
         requires few { self.old.steps < 2 ^ 48 }
-        ensures answer { IfOk result (λ a. a ≡ answer_to self.old.plan.env.homes (judge_of self.old.txn) self.old.tree who (Close con)) }
-        ensures stands { (history : History) → Stands self.old history →
-            OnOk result (Stands self.new (record { who = who; act = Close con } ∷ history)) }
-        ensures plan { self.new.plan ≡ self.old.plan }
-        ensures count { OnOk result (self.new.steps ≡ self.old.steps + 1) }
-        ensures err { OnErr result (self.new ≡ self.old) }
+        ensures { Takes self.old self.new result (record { who = who; act = Close con }) }
     {
         if !self.is_window(who, con) {
             return Ok(self.stay(Answer::NoView));
@@ -38,12 +32,7 @@ impl Desk {
     /// Closes all windows of the caller.
     pub(crate) fn gone(&mut self, who: u32) -> Result<Answer, NoMemory>
         requires few { self.old.steps < 2 ^ 48 }
-        ensures answer { IfOk result (λ a. a ≡ answer_to self.old.plan.env.homes (judge_of self.old.txn) self.old.tree who (Gone)) }
-        ensures stands { (history : History) → Stands self.old history →
-            OnOk result (Stands self.new (record { who = who; act = Gone } ∷ history)) }
-        ensures plan { self.new.plan ≡ self.old.plan }
-        ensures count { OnOk result (self.new.steps ≡ self.old.steps + 1) }
-        ensures err { OnErr result (self.new ≡ self.old) }
+        ensures { Takes self.old self.new result (record { who = who; act = Gone }) }
     {
         let windows = self.owned(who)?;
         let mut tree = self.tree.copy()?;
@@ -54,12 +43,7 @@ impl Desk {
     /// Gives the caller's window another title.
     pub(crate) fn retitle(&mut self, who: u32, con: ConId, title: &Text) -> Result<Answer, NoMemory>
         requires few { self.old.steps < 2 ^ 48 }
-        ensures answer { IfOk result (λ a. a ≡ answer_to self.old.plan.env.homes (judge_of self.old.txn) self.old.tree who (Retitle con title.now)) }
-        ensures stands { (history : History) → Stands self.old history →
-            OnOk result (Stands self.new (record { who = who; act = Retitle con title.now } ∷ history)) }
-        ensures plan { self.new.plan ≡ self.old.plan }
-        ensures count { OnOk result (self.new.steps ≡ self.old.steps + 1) }
-        ensures err { OnErr result (self.new ≡ self.old) }
+        ensures { Takes self.old self.new result (record { who = who; act = Retitle con title.now }) }
     {
         if !self.is_window(who, con) {
             return Ok(self.stay(Answer::NoView));
@@ -72,12 +56,7 @@ impl Desk {
     /// Says whether the caller's window is urgent.
     pub(crate) fn urgent(&mut self, who: u32, con: ConId, on: bool) -> Result<Answer, NoMemory>
         requires few { self.old.steps < 2 ^ 48 }
-        ensures answer { IfOk result (λ a. a ≡ answer_to self.old.plan.env.homes (judge_of self.old.txn) self.old.tree who (Urgent con on)) }
-        ensures stands { (history : History) → Stands self.old history →
-            OnOk result (Stands self.new (record { who = who; act = Urgent con on } ∷ history)) }
-        ensures plan { self.new.plan ≡ self.old.plan }
-        ensures count { OnOk result (self.new.steps ≡ self.old.steps + 1) }
-        ensures err { OnErr result (self.new ≡ self.old) }
+        ensures { Takes self.old self.new result (record { who = who; act = Urgent con on }) }
     {
         if !self.is_window(who, con) {
             return Ok(self.stay(Answer::NoView));

@@ -6,6 +6,7 @@ use Rattle.wm_base.specs.declared.geometry.Edges.{Edges}
 use Rattle.wm_base.specs.declared.plan.Border.{Border}
 use Rattle.wm_base.specs.declared.plan.Border.TheVariants.{Normal, Pixel, Bare}
 use Rattle.wm_base.specs.declared.plan.OutputPlan.{OutputPlan}
+use Rattle.wm_layouts.specs.declared.plan.Env.{Env}
 use Rattle.wm_layouts.specs.declared.plan.Plan.{Plan}
 
 -- a place from -131,072 to 131,071
@@ -69,10 +70,14 @@ default_outputs =
     }
     ∷ []
 
--- the standard plan, so far as a desk opens by it: its outputs, no borders, no gaps and no homes
+-- no modes but the default one, and no homes
+abbrev pub bare_env : Env
+bare_env = record { modes = []; homes = [] }
+
+-- the standard plan, so far as a desk opens by it: its outputs, no borders, no gaps, no modes and no homes
 pub record IsStandard (p : Plan) : Type 0 where
   pub outputs : p.outputs ≡ default_outputs
   pub border : p.border ≡ Bare
   pub inner : p.inner ≡ 0
   pub outer : p.outer ≡ 0
-  pub homes : p.env.homes ≡ []
+  pub env : p.env ≡ bare_env

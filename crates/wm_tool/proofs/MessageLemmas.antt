@@ -2,6 +2,7 @@
 use Rattle.std.proofs.Common.{◌≡◌, ◌∙◌, refl, ap, ap₂, sym, subst, ℕ, ◌+◌, ◌≤◌, List, [], ◌∷◌, ◌++◌, Option, None, Some, length, arith}
 use Rattle.wm_frames.specs.declared.message.Message.{Message}
 use Rattle.wm_base.specs.declared.plan.Border.TheVariants.{Bare}
+use Rattle.wm_layouts.specs.declared.plan.Env.{Env}
 use Rattle.wm_layouts.specs.Plan.{IsStandard, default_outputs}
 use Rattle.wm_tree.specs.TreeValue.{TreeValue, opening}
 use Rattle.wm_core.specs.DeskValue.{DeskValue}
@@ -13,11 +14,11 @@ use Rattle.wm_tool.specs.Refusals.{IsRising, refusal_at}
 use Rattle.wm_tool.specs.Running.{Backs, Grows, Leads, Plays, Stops}
 use Rattle.wm_tool.proofs.RunLemmas.{stops_step, plays_step, run_same}
 
-abbrev opening_with : TreeValue → List (List ℕ × List ℕ) → Start
-opening_with t homes = record { opened = t; homes = homes; windows = [] }
+abbrev opening_with : TreeValue → Env → Start
+opening_with t env = record { opened = t; env = env; windows = [] }
 
 opens : (desk : DeskValue) → IsStandard desk.plan → start ≡ opening_of desk.plan
-opens desk plan = sym (ap₂ (λ t h. opening_with t h) (ap (λ outputs. opening outputs desk.plan.border desk.plan.inner desk.plan.outer) plan.outputs ∙ (ap (λ border. opening default_outputs border desk.plan.inner desk.plan.outer) plan.border ∙ ap₂ (λ inner outer. opening default_outputs Bare inner outer) plan.inner plan.outer)) plan.homes)
+opens desk plan = sym (ap₂ opening_with (ap (λ outputs. opening outputs desk.plan.border desk.plan.inner desk.plan.outer) plan.outputs ∙ (ap (λ border. opening default_outputs border desk.plan.inner desk.plan.outer) plan.border ∙ ap₂ (λ inner outer. opening default_outputs Bare inner outer) plan.inner plan.outer)) plan.env)
 
 by_text_longer : (o : Option (List ℕ)) (rs : List Refused) (h : History) → length (after_entry (entry_by rs h o) h) ≡ length h + length (text_step o)
 by_text_longer None rs h = omega arith

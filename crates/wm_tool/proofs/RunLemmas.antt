@@ -224,7 +224,7 @@ run_same who rs more h text rising = rw (verdict_same (length h) rs more text ri
 pub run_entry_is : (who place : ℕ) (history : History) (before after_refused : List Refused) (text : List ℕ) (p : Prepared) → refusal_at place before ≡ None → place ≡ length history → p.text ≡ text
     → IsVerdict text p.verdict → after_refused ≡ before ++ fresh place p.verdict → entry_of who (act_of (steps_of.Run p)) ≡ run_entry who after_refused history text
 run_entry_is who place history before after_refused text p none at same is grown =
-    ap₂ (λ t v. entry_of who (Run t v)) same
+    ap₂ (λ t v. entry_of who (Run (record { text = t; verdict = v }))) same
     (sym (verdict_is place before text p.verdict none is) ∙ (ap (λ rs. verdict_of rs place text) (sym grown) ∙ ap (λ n. verdict_of after_refused n text) at))
 
 pub unchanged : (place : ℕ) (steps : List (Option (List ℕ))) (rs : List Refused) (c : ℕ) (t : Option (List (List ℕ))) → Backs place steps rs rs c c t t

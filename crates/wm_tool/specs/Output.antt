@@ -23,7 +23,7 @@ use Rattle.wm_core.specs.declared.state.Want.TheVariants as want
 use Rattle.wm_core.specs.Act.{Act}
 use Rattle.wm_core.specs.Act as acts
 use Rattle.wm_core.specs.History.{Entry, History, Start, answer}
-use Rattle.wm_layouts.specs.Plan.{default_outputs}
+use Rattle.wm_layouts.specs.Plan.{bare_env, default_outputs}
 use Rattle.wm_paint.specs.FrameText.{frame_text, new_line}
 use Rattle.wm_script.specs.declared.line.Deed.{Deed}
 use Rattle.wm_script.specs.declared.line.Deed.TheVariants as deed
@@ -45,9 +45,9 @@ answer_text answers.NameTaken = codes "name-taken" ++ new_line
 answer_text answers.NoTarget = codes "no-target" ++ new_line
 answer_text answers.BadRect = codes "bad-rect" ++ new_line
 
--- the opening of the standard plan, without homes
+-- the opening of the standard plan
 abbrev pub start : Start
-start = record { opened = opening default_outputs Bare 0 0; homes = []; windows = [] }
+start = record { opened = opening default_outputs Bare 0 0; env = bare_env; windows = [] }
 
 -- ---- the plan of a script
 
@@ -78,7 +78,7 @@ outputs_or_default [] = default_outputs
 outputs_or_default (o ∷ outputs) = o ∷ outputs
 
 abbrev pub opening_set : List OutputPlan → Setting → Start
-opening_set outputs s = record { opened = opening outputs s.border s.inner s.outer; homes = []; windows = [] }
+opening_set outputs s = record { opened = opening outputs s.border s.inner s.outer; env = bare_env; windows = [] }
 
 -- the opening of a script
 abbrev pub start_of : List Line → Start
@@ -92,7 +92,7 @@ entry_of who act = record { who = who; act = act }
 
 -- the step of a caller that runs a text after a history, given which patterns were refused
 abbrev pub run_entry : ℕ → List Refused → History → List ℕ → Entry
-run_entry who refused history text = entry_of who (acts.Run text (verdict_of refused (length history) text))
+run_entry who refused history text = entry_of who (acts.Run (record { text = text; verdict = verdict_of refused (length history) text }))
 
 abbrev pub after_entry : Option Entry → History → History
 after_entry None history = history
@@ -107,7 +107,7 @@ pub data Effect : Type 0 where
 
 -- the step of a line that takes one and runs no text
 abbrev pub act_in : Deed → Option Act
-act_in (deed.Map props buffer) = Some (acts.Map props buffer)
+act_in (deed.Map props buffer) = Some (acts.Map props buffer None)
 act_in (deed.Retitle con title) = Some (acts.Retitle con title)
 act_in (deed.Urgent con on) = Some (acts.Urgent con on)
 act_in (deed.Close con) = Some (acts.Close con)

@@ -2,7 +2,7 @@
 ghost use Rattle.std.specs.Prelude.{◌≡◌, [], IfOk};
 ghost use Rattle.wm_core.specs.DeskValue.{Stands};
 ghost use Rattle.wm_core.specs.History.{opening_of};
-ghost use Rattle.wm_layouts.specs.Plan.{IsSound, IsStandard};
+ghost use Rattle.wm_layouts.specs.Plan.{IsSound, IsStandard, bare_env};
 ghost use Rattle.wm_tool.specs.Output.{outputs_or_default, plain, set_by, start_of};
 ghost use Rattle.wm_tool.specs.Planning.{setting_of};
 ghost use Rattle.wm_script.specs.Script.{IsFitLine, IsSoundScript, outputs_in};
@@ -10,7 +10,7 @@ ghost use Rattle.wm_script.specs.Script.{IsFitLine, IsSoundScript, outputs_in};
 use std::alloc::{AllocError, Global};
 use wm_base::{List, NoMemory, OutputPlan};
 use wm_core::Desk;
-use wm_layouts::Plan;
+use wm_layouts::{Plan, copy_output};
 use wm_script::{Deed, Line};
 
 /// The desk at the opening of the plan of the lines.
@@ -52,7 +52,7 @@ fn plan_on_outputs(alloc: Global, lines: &[Line]) -> Result<Plan, NoMemory>
     requires { IsSoundScript lines.now }
     ensures outputs { IfOk result (λ plan. plan.outputs ≡ outputs_or_default (outputs_in lines.now)) }
     ensures setting { IfOk result (λ plan. setting_of plan ≡ plain) }
-    ensures homes { IfOk result (λ plan. plan.env.homes ≡ []) }
+    ensures env { IfOk result (λ plan. plan.env ≡ bare_env) }
     ensures sound { IfOk result (λ plan. IsSound plan) }
 {
     let mut plan = Plan::standard(alloc)?;
@@ -79,17 +79,6 @@ fn copy_outputs(alloc: Global, lines: &[Line]) -> Result<Vec<OutputPlan>, AllocE
     Ok(outputs)
 }
 
-/// A copy of the output.
-pub fn copy_output(output: &OutputPlan) -> Result<OutputPlan, AllocError>
-    ensures { IfOk result (λ copy. copy ≡ output.now) }
-{
-    Ok(OutputPlan {
-        name: output.name.clone()?,
-        rect: output.rect,
-        reserved: output.reserved,
-    })
-}
-
 /// What the line says of the border and the gaps. Only a line of the plan changes them.
 fn set(plan: &mut Plan, line: &Line)
     requires sound { IsSound plan.old }
@@ -97,7 +86,7 @@ fn set(plan: &mut Plan, line: &Line)
     ensures sound { IsSound plan.new }
     ensures setting { setting_of plan.new ≡ set_by line.now.deed (setting_of plan.old) }
     ensures outputs { plan.new.outputs ≡ plan.old.outputs }
-    ensures homes { plan.new.env.homes ≡ plan.old.env.homes }
+    ensures env { plan.new.env ≡ plan.old.env }
 {
     match &line.deed {
         Deed::Border(border) => plan.border = *border,

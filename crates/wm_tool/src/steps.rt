@@ -1,5 +1,5 @@
 //! The steps that lines of a script take.
-ghost use Rattle.std.specs.Prelude.{◌≡◌, Some, IfOk, IfSome};
+ghost use Rattle.std.specs.Prelude.{◌≡◌, None, Some, IfOk, IfSome};
 ghost use Rattle.std.specs.Option.{option_map};
 ghost use Rattle.wm_core.specs.Act as acts;
 ghost use Rattle.wm_core.specs.Act.{act_of};
@@ -9,9 +9,9 @@ ghost use Rattle.wm_layouts.specs.Sizes.{IsFitSize};
 ghost use Rattle.wm_script.specs.Script.{IsFitDeed};
 ghost use Rattle.wm_tool.specs.Output.{act_in};
 
-use crate::planning::copy_output;
 use wm_base::{Buffer, ConId, Edges, NoMemory, OutputPlan, Props, Text};
 use wm_core::{ClientStep, Step};
+use wm_layouts::copy_output;
 use wm_script::Deed;
 use wm_tree::copy_props;
 
@@ -46,7 +46,7 @@ pub fn step_of(deed: &Deed) -> Result<Option<Step>, NoMemory>
 /// The step that opens a window with these properties and this buffer.
 fn map_step(props: &Props, buffer: Buffer) -> Result<Option<Step>, NoMemory>
     requires { IsFitSize buffer.size }
-    ensures act { IfOk result (λ step. option_map act_of step ≡ Some (acts.Map props.now buffer)) }
+    ensures act { IfOk result (λ step. option_map act_of step ≡ Some (acts.Map props.now buffer None)) }
     ensures fit { IfOk result (λ step. IfSome step IsFitStep) }
 {
     let props = copy_props(props)?;

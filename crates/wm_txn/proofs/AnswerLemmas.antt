@@ -11,7 +11,7 @@ use Rattle.wm_forest.specs.Look.{same}
 use Rattle.wm_arrange.specs.declared.parts.Placed.{Placed}
 use Rattle.wm_arrange.specs.Sizes.{content_size, is_content}
 use Rattle.wm_txn.specs.History.{Opening, Entry, is_open, gave}
-use Rattle.wm_txn.specs.Schedule.{Turn, answered, configure, configures, contents, is_new}
+use Rattle.wm_txn.specs.Schedule.{Transaction, answered, configure, configures, contents, is_new}
 use Rattle.wm_txn.specs.Windows.{Buffers, Windows, find, is_left, is_unanswered, count_unanswered, left_of}
 use Rattle.wm_txn.specs.Stands.{IsHeld, IsKept, Keeps, configure_of, serial_of}
 use Rattle.wm_txn.specs.declared.held.Held.{Held}
@@ -83,11 +83,11 @@ number_below n None false before number size h rest = let l = rest h in omega ar
 number_below n (Some s) false before number size h rest = let l = rest h in omega arith
 
 -- a configure is by one of the transactions
-pub configure_le : (v : ConId) (turns : List Turn) (number : ℕ) (size : Size) → configure v turns ≡ Some (number, size) → number ≤ length turns
+pub configure_le : (v : ConId) (transactions : List Transaction) (number : ℕ) (size : Size) → configure v transactions ≡ Some (number, size) → number ≤ length transactions
 configure_le v [] number size h = cc
-configure_le v (t ∷ turns) number size h =
-    let below = number_below (length turns + 1) (content_size v t.parts) (configures turns t.parts v) (configure v turns) number size h
-    (λ before. let l = configure_le v turns number size before in omega arith) in
+configure_le v (t ∷ transactions) number size h =
+    let below = number_below (length transactions + 1) (content_size v t.parts) (configures transactions t.parts v) (configure v transactions) number size h
+    (λ before. let l = configure_le v transactions number size before in omega arith) in
     omega arith
 
 new_by_number : (n : ℕ) (found : Option Size) (b : Bool) (before : Option (ℕ × Size)) (size : Size) → cond b (option_map (λ s. (n, s)) found) before ≡ Some (n, size)
@@ -122,72 +122,72 @@ or_true : (a : Bool) → (a || true) ≡ true
 or_true true = refl
 or_true false = refl
 
-module _ (o : Opening) (history : List Entry) (turns : List Turn) (t : Turn) (windows : Windows) (buffers : Buffers) where
-  open_or_gave : (v : ConId) (found : Option Held) (left : Option Buffer) → find v windows ≡ found → IsKept o history turns (t ∷ turns) v found left → count_unanswered (length turns + 1) windows ≡ 0
-      → configures turns t.parts v ≡ true → answered o (length turns + 1) history v ≡ true
-  open_or_gave v None left at kept none asked = rw (left_closed o history turns (t ∷ turns) v left kept) (or_true (gave (length turns + 1) v history))
-  open_or_gave v (Some w) left at kept none asked =
-      let n = length turns + 1 in
-      let number = new_serial n (content_size v t.parts) (configures turns t.parts v) (configure v turns) (new_some (content_size v t.parts) (configure v turns) asked) asked in
-      let serial : w.serial ≡ n = sym (serial_is w.serial w.size) ∙ (ap serial_of (sym kept.latest_is) ∙ number) in
-      let answered_w = answered_parts w.live w.serial w.under n serial (none_left n v w windows none at) in
+module _ (o : Opening) (history : List Entry) (transactions : List Transaction) (t : Transaction) (windows : Windows) (buffers : Buffers) where
+  open_or_gave : (v : ConId) (found : Option Held) (left : Option Buffer) → find v windows ≡ found → IsKept o history transactions (t ∷ transactions) v found left → count_unanswered (length transactions + 1) windows ≡ 0
+      → configures transactions t.parts v ≡ true → answered o (length transactions + 1) history v ≡ true
+  open_or_gave v None left at kept none configured = rw (left_closed o history transactions (t ∷ transactions) v left kept) (or_true (gave (length transactions + 1) v history))
+  open_or_gave v (Some w) left at kept none configured =
+      let n = length transactions + 1 in
+      let number = new_serial n (content_size v t.parts) (configures transactions t.parts v) (configure v transactions) (new_some (content_size v t.parts) (configure v transactions) configured) configured in
+      let serial : w.configure_serial ≡ n = sym (serial_is w.configure_serial w.configured_size) ∙ (ap serial_of (sym kept.latest_is) ∙ number) in
+      let answered_w = answered_parts w.live w.configure_serial w.buffer_serial n serial (none_left n v w windows none at) in
       rw (kept.gave_is n (omega arith), kept.live_is) answered_w
 
-  is_answered : (v : ConId) (w : Held) (b : Bool) → is_unanswered (length turns + 1) w ≡ b → IsHeld o history turns (t ∷ turns) v w → list_all (answered o (length turns + 1) history) (contents (configures turns t.parts) t.parts) ≡ true
-      → is_unanswered (length turns + 1) w ≡ false
+  is_answered : (v : ConId) (w : Held) (b : Bool) → is_unanswered (length transactions + 1) w ≡ b → IsHeld o history transactions (t ∷ transactions) v w → list_all (answered o (length transactions + 1) history) (contents (configures transactions t.parts) t.parts) ≡ true
+      → is_unanswered (length transactions + 1) w ≡ false
   is_answered v w false at kept all = at
   is_answered v w true at kept all =
-      let n = length turns + 1 in
-      let p = unanswered_parts w.live w.serial w.under n at in
-      let latest : configure v (t ∷ turns) ≡ Some (n, w.size) = kept.latest_is ∙ some_serial n w.serial w.size p.1 (omega arith) in
-      let asked : configures turns t.parts v ≡ true = new_by_number n (content_size v t.parts) (configures turns t.parts v) (configure v turns) w.size latest
-      (λ before. let l = configure_le v turns n w.size before in omega arith) in
-      let passes = each_passes (configures turns t.parts) (answered o n history) t.parts all v (new_some (content_size v t.parts) (configure v turns) asked) asked in
-      let gave_not : gave n v history ≡ false = kept.gave_is n (omega arith) ∙ lt-leb n w.under p.2 in
+      let n = length transactions + 1 in
+      let p = unanswered_parts w.live w.configure_serial w.buffer_serial n at in
+      let latest : configure v (t ∷ transactions) ≡ Some (n, w.configured_size) = kept.latest_is ∙ some_serial n w.configure_serial w.configured_size p.1 (omega arith) in
+      let configured : configures transactions t.parts v ≡ true = new_by_number n (content_size v t.parts) (configures transactions t.parts v) (configure v transactions) w.configured_size latest
+      (λ before. let l = configure_le v transactions n w.configured_size before in omega arith) in
+      let passes = each_passes (configures transactions t.parts) (answered o n history) t.parts all v (new_some (content_size v t.parts) (configure v transactions) configured) configured in
+      let gave_not : gave n v history ≡ false = kept.gave_is n (omega arith) ∙ lt-leb n w.buffer_serial p.2 in
       let live : is_open o v history ≡ true = kept.live_is ∙ p.0 in
       let bad : false ≡ true = rw (gave_not, live) at passes in
       cc
 
   -- all that are awaited have answered exactly where none are left
-  pub answered_is : (number prefix : ℕ) (current : List Placed) → Keeps o history turns (t ∷ turns) number prefix current windows buffers → t.awaits ≡ contents (configures turns t.parts) t.parts
-      → list_all (answered o (length turns + 1) history) t.awaits ≡ eqb (count_unanswered (length turns + 1) windows) 0
+  pub answered_is : (number prefix : ℕ) (current : List Placed) → Keeps o history transactions (t ∷ transactions) number prefix current windows buffers → t.awaits ≡ contents (configures transactions t.parts) t.parts
+      → list_all (answered o (length transactions + 1) history) t.awaits ≡ eqb (count_unanswered (length transactions + 1) windows) 0
   answered_is number prefix current keeps awaits =
-      let n = length turns + 1 in
+      let n = length transactions + 1 in
       let test = answered o n history in
-      let chosen = contents (configures turns t.parts) t.parts in
-      let forth : count_unanswered n windows ≡ 0 → list_all test chosen ≡ true = λ none. all_pass (configures turns t.parts) test t.parts (λ v there asked. open_or_gave v (find v windows) (left_of v buffers) refl (keeps.each v) none asked) in
+      let chosen = contents (configures transactions t.parts) t.parts in
+      let forth : count_unanswered n windows ≡ 0 → list_all test chosen ≡ true = λ none. all_pass (configures transactions t.parts) test t.parts (λ v there configured. open_or_gave v (find v windows) (left_of v buffers) refl (keeps.each v) none configured) in
       let back : list_all test chosen ≡ true → count_unanswered n windows ≡ 0 = λ all. all_answered n windows keeps.sorted
-      (λ a w at. is_answered a w (is_unanswered n w) refl (held_at o history turns (t ∷ turns) a (find a windows) (left_of a buffers) w at (keeps.each a)) all) in
+      (λ a w at. is_answered a w (is_unanswered n w) refl (held_at o history transactions (t ∷ transactions) a (find a windows) (left_of a buffers) w at (keeps.each a)) all) in
       rw awaits (tests (list_all test chosen) (count_unanswered n windows) forth back)
     where
       tests : (b : Bool) (m : ℕ) → (m ≡ 0 → b ≡ true) → (b ≡ true → m ≡ 0) → b ≡ eqb m 0
       tests true m forth back = sym (eq-eqb m 0 (back refl))
       tests false m forth back = grind (arith, nat_tests, forth)
 
-  left_step : (v : ConId) (w : Held) → IsHeld o history turns (t ∷ turns) v w → (b : Bool) → configures turns t.parts v ≡ b → (b && not (answered o (length turns + 1) history v)) ≡ is_unanswered (length turns + 1) w
-  left_step v w kept true asked =
-      let n = length turns + 1 in
-      let number = new_serial n (content_size v t.parts) (configures turns t.parts v) (configure v turns) (new_some (content_size v t.parts) (configure v turns) asked) asked in
-      let serial : w.serial ≡ n = sym (serial_is w.serial w.size) ∙ (ap serial_of (sym kept.latest_is) ∙ number) in
-      rw (kept.gave_is n (omega arith), kept.live_is, eq-eqb w.serial n serial) (negated w.live w.under n)
+  left_step : (v : ConId) (w : Held) → IsHeld o history transactions (t ∷ transactions) v w → (b : Bool) → configures transactions t.parts v ≡ b → (b && not (answered o (length transactions + 1) history v)) ≡ is_unanswered (length transactions + 1) w
+  left_step v w kept true configured =
+      let n = length transactions + 1 in
+      let number = new_serial n (content_size v t.parts) (configures transactions t.parts v) (configure v transactions) (new_some (content_size v t.parts) (configure v transactions) configured) configured in
+      let serial : w.configure_serial ≡ n = sym (serial_is w.configure_serial w.configured_size) ∙ (ap serial_of (sym kept.latest_is) ∙ number) in
+      rw (kept.gave_is n (omega arith), kept.live_is, eq-eqb w.configure_serial n serial) (negated w.live w.buffer_serial n)
     where
       negated : (live : Bool) (under n : ℕ) → not (leb n under || not live) ≡ (live && ltb under n)
       negated live under n = grind (arith, nat_tests)
-  left_step v w kept false other = sym (false_from_ne_true (is_unanswered (length turns + 1) w) (λ left.
-      let n = length turns + 1 in
-      let p = unanswered_parts w.live w.serial w.under n left in
-      let latest : configure v (t ∷ turns) ≡ Some (n, w.size) = kept.latest_is ∙ some_serial n w.serial w.size p.1 (omega arith) in
-      let asked : configures turns t.parts v ≡ true = new_by_number n (content_size v t.parts) (configures turns t.parts v) (configure v turns) w.size latest
-      (λ before. let l = configure_le v turns n w.size before in omega arith) in
-      let bad : true ≡ false = sym asked ∙ other in
+  left_step v w kept false other = sym (false_from_ne_true (is_unanswered (length transactions + 1) w) (λ left.
+      let n = length transactions + 1 in
+      let p = unanswered_parts w.live w.configure_serial w.buffer_serial n left in
+      let latest : configure v (t ∷ transactions) ≡ Some (n, w.configured_size) = kept.latest_is ∙ some_serial n w.configure_serial w.configured_size p.1 (omega arith) in
+      let configured : configures transactions t.parts v ≡ true = new_by_number n (content_size v t.parts) (configures transactions t.parts v) (configure v transactions) w.configured_size latest
+      (λ before. let l = configure_le v transactions n w.configured_size before in omega arith) in
+      let bad : true ≡ false = sym configured ∙ other in
       cc))
 
   -- a window is left exactly where it is configured and has not answered
-  pub is_left_where : (v : ConId) (found : Option Held) (left : Option Buffer) → IsKept o history turns (t ∷ turns) v found left → (configures turns t.parts v && not (answered o (length turns + 1) history v)) ≡ is_left (length turns + 1) found
-  is_left_where v None left kept = rw (left_closed o history turns (t ∷ turns) v left kept) (none (configures turns t.parts v) (gave (length turns + 1) v history))
+  pub is_left_where : (v : ConId) (found : Option Held) (left : Option Buffer) → IsKept o history transactions (t ∷ transactions) v found left → (configures transactions t.parts v && not (answered o (length transactions + 1) history v)) ≡ is_left (length transactions + 1) found
+  is_left_where v None left kept = rw (left_closed o history transactions (t ∷ transactions) v left kept) (none (configures transactions t.parts v) (gave (length transactions + 1) v history))
     where
       none : (a b : Bool) → (a && not (b || true)) ≡ false
       none true true = refl
       none true false = refl
       none false b = refl
-  is_left_where v (Some w) left kept = left_step v w kept (configures turns t.parts v) refl
+  is_left_where v (Some w) left kept = left_step v w kept (configures transactions t.parts v) refl

@@ -10,7 +10,7 @@ use Rattle.wm_arrange.specs.declared.parts.Arrangement.{Arrangement}
 use Rattle.wm_txn.specs.History.{Opening, Entry, Arranged, Acked, Gave, Deadline, Still}
 use Rattle.wm_txn.specs.Machine.{TxnValue, acked, answers, arranged, is_due_by, is_over, opened, settled, timed_out}
 use Rattle.wm_txn.specs.Windows.{IsNewcomer, ShowsOpen, acked_with, buffered_with, close_all, count_closed, find, left_of, one_if, open_fresh, put}
-use Rattle.wm_txn.specs.Schedule.{Turn, is_named}
+use Rattle.wm_txn.specs.Schedule.{Transaction, is_named}
 use Rattle.wm_txn.specs.Stands.{StandsFor}
 use Rattle.wm_txn.specs.declared.held.Held.{Held}
 use Rattle.wm_txn.specs.declared.held.Pending.{Pending}
@@ -29,8 +29,8 @@ module _ (o : Opening) (history : List Entry) (d : TxnValue) (s : StandsFor o hi
   pub stands_still : StandsFor o (Still ∷ history) d
   stands_still =
       stands_on o history Still d d.windows d.left d.newest
-      (λ turns begun few k. keeps_same o history (Still ∷ history) turns begun d.number d.prefix d.current.parts d.windows d.gone (agree_still o history) k.open_contents k)
-      (λ last new. new) (λ zero. zero) (λ counted. counted) (λ turns t p w. refl) refl refl s
+      (λ transactions begun few k. keeps_same o history (Still ∷ history) transactions begun d.number d.prefix d.current.parts d.windows d.gone (agree_still o history) k.open_contents k)
+      (λ last new. new) (λ zero. zero) (λ counted. counted) (λ transactions t p w. refl) refl refl s
 
   -- ---- an arrangement
 
@@ -40,21 +40,21 @@ module _ (o : Opening) (history : List Entry) (d : TxnValue) (s : StandsFor o hi
       let n = d.number + 1 in
       let opened_windows = open_fresh fresh d.windows in
       stands_settled o history (Arranged newest.parts fresh gone) d (close_all gone opened_windows) (d.left - count_closed n gone opened_windows) (Some newest)
-      (λ turns begun few k. keeps_arranged o history turns begun newest.parts gone d.windows d.gone fresh d.number d.prefix d.current.parts new shows sorted k)
+      (λ transactions begun few k. keeps_arranged o history transactions begun newest.parts gone d.windows d.gone fresh d.number d.prefix d.current.parts new shows sorted k)
       (λ last old. refl) (λ zero. omega arith)
       (λ counted. let same_count = count_fresh n fresh d.windows d.gone (omega arith) new in let gone_count = count_gone n gone opened_windows in omega arith)
-      (λ turns t p w. refl) steps steps_are s
+      (λ transactions t p w. refl) steps steps_are s
 
   -- ---- a deadline
 
-  over_is : (number : ℕ) (turns : List Turn) (t : Turn) (p : Pending) → Pends o history turns t p d → is_named (length turns + 1) t.prefix (Deadline number ∷ history) ≡ is_over (length history) number d.number d.waiting
-  over_is number turns t p w = rw (w.pending_is, w.prefix_is, w.keeps.number_is) refl
+  over_is : (number : ℕ) (transactions : List Transaction) (t : Transaction) (p : Pending) → Pends o history transactions t p d → is_named (length transactions + 1) t.prefix (Deadline number ∷ history) ≡ is_over (length history) number d.number d.waiting
+  over_is number transactions t p w = rw (w.pending_is, w.prefix_is, w.keeps.number_is) refl
 
   stands_not_over : (number : ℕ) → is_over (length history) number d.number d.waiting ≡ false → StandsFor o (Deadline number ∷ history) d
   stands_not_over number not_over =
       stands_on o history (Deadline number) d d.windows d.left d.newest
-      (λ turns begun few k. keeps_same o history (Deadline number ∷ history) turns begun d.number d.prefix d.current.parts d.windows d.gone (agree_deadline o history number) k.open_contents k)
-      (λ last new. new) (λ zero. zero) (λ counted. counted) (λ turns t p w. over_is number turns t p w ∙ not_over) refl refl s
+      (λ transactions begun few k. keeps_same o history (Deadline number ∷ history) transactions begun d.number d.prefix d.current.parts d.windows d.gone (agree_deadline o history number) k.open_contents k)
+      (λ last new. new) (λ zero. zero) (λ counted. counted) (λ transactions t p w. over_is number transactions t p w ∙ not_over) refl refl s
 
   stands_over : (number : ℕ) → is_over (length history) number d.number d.waiting ≡ true → (steps : ℕ) → steps ≡ length history + 1 → StandsFor o (Deadline number ∷ history) (settled steps (record d { left = 0 }))
   stands_over number over steps steps_are = elim (known o history d s) [
@@ -84,12 +84,12 @@ module _ (o : Opening) (history : List Entry) (d : TxnValue) (s : StandsFor o hi
   pub stands_acked : (v : ConId) (serial : ℕ) (w : Held) → find v d.windows ≡ Some w → is_due_by d.number serial w ≡ true → StandsFor o (Acked v serial ∷ history) (record d { windows = put v (acked_with serial w) d.windows })
   stands_acked v serial w at due =
       stands_on o history (Acked v serial) d (put v (acked_with serial w) d.windows) d.left d.newest
-      (λ turns begun one k.
-      let held = held_at o history turns begun v (find v d.windows) (left_of v d.gone) w at (k.each v) in
-      let bounds = due_bounds o history turns begun v w held one d.number k.number_is serial due in
-      keeps_put o history (Acked v serial ∷ history) turns begun d.number d.prefix d.current.parts v w (acked_with serial w) d.windows d.gone at
-      (held_acked o history turns begun v serial w held bounds.above bounds.within bounds.done) (agree_acked o history v serial) k.open_contents k)
-      (λ last new. new) (λ zero. zero) (λ counted. let same_count = count_put (d.number + 1) v (acked_with serial w) w d.windows at in omega arith) (λ turns t p w. refl) refl refl s
+      (λ transactions begun one k.
+      let held = held_at o history transactions begun v (find v d.windows) (left_of v d.gone) w at (k.each v) in
+      let bounds = due_bounds o history transactions begun v w held one d.number k.number_is serial due in
+      keeps_put o history (Acked v serial ∷ history) transactions begun d.number d.prefix d.current.parts v w (acked_with serial w) d.windows d.gone at
+      (held_acked o history transactions begun v serial w held bounds.above bounds.within bounds.done) (agree_acked o history v serial) k.open_contents k)
+      (λ last new. new) (λ zero. zero) (λ counted. let same_count = count_put (d.number + 1) v (acked_with serial w) w d.windows at in omega arith) (λ transactions t p w. refl) refl refl s
 
   -- ---- a buffer
 
@@ -110,13 +110,13 @@ module _ (o : Opening) (history : List Entry) (d : TxnValue) (s : StandsFor o hi
   stands_buffered v buffer w at steps steps_are =
       let new = buffered_with d.number buffer w in
       let n = d.number + 1 in
-      let under_le : w.under ≤ w.acked = elim (known o history d s) [
+      let under_le : w.buffer_serial ≤ w.acked_serial = elim (known o history d s) [
         | inl r ↦ let held = held_at o history r.0 r.0 v (find v d.windows) (left_of v d.gone) w at (r.1.keeps.each v) in held.under_le
         | inr p ↦ let held = held_at o history p.0 (p.1 ∷ p.0) v (find v d.windows) (left_of v d.gone) w at (p.3.keeps.each v) in held.under_le
       ] in
       stands_settled o history (Gave v buffer) d (put v new d.windows) (d.left - one_if (answers n w new)) d.newest
-      (λ turns begun few k. keeps_put o history (Gave v buffer ∷ history) turns begun d.number d.prefix d.current.parts v w new d.windows d.gone at
-      (held_buffered o history turns begun v buffer d.number w (held_at o history turns begun v (find v d.windows) (left_of v d.gone) w at (k.each v)) k.number_is (few_begun turns begun few)) (agree_gave o history v buffer) k.open_contents k)
+      (λ transactions begun few k. keeps_put o history (Gave v buffer ∷ history) transactions begun d.number d.prefix d.current.parts v w new d.windows d.gone at
+      (held_buffered o history transactions begun v buffer d.number w (held_at o history transactions begun v (find v d.windows) (left_of v d.gone) w at (k.each v)) k.number_is (few_begun transactions begun few)) (agree_gave o history v buffer) k.open_contents k)
       (λ last old. old) (λ zero. omega arith)
-      (λ counted. let put_it = count_put n v new w d.windows at in let fewer = answer_step w.live (eqb w.serial n) w.under w.acked n under_le in omega arith)
-      (λ turns t p w. refl) steps steps_are s
+      (λ counted. let put_it = count_put n v new w d.windows at in let fewer = answer_step w.live (eqb w.configure_serial n) w.buffer_serial w.acked_serial n under_le in omega arith)
+      (λ transactions t p w. refl) steps steps_are s

@@ -7,13 +7,13 @@ use Rattle.wm_arrange.specs.declared.parts.Placed.{Placed}
 use Rattle.wm_arrange.specs.Same.{same_parts}
 use Rattle.wm_txn.specs.History.{Opening, Entry, arrangement}
 use Rattle.wm_txn.specs.Machine.{TxnValue, began, commit_pending, committed, finished, followed, next_with, settled}
-use Rattle.wm_txn.specs.Windows.{Buffers, Windows, ask_all, count_all, count_unanswered}
-use Rattle.wm_txn.specs.Schedule.{Turn, configures, contents, differs, is_named, last_parts, may_end, names, turn_from}
+use Rattle.wm_txn.specs.Windows.{Buffers, Windows, configure_all, count_all, count_unanswered}
+use Rattle.wm_txn.specs.Schedule.{Transaction, configures, contents, differs, is_named, last_parts, may_end, names, transaction_from}
 use Rattle.wm_txn.specs.Stands.{IsNewest, IsScheduled, Keeps, StandsFor}
 use Rattle.wm_txn.specs.declared.held.Pending.{Pending}
 use Rattle.wm_txn.proofs.AnswerLemmas.{answered_is}
 use Rattle.wm_txn.proofs.ScheduleLemmas.{WasIdle, WasWaiting, begins_here, ends_here, idles_on, waits_on}
-use Rattle.wm_txn.proofs.SettleLemmas.{keeps_asked, keeps_committed, left_asked, same_itself}
+use Rattle.wm_txn.proofs.SettleLemmas.{keeps_configured, keeps_committed, left_configured, same_itself}
 
 pub or_none : (a b : Bool) → b ≡ false → (a || b) ≡ a
 or_none true b h = refl
@@ -24,44 +24,44 @@ module _ (o : Opening) (history : List Entry) (entry : Entry) where
   here = entry ∷ history
 
   -- no other begins
-  pub stands_idle : (turns : List Turn) (d : TxnValue) → Keeps o here turns turns d.number d.prefix d.current.parts d.windows d.gone → WasIdle o entry history turns → d.waiting ≡ None → d.left ≡ 0 → d.newest ≡ None
-      → same_parts (arrangement o here) (last_parts o turns) ≡ true → length turns ≤ length history + 1 → StandsFor o here d
-  stands_idle turns d k was none_waits none_left none_newest same_arrangement within =
-      let Scheduled : Option Pending → Type 0 = λ z. IsScheduled o here turns turns z d in
+  pub stands_idle : (transactions : List Transaction) (d : TxnValue) → Keeps o here transactions transactions d.number d.prefix d.current.parts d.windows d.gone → WasIdle o entry history transactions → d.waiting ≡ None → d.left ≡ 0 → d.newest ≡ None
+      → same_parts (arrangement o here) (last_parts o transactions) ≡ true → length transactions ≤ length history + 1 → StandsFor o here d
+  stands_idle transactions d k was none_waits none_left none_newest same_arrangement within =
+      let Scheduled : Option Pending → Type 0 = λ z. IsScheduled o here transactions transactions z d in
       record {
-        turns = turns;
-        begun = turns;
+        transactions = transactions;
+        begun = transactions;
         keeps = k;
-        newest_is = subst (IsNewest (arrangement o here) (last_parts o turns)) (sym none_newest) same_arrangement;
-        schedule = subst Scheduled (sym none_waits) (record { begun_are = refl; idle_is = idles_on o history entry turns was (rw same_arrangement refl); none_newest = none_newest; none_left = none_left });
+        newest_is = subst (IsNewest (arrangement o here) (last_parts o transactions)) (sym none_newest) same_arrangement;
+        schedule = subst Scheduled (sym none_waits) (record { begun_are = refl; idle_is = idles_on o history entry transactions was (rw same_arrangement refl); none_newest = none_newest; none_left = none_left });
         within = omega arith;
       }
 
   -- what is known of the transaction that waited when the entry came
-  pub record Awaits (turns : List Turn) (t : Turn) (p : Pending) (d : TxnValue) : Type 0 where
-    pub keeps : Keeps o here turns (t ∷ turns) d.number d.prefix d.current.parts d.windows d.gone
-    pub was : WasWaiting o entry history t turns
+  pub record Awaits (transactions : List Transaction) (t : Transaction) (p : Pending) (d : TxnValue) : Type 0 where
+    pub keeps : Keeps o here transactions (t ∷ transactions) d.number d.prefix d.current.parts d.windows d.gone
+    pub was : WasWaiting o entry history t transactions
     pub waiting_is : d.waiting ≡ Some p
     pub prefix_is : p.prefix ≡ t.prefix
     pub parts_are : p.arrangement.parts ≡ t.parts
-    pub awaits_are : t.awaits ≡ contents (configures turns t.parts) t.parts
-    pub ends_is : may_end o (length turns + 1) t here ≡ eqb d.left 0
-    pub left_is : 0 < d.left → d.left ≡ count_unanswered (length turns + 1) d.windows
+    pub awaits_are : t.awaits ≡ contents (configures transactions t.parts) t.parts
+    pub ends_is : may_end o (length transactions + 1) t here ≡ eqb d.left 0
+    pub left_is : 0 < d.left → d.left ≡ count_unanswered (length transactions + 1) d.windows
     pub newest_is : IsNewest (arrangement o here) t.parts d.newest
 
-  pub stands_waiting : (turns : List Turn) (t : Turn) (p : Pending) (d : TxnValue) → Awaits turns t p d → eqb d.left 0 ≡ false → length turns ≤ length history → StandsFor o here d
-  stands_waiting turns t p d a other within =
+  pub stands_waiting : (transactions : List Transaction) (t : Transaction) (p : Pending) (d : TxnValue) → Awaits transactions t p d → eqb d.left 0 ≡ false → length transactions ≤ length history → StandsFor o here d
+  stands_waiting transactions t p d a other within =
       let some_left : 0 < d.left = grind (arith, nat_tests, other) in
-      let Scheduled : Option Pending → Type 0 = λ z. IsScheduled o here turns (t ∷ turns) z d in
+      let Scheduled : Option Pending → Type 0 = λ z. IsScheduled o here transactions (t ∷ transactions) z d in
       record {
-        turns = turns;
-        begun = t ∷ turns;
+        transactions = transactions;
+        begun = t ∷ transactions;
         keeps = a.keeps;
         newest_is = a.newest_is;
         schedule = subst Scheduled (sym a.waiting_is) (record {
           t = t;
           begun_are = refl;
-          waiting_is = waits_on o history entry t turns a.was (a.ends_is ∙ other);
+          waiting_is = waits_on o history entry t transactions a.was (a.ends_is ∙ other);
           prefix_is = a.prefix_is;
           parts_are = a.parts_are;
           awaits_are = a.awaits_are;
@@ -71,77 +71,77 @@ module _ (o : Opening) (history : List Entry) (entry : Entry) where
         within = omega arith;
       }
 
-  abbrev commit_keeps : (turns : List Turn) (t : Turn) (p : Pending) (d : TxnValue) → Awaits turns t p d → Keeps o here (t ∷ turns) (t ∷ turns) (d.number + 1) p.prefix p.arrangement.parts d.windows d.gone
-  commit_keeps turns t p d a = keeps_committed o here turns t d.number d.prefix d.current.parts d.windows d.gone p a.keeps a.prefix_is a.parts_are
+  abbrev commit_keeps : (transactions : List Transaction) (t : Transaction) (p : Pending) (d : TxnValue) → Awaits transactions t p d → Keeps o here (t ∷ transactions) (t ∷ transactions) (d.number + 1) p.prefix p.arrangement.parts d.windows d.gone
+  commit_keeps transactions t p d a = keeps_committed o here transactions t d.number d.prefix d.current.parts d.windows d.gone p a.keeps a.prefix_is a.parts_are
 
   -- one that begins here may end here exactly where nobody is left
-  ends_begun : (turns : List Turn) (number prefix : ℕ) (current : List Placed) (windows : Windows) (buffers : Buffers) (left : ℕ) → Keeps o here turns (turn_from o turns here ∷ turns) number prefix current windows buffers
-      → left ≡ count_unanswered (length turns + 1) windows → may_end o (length turns + 1) (turn_from o turns here) here ≡ eqb left 0
-  ends_begun turns number prefix current windows buffers left k left_is =
+  ends_begun : (transactions : List Transaction) (number prefix : ℕ) (current : List Placed) (windows : Windows) (buffers : Buffers) (left : ℕ) → Keeps o here transactions (transaction_from o transactions here ∷ transactions) number prefix current windows buffers
+      → left ≡ count_unanswered (length transactions + 1) windows → may_end o (length transactions + 1) (transaction_from o transactions here) here ≡ eqb left 0
+  ends_begun transactions number prefix current windows buffers left k left_is =
       let late : leb (length here) (length history) ≡ false = lt-leb (length here) (length history) (omega arith) in
-      let not_named : is_named (length turns + 1) (length here) here ≡ false = rw late (and_right (names (length turns + 1) entry) false refl) in
-      or_none _ (is_named (length turns + 1) (length here) here) not_named
-      ∙ (answered_is o here turns (turn_from o turns here) windows buffers number prefix current k refl ∙ ap (λ z. eqb z 0) (sym left_is))
+      let not_named : is_named (length transactions + 1) (length here) here ≡ false = rw late (and_right (names (length transactions + 1) entry) false refl) in
+      or_none _ (is_named (length transactions + 1) (length here) here) not_named
+      ∙ (answered_is o here transactions (transaction_from o transactions here) windows buffers number prefix current k refl ∙ ap (λ z. eqb z 0) (sym left_is))
 
   module _ (steps : ℕ) (steps_are : steps ≡ length history + 1) where
-    finish_step : (turns : List Turn) (a : Arrangement) (d : TxnValue) → Awaits turns (turn_from o turns here) (record { prefix = steps; arrangement = a }) d → a.parts ≡ arrangement o here → d.newest ≡ None → length turns ≤ length history
+    finish_step : (transactions : List Transaction) (a : Arrangement) (d : TxnValue) → Awaits transactions (transaction_from o transactions here) (record { prefix = steps; arrangement = a }) d → a.parts ≡ arrangement o here → d.newest ≡ None → length transactions ≤ length history
         → (b : Bool) → eqb d.left 0 ≡ b → StandsFor o here (cond b (committed d) d)
-    finish_step turns a d w parts_are none_newest within false left = stands_waiting turns (turn_from o turns here) _ d w left within
-    finish_step turns a d w parts_are none_newest within true left =
-        let t = turn_from o turns here in
+    finish_step transactions a d w parts_are none_newest within false left = stands_waiting transactions (transaction_from o transactions here) _ d w left within
+    finish_step transactions a d w parts_are none_newest within true left =
+        let t = transaction_from o transactions here in
         let p : Pending = record { prefix = steps; arrangement = a } in
         let StandsHere : TxnValue → Type 0 = StandsFor o here in
         subst StandsHere (ap (λ z. commit_pending z d) (sym w.waiting_is))
-        (stands_idle (t ∷ turns) (commit_pending (Some p) d) (commit_keeps turns t p d w) (ends_here o history entry t turns w.was (w.ends_is ∙ left)) refl (eqb-true d.left 0 left) none_newest (same_itself (arrangement o here)) (omega arith))
+        (stands_idle (t ∷ transactions) (commit_pending (Some p) d) (commit_keeps transactions t p d w) (ends_here o history entry t transactions w.was (w.ends_is ∙ left)) refl (eqb-true d.left 0 left) none_newest (same_itself (arrangement o here)) (omega arith))
 
-    next_step : (turns : List Turn) (a : Arrangement) (d : TxnValue) → Keeps o here turns turns d.number d.prefix d.current.parts d.windows d.gone → WasIdle o entry history turns → d.waiting ≡ None → d.left ≡ 0 → d.newest ≡ None
-        → a.parts ≡ arrangement o here → length turns ≤ length history → (b : Bool) → same_parts a.parts d.current.parts ≡ b → StandsFor o here (cond b d (finished (began steps a d)))
-    next_step turns a d k was none_waits none_left none_newest parts_are within true alike =
-        stands_idle turns d k was none_waits none_left none_newest (ap₂ same_parts (sym parts_are) (sym k.current_is) ∙ alike) (omega arith)
-    next_step turns a d k was none_waits none_left none_newest parts_are within false alike =
-        let t = turn_from o turns here in
-        let n = length turns + 1 in
-        let other : differs o turns here ≡ true = ap not (ap₂ same_parts (sym parts_are) (sym k.current_is) ∙ alike) in
-        let asked : ask_all (d.number + 1) a.parts d.windows ≡ ask_all n a.parts d.windows = ap (λ z. ask_all (z + 1) a.parts d.windows) k.number_is in
+    next_step : (transactions : List Transaction) (a : Arrangement) (d : TxnValue) → Keeps o here transactions transactions d.number d.prefix d.current.parts d.windows d.gone → WasIdle o entry history transactions → d.waiting ≡ None → d.left ≡ 0 → d.newest ≡ None
+        → a.parts ≡ arrangement o here → length transactions ≤ length history → (b : Bool) → same_parts a.parts d.current.parts ≡ b → StandsFor o here (cond b d (finished (began steps a d)))
+    next_step transactions a d k was none_waits none_left none_newest parts_are within true alike =
+        stands_idle transactions d k was none_waits none_left none_newest (ap₂ same_parts (sym parts_are) (sym k.current_is) ∙ alike) (omega arith)
+    next_step transactions a d k was none_waits none_left none_newest parts_are within false alike =
+        let t = transaction_from o transactions here in
+        let n = length transactions + 1 in
+        let other : differs o transactions here ≡ true = ap not (ap₂ same_parts (sym parts_are) (sym k.current_is) ∙ alike) in
+        let configured : configure_all (d.number + 1) a.parts d.windows ≡ configure_all n a.parts d.windows = ap (λ z. configure_all (z + 1) a.parts d.windows) k.number_is in
         let counted : count_all (d.number + 1) a.parts d.windows ≡ count_all n a.parts d.windows = ap (λ z. count_all (z + 1) a.parts d.windows) k.number_is in
-        let Kept : Windows → Type 0 = λ z. Keeps o here turns (t ∷ turns) d.number d.prefix d.current.parts z d.gone in
-        let keeps = subst Kept (sym asked) (keeps_asked o here turns d.number d.prefix d.current.parts a.parts d.windows d.gone parts_are k) in
-        let left_is : count_all (d.number + 1) a.parts d.windows ≡ count_unanswered n (ask_all (d.number + 1) a.parts d.windows) =
-        counted ∙ (left_asked o here turns d.number d.prefix d.current.parts a.parts d.windows d.gone k ∙ ap (count_unanswered n) (sym asked)) in
-        finish_step turns a (began steps a d) (record {
+        let Kept : Windows → Type 0 = λ z. Keeps o here transactions (t ∷ transactions) d.number d.prefix d.current.parts z d.gone in
+        let keeps = subst Kept (sym configured) (keeps_configured o here transactions d.number d.prefix d.current.parts a.parts d.windows d.gone parts_are k) in
+        let left_is : count_all (d.number + 1) a.parts d.windows ≡ count_unanswered n (configure_all (d.number + 1) a.parts d.windows) =
+        counted ∙ (left_configured o here transactions d.number d.prefix d.current.parts a.parts d.windows d.gone k ∙ ap (count_unanswered n) (sym configured)) in
+        finish_step transactions a (began steps a d) (record {
           keeps = keeps;
-          was = begins_here o history entry turns was other;
+          was = begins_here o history entry transactions was other;
           waiting_is = refl;
           prefix_is = omega (arith, steps_are);
           parts_are = parts_are;
           awaits_are = refl;
-          ends_is = ends_begun turns d.number d.prefix d.current.parts (ask_all (d.number + 1) a.parts d.windows) d.gone (count_all (d.number + 1) a.parts d.windows) keeps left_is;
+          ends_is = ends_begun transactions d.number d.prefix d.current.parts (configure_all (d.number + 1) a.parts d.windows) d.gone (count_all (d.number + 1) a.parts d.windows) keeps left_is;
           left_is = λ above. left_is;
           newest_is = subst (IsNewest (arrangement o here) (arrangement o here)) (sym none_newest) (same_itself (arrangement o here));
         }) parts_are none_newest within (eqb (count_all (d.number + 1) a.parts d.windows) 0) refl
 
-    follow_step : (turns : List Turn) (d : TxnValue) → Keeps o here turns turns d.number d.prefix d.current.parts d.windows d.gone → WasIdle o entry history turns → d.waiting ≡ None → d.left ≡ 0
-        → length turns ≤ length history → (found : Option Arrangement) → IsNewest (arrangement o here) (last_parts o turns) found → StandsFor o here (next_with steps found (record d { newest = None }))
-    follow_step turns d k was none_waits none_left within None newest = stands_idle turns (record d { newest = None }) k was none_waits none_left refl newest (omega arith)
-    follow_step turns d k was none_waits none_left within (Some a) newest =
-        next_step turns a (record d { newest = None }) k was none_waits none_left refl newest within (same_parts a.parts d.current.parts) refl
+    follow_step : (transactions : List Transaction) (d : TxnValue) → Keeps o here transactions transactions d.number d.prefix d.current.parts d.windows d.gone → WasIdle o entry history transactions → d.waiting ≡ None → d.left ≡ 0
+        → length transactions ≤ length history → (found : Option Arrangement) → IsNewest (arrangement o here) (last_parts o transactions) found → StandsFor o here (next_with steps found (record d { newest = None }))
+    follow_step transactions d k was none_waits none_left within None newest = stands_idle transactions (record d { newest = None }) k was none_waits none_left refl newest (omega arith)
+    follow_step transactions d k was none_waits none_left within (Some a) newest =
+        next_step transactions a (record d { newest = None }) k was none_waits none_left refl newest within (same_parts a.parts d.current.parts) refl
 
-    settle_step : (turns : List Turn) (t : Turn) (p : Pending) (d : TxnValue) → Awaits turns t p d → length turns + 1 ≤ length history → (b : Bool) → eqb d.left 0 ≡ b → StandsFor o here (cond b (followed steps (committed d)) d)
-    settle_step turns t p d w within false left = stands_waiting turns t p d w left (omega arith)
-    settle_step turns t p d w within true left =
+    settle_step : (transactions : List Transaction) (t : Transaction) (p : Pending) (d : TxnValue) → Awaits transactions t p d → length transactions + 1 ≤ length history → (b : Bool) → eqb d.left 0 ≡ b → StandsFor o here (cond b (followed steps (committed d)) d)
+    settle_step transactions t p d w within false left = stands_waiting transactions t p d w left (omega arith)
+    settle_step transactions t p d w within true left =
         let StandsHere : TxnValue → Type 0 = StandsFor o here in
         subst StandsHere (ap (λ z. followed steps (commit_pending z d)) (sym w.waiting_is))
-        (follow_step (t ∷ turns) (commit_pending (Some p) d) (commit_keeps turns t p d w) (ends_here o history entry t turns w.was (w.ends_is ∙ left)) refl (eqb-true d.left 0 left) (omega arith) d.newest w.newest_is)
+        (follow_step (t ∷ transactions) (commit_pending (Some p) d) (commit_keeps transactions t p d w) (ends_here o history entry t transactions w.was (w.ends_is ∙ left)) refl (eqb-true d.left 0 left) (omega arith) d.newest w.newest_is)
 
     -- where one waited
-    pub settles_waiting : (turns : List Turn) (t : Turn) (p : Pending) (d : TxnValue) → Awaits turns t p d → length turns + 1 ≤ length history → StandsFor o here (settled steps d)
-    settles_waiting turns t p d w within = settle_step turns t p d w within (eqb d.left 0) refl
+    pub settles_waiting : (transactions : List Transaction) (t : Transaction) (p : Pending) (d : TxnValue) → Awaits transactions t p d → length transactions + 1 ≤ length history → StandsFor o here (settled steps d)
+    settles_waiting transactions t p d w within = settle_step transactions t p d w within (eqb d.left 0) refl
 
     -- where none waited
-    pub settles_idle : (turns : List Turn) (d : TxnValue) → Keeps o here turns turns d.number d.prefix d.current.parts d.windows d.gone → WasIdle o entry history turns → d.waiting ≡ None → d.left ≡ 0
-        → IsNewest (arrangement o here) (last_parts o turns) d.newest → length turns ≤ length history → StandsFor o here (settled steps d)
-    settles_idle turns d k was none_waits none_left newest within =
+    pub settles_idle : (transactions : List Transaction) (d : TxnValue) → Keeps o here transactions transactions d.number d.prefix d.current.parts d.windows d.gone → WasIdle o entry history transactions → d.waiting ≡ None → d.left ≡ 0
+        → IsNewest (arrangement o here) (last_parts o transactions) d.newest → length transactions ≤ length history → StandsFor o here (settled steps d)
+    settles_idle transactions d k was none_waits none_left newest within =
         let StandsHere : TxnValue → Type 0 = StandsFor o here in
         let left : eqb d.left 0 ≡ true = rw none_left refl in
         subst StandsHere (ap (λ z. cond z (followed steps (committed d)) d) (sym left))
-        (subst StandsHere (ap (λ z. followed steps (commit_pending z d)) (sym none_waits)) (follow_step turns d k was none_waits none_left within d.newest newest))
+        (subst StandsHere (ap (λ z. followed steps (commit_pending z d)) (sym none_waits)) (follow_step transactions d k was none_waits none_left within d.newest newest))

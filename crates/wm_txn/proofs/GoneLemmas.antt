@@ -10,7 +10,7 @@ use Rattle.wm_forest.specs.Look.{same}
 use Rattle.wm_arrange.specs.declared.parts.Placed.{Placed}
 use Rattle.wm_txn.specs.History.{Opening, Entry, is_open}
 use Rattle.wm_txn.specs.Machine.{TxnValue, tucked}
-use Rattle.wm_txn.specs.Schedule.{Turn}
+use Rattle.wm_txn.specs.Schedule.{Transaction}
 use Rattle.wm_txn.specs.Stands.{IsGone, IsHeld, IsKept, IsLeft, IsScheduled, Keeps, StandsFor}
 use Rattle.wm_txn.specs.Windows.{AreSorted, Buffers, Windows, count_unanswered, find, is_unanswered, left_of, one_if}
 use Rattle.wm_txn.specs.declared.held.Held.{Held}
@@ -20,14 +20,14 @@ use Rattle.wm_txn.proofs.WindowLemmas.{find_insert, one_id}
 -- ---- what the history says of a window that is gone
 
 -- it is closed
-pub left_closed : (o : Opening) (history : List Entry) (turns begun : List Turn) (v : ConId) (left : Option Buffer) → IsLeft o history turns begun v left → is_open o v history ≡ false
-left_closed o history turns begun v None h = h.not_open
-left_closed o history turns begun v (Some buffer) h = h.held_is.live_is ∙ h.closed
+pub left_closed : (o : Opening) (history : List Entry) (transactions begun : List Transaction) (v : ConId) (left : Option Buffer) → IsLeft o history transactions begun v left → is_open o v history ≡ false
+left_closed o history transactions begun v None h = h.not_open
+left_closed o history transactions begun v (Some buffer) h = h.held_is.live_is ∙ h.closed
 
 -- what is held of it may change while it stays closed, with its newest buffer
-pub gone_on : (o : Opening) (before after : List Entry) (turns begun later more : List Turn) (v : ConId) (buffer : Buffer) (w : Held) → (h : IsGone o before turns begun v buffer) → IsHeld o after later more v w
-    → w.live ≡ false → w.under ≡ h.held.under → w.newest ≡ h.held.newest → length turns ≤ length later → IsGone o after later more v buffer
-gone_on o before after turns begun later more v buffer w h held closed under newest le = record {
+pub gone_on : (o : Opening) (before after : List Entry) (transactions begun later more : List Transaction) (v : ConId) (buffer : Buffer) (w : Held) → (h : IsGone o before transactions begun v buffer) → IsHeld o after later more v w
+    → w.live ≡ false → w.buffer_serial ≡ h.held.buffer_serial → w.buffer ≡ h.held.buffer → length transactions ≤ length later → IsGone o after later more v buffer
+gone_on o before after transactions begun later more v buffer w h held closed under newest le = record {
   held = w;
   held_is = held;
   closed = closed;
@@ -36,8 +36,8 @@ gone_on o before after turns begun later more v buffer w h held closed under new
 }
 
 -- what is kept of a window that was found
-pub held_at : (o : Opening) (history : List Entry) (turns begun : List Turn) (v : ConId) (found : Option Held) (left : Option Buffer) (w : Held) → found ≡ Some w → IsKept o history turns begun v found left → IsHeld o history turns begun v w
-held_at o history turns begun v found left w at kept = subst (λ z. IsKept o history turns begun v z left) at kept
+pub held_at : (o : Opening) (history : List Entry) (transactions begun : List Transaction) (v : ConId) (found : Option Held) (left : Option Buffer) (w : Held) → found ≡ Some w → IsKept o history transactions begun v found left → IsHeld o history transactions begun v w
+held_at o history transactions begun v found left w at kept = subst (λ z. IsKept o history transactions begun v z left) at kept
 
 -- ---- a window goes
 
@@ -61,22 +61,22 @@ count_without n c w [] there = cc
 count_without n c w (e ∷ windows) there =
     count_step n w e windows (without_window c windows) (find c windows) (is_at (nat_cmp c.0) e.0) there (count_without n c w windows)
 
-module _ (o : Opening) (history : List Entry) (turns begun : List Turn) (c : ConId) (w : Held) (windows : Windows) (buffers : Buffers) (at : find c windows ≡ Some w) (closed : w.live ≡ false) where
-  kept_by : (v : ConId) (b : Bool) → same c v ≡ b → w.under ≤ length turns → ((z : ConId) → IsKept o history turns begun z (find z windows) (left_of z buffers))
-      → IsKept o history turns begun v (cond b None (find v windows)) (cond b (Some w.newest) (left_of v buffers))
+module _ (o : Opening) (history : List Entry) (transactions begun : List Transaction) (c : ConId) (w : Held) (windows : Windows) (buffers : Buffers) (at : find c windows ≡ Some w) (closed : w.live ≡ false) where
+  kept_by : (v : ConId) (b : Bool) → same c v ≡ b → w.buffer_serial ≤ length transactions → ((z : ConId) → IsKept o history transactions begun z (find z windows) (left_of z buffers))
+      → IsKept o history transactions begun v (cond b None (find v windows)) (cond b (Some w.buffer) (left_of v buffers))
   kept_by v true one done each =
-      subst (λ z. IsGone o history turns begun z w.newest) (one_id c v one)
-      (record { held = w; held_is = held_at o history turns begun c (find c windows) (left_of c buffers) w at (each c); closed = closed; done = done; newest_is = refl })
+      subst (λ z. IsGone o history transactions begun z w.buffer) (one_id c v one)
+      (record { held = w; held_is = held_at o history transactions begun c (find c windows) (left_of c buffers) w at (each c); closed = closed; done = done; newest_is = refl })
   kept_by v false other done each = each v
 
-  kept_gone : (v : ConId) → AreSorted windows → w.under ≤ length turns → ((z : ConId) → IsKept o history turns begun z (find z windows) (left_of z buffers))
-      → IsKept o history turns begun v (find v (without_window c windows)) (left_of v (insert_entry nat_cmp buffers c.0 w.newest))
+  kept_gone : (v : ConId) → AreSorted windows → w.buffer_serial ≤ length transactions → ((z : ConId) → IsKept o history transactions begun z (find z windows) (left_of z buffers))
+      → IsKept o history transactions begun v (find v (without_window c windows)) (left_of v (insert_entry nat_cmp buffers c.0 w.buffer))
   kept_gone v sorted done each =
-      subst (λ z. IsKept o history turns begun v (find v (without_window c windows)) z) (sym (find_insert c v w.newest buffers))
-      (subst (λ z. IsKept o history turns begun v z (cond (same c v) (Some w.newest) (left_of v buffers))) (sym (find_without c v windows sorted)) (kept_by v (same c v) refl done each))
+      subst (λ z. IsKept o history transactions begun v (find v (without_window c windows)) z) (sym (find_insert c v w.buffer buffers))
+      (subst (λ z. IsKept o history transactions begun v z (cond (same c v) (Some w.buffer) (left_of v buffers))) (sym (find_without c v windows sorted)) (kept_by v (same c v) refl done each))
 
-  keeps_gone : (number prefix : ℕ) (current : List Placed) → w.under ≤ number → AreSorted (without_window c windows) → Keeps o history turns begun number prefix current windows buffers
-      → Keeps o history turns begun number prefix current (without_window c windows) (insert_entry nat_cmp buffers c.0 w.newest)
+  keeps_gone : (number prefix : ℕ) (current : List Placed) → w.buffer_serial ≤ number → AreSorted (without_window c windows) → Keeps o history transactions begun number prefix current windows buffers
+      → Keeps o history transactions begun number prefix current (without_window c windows) (insert_entry nat_cmp buffers c.0 w.buffer)
   keeps_gone number prefix current done sorted k = record {
     number_is = k.number_is;
     prefix_is = k.prefix_is;
@@ -93,26 +93,26 @@ none_awaited c w windows at closed n =
     omega arith
 
 module _ (o : Opening) (history : List Entry) (d : TxnValue) (c : ConId) (w : Held) (at : find c d.windows ≡ Some w) (closed : w.live ≡ false) where
-  schedule_gone : (turns begun : List Turn) (waiting : Option Pending) → IsScheduled o history turns begun waiting d → IsScheduled o history turns begun waiting (tucked c w d)
-  schedule_gone turns begun None s = s
-  schedule_gone turns begun (Some p) s = record {
+  schedule_gone : (transactions begun : List Transaction) (waiting : Option Pending) → IsScheduled o history transactions begun waiting d → IsScheduled o history transactions begun waiting (tucked c w d)
+  schedule_gone transactions begun None s = s
+  schedule_gone transactions begun (Some p) s = record {
     t = s.t;
     begun_are = s.begun_are;
     waiting_is = s.waiting_is;
     prefix_is = s.prefix_is;
     parts_are = s.parts_are;
     awaits_are = s.awaits_are;
-    left_is = s.left_is ∙ sym (none_awaited c w d.windows at closed (length turns + 1));
+    left_is = s.left_is ∙ sym (none_awaited c w d.windows at closed (length transactions + 1));
     some_left = s.some_left;
   }
 
   -- the machine stands where the closed window c, whose newest buffer is done, goes
-  pub stands_tucked : w.under ≤ d.number → AreSorted (without_window c d.windows) → StandsFor o history d → StandsFor o history (tucked c w d)
+  pub stands_tucked : w.buffer_serial ≤ d.number → AreSorted (without_window c d.windows) → StandsFor o history d → StandsFor o history (tucked c w d)
   stands_tucked done sorted s = record {
-    turns = s.turns;
+    transactions = s.transactions;
     begun = s.begun;
-    keeps = keeps_gone o history s.turns s.begun c w d.windows d.gone at closed d.number d.prefix d.current.parts done sorted s.keeps;
+    keeps = keeps_gone o history s.transactions s.begun c w d.windows d.gone at closed d.number d.prefix d.current.parts done sorted s.keeps;
     newest_is = s.newest_is;
-    schedule = schedule_gone s.turns s.begun d.waiting s.schedule;
+    schedule = schedule_gone s.transactions s.begun d.waiting s.schedule;
     within = s.within;
   }

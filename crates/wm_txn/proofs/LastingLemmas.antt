@@ -7,13 +7,14 @@ use Rattle.wm_base.specs.declared.ids.Buffer.{Buffer}
 use Rattle.wm_base.specs.declared.ids.ConId.{ConId}
 use Rattle.wm_arrange.specs.declared.parts.Placed.{Placed}
 use Rattle.wm_arrange.specs.Sizes.{is_content}
-use Rattle.wm_txn.specs.Commits.{done, ended_turns, greatest, has_ended, prefix_of, turns_up_to}
-use Rattle.wm_txn.specs.Heard.{hear, heard}
+use Rattle.wm_txn.specs.Commits.{done, ended_transactions, greatest, has_ended, prefix_of, transactions_up_to}
+use Rattle.wm_txn.specs.Accepted.{accept, accepted}
 use Rattle.wm_txn.specs.History.{Opening, Entry, arrangement, gave, gives, is_open, last}
 use Rattle.wm_txn.specs.Lasting.{BegunStays, EndedStays, NeverFalls, EndsTwiceAtMost, SecondAwaitsNobody}
 use Rattle.wm_txn.specs.Machine.{TxnValue}
 use Rattle.wm_txn.specs.Windows.{find, left_of}
-use Rattle.wm_txn.specs.Schedule.{Turn, answered, configures, contents, differs, ended, is_named, may_end, names, next, past}
+use Rattle.std.specs.Prelude.{unwrap_or}
+use Rattle.wm_txn.specs.Schedule.{Transaction, answered, configures, contents, differs, ended, is_named, may_end, names, next, past}
 use Rattle.wm_txn.specs.Stands.{IsHeld, IsKept}
 use Rattle.wm_txn.specs.declared.held.Held.{Held}
 use Rattle.wm_txn.proofs.AnswerLemmas.{has, has_here, has_later}
@@ -25,10 +26,10 @@ use Rattle.wm_txn.proofs.ScheduleLemmas.{ended_stays, past_stays}
 use Rattle.wm_txn.proofs.BeginLemmas.{Beginning, beginning, begins_there, ended_late, first_holds, first_late, none_beyond, once_step, past_length}
 
 pub begun_lasts : BegunStays
-begun_lasts o history entry i turns h = past_stays o history entry i turns h
+begun_lasts o history entry i transactions h = past_stays o history entry i transactions h
 
 pub ended_lasts : EndedStays
-ended_lasts o history entry turns place h = ended_stays o history entry turns place h
+ended_lasts o history entry transactions place h = ended_stays o history entry transactions place h
 
 -- ---- numbers
 
@@ -60,18 +61,18 @@ greatest_above test (suc m) i le h = by (test (suc m)) refl (λ less. greatest_a
     ]
 
 record HasPlace (o : Opening) (history : List Entry) (i : ℕ) : Type 0 where
-  turns : List Turn
+  transactions : List Transaction
   place : List Entry
-  past_is : past o i history ≡ Some turns
-  ended_at : ended o turns history ≡ Some place
+  past_is : past o i history ≡ Some transactions
+  ended_at : ended o transactions history ≡ Some place
 
-place_by : (o : Opening) (history : List Entry) (i : ℕ) (found : Option (List Turn)) → past o i history ≡ found → is_some (option_and_then (λ turns. ended o turns history) found) ≡ true → HasPlace o history i
+place_by : (o : Opening) (history : List Entry) (i : ℕ) (found : Option (List Transaction)) → past o i history ≡ found → is_some (option_and_then (λ transactions. ended o transactions history) found) ≡ true → HasPlace o history i
 place_by o history i None at h = let bad : false ≡ true = h in cc
-place_by o history i (Some turns) at h = by (ended o turns history) refl h
+place_by o history i (Some transactions) at h = by (ended o transactions history) refl h
   where
-    by : (found : Option (List Entry)) → ended o turns history ≡ found → is_some found ≡ true → HasPlace o history i
+    by : (found : Option (List Entry)) → ended o transactions history ≡ found → is_some found ≡ true → HasPlace o history i
     by None e k = let bad : false ≡ true = k in cc
-    by (Some place) e k = record { turns = turns; place = place; past_is = at; ended_at = e }
+    by (Some place) e k = record { transactions = transactions; place = place; past_is = at; ended_at = e }
 
 has_place : (o : Opening) (history : List Entry) (i : ℕ) → has_ended o history i ≡ true → HasPlace o history i
 has_place o history i h = place_by o history i (past o i history) refl h
@@ -82,7 +83,7 @@ place_has o history i p = rw (p.past_is, p.ended_at) refl
 ended_again : (o : Opening) (history : List Entry) (entry : Entry) (i : ℕ) → has_ended o history i ≡ true → has_ended o (entry ∷ history) i ≡ true
 ended_again o history entry i h =
     let p = has_place o history i h in
-    place_has o (entry ∷ history) i (record { turns = p.turns; place = p.place; past_is = past_stays o history entry i p.turns p.past_is; ended_at = ended_stays o history entry p.turns p.place p.ended_at })
+    place_has o (entry ∷ history) i (record { transactions = p.transactions; place = p.place; past_is = past_stays o history entry i p.transactions p.past_is; ended_at = ended_stays o history entry p.transactions p.place p.ended_at })
 
 done_rises : (o : Opening) (history : List Entry) (entry : Entry) → done o history ≤ done o (entry ∷ history)
 done_rises o history entry =
@@ -93,62 +94,70 @@ done_rises o history entry =
           greatest_above (has_ended o (entry ∷ history)) (length (entry ∷ history)) (done o history) (omega arith) (ended_again o history entry (done o history) holds)
     ]
 
-unwrapped : (o : Opening) (history : List Entry) (i : ℕ) (turns : List Turn) → past o i history ≡ Some turns → past o i history ≡ Some (turns_up_to o i history)
-unwrapped o history i turns h = h ∙ ap (λ z. Some z) (sym (rw h refl))
+unwrapped : (o : Opening) (history : List Entry) (i : ℕ) (transactions : List Transaction) → past o i history ≡ Some transactions → past o i history ≡ Some (transactions_up_to o i history)
+unwrapped o history i transactions h = h ∙ ap (λ z. Some z) (sym (rw h refl))
 
 -- the transactions that have ended have begun
-pub done_past : (o : Opening) (history : List Entry) → past o (done o history) history ≡ Some (ended_turns o history)
+pub done_past : (o : Opening) (history : List Entry) → past o (done o history) history ≡ Some (ended_transactions o history)
 done_past o history =
     elim (greatest_holds (has_ended o history) (length history)) [
       | inl none ↦ unwrapped o history (done o history) [] (ap (λ z. past o z history) none)
-      | inr holds ↦ let p = has_place o history (done o history) holds in unwrapped o history (done o history) p.turns p.past_is
+      | inr holds ↦ let p = has_place o history (done o history) holds in unwrapped o history (done o history) p.transactions p.past_is
     ]
 
-prefix_step : (o : Opening) (history : List Entry) (turns us : List Turn) (t : Turn) (before : Option (List Turn)) → Beginning o history before t us → prefix_of turns ≤ prefix_of us → prefix_of turns ≤ t.prefix
-prefix_step o history turns [] t before b h = omega arith
-prefix_step o history turns (u ∷ us) t before b h =
+-- and the last of them has ended
+pub done_ended : (o : Opening) (history : List Entry) → (place : List Entry) × (ended o (ended_transactions o history) history ≡ Some place)
+done_ended o history =
+    elim (greatest_holds (has_ended o history) (length history)) [
+      | inl none ↦ ([], ap (λ n. ended o (transactions_up_to o n history) history) none)
+      | inr holds ↦ let p = has_place o history (done o history) holds in (p.place, ap (λ z. ended o (unwrap_or z []) history) p.past_is ∙ p.ended_at)
+    ]
+
+prefix_step : (o : Opening) (history : List Entry) (transactions us : List Transaction) (t : Transaction) (before : Option (List Transaction)) → Beginning o history before t us → prefix_of transactions ≤ prefix_of us → prefix_of transactions ≤ t.prefix
+prefix_step o history transactions [] t before b h = omega arith
+prefix_step o history transactions (u ∷ us) t before b h =
     let late = ended_late o history u us b.ended_place b.ended_at in
     let bounds = first_within (differs o (u ∷ us)) (length b.ended_place) history b.place b.found in
-    let at : t.prefix ≡ length b.place = ap (λ (z : Turn). z.prefix) b.turn_is in
+    let at : t.prefix ≡ length b.place = ap (λ (z : Transaction). z.prefix) b.transaction_is in
     omega arith
 
-prefix_rises : (o : Opening) (history : List Entry) (i j : ℕ) (turns later : List Turn) → i ≤ j → past o i history ≡ Some turns → past o j history ≡ Some later → prefix_of turns ≤ prefix_of later
-prefix_rises o history i zero turns later le at_i at_j =
+prefix_rises : (o : Opening) (history : List Entry) (i j : ℕ) (transactions later : List Transaction) → i ≤ j → past o i history ≡ Some transactions → past o j history ≡ Some later → prefix_of transactions ≤ prefix_of later
+prefix_rises o history i zero transactions later le at_i at_j =
     let zero_i : i ≡ 0 = omega arith in
-    let none : length turns ≡ 0 = past_length o history i turns at_i ∙ zero_i in
-    by turns none
+    let none : length transactions ≡ 0 = past_length o history i transactions at_i ∙ zero_i in
+    by transactions none
   where
-    by : (turns : List Turn) → length turns ≡ 0 → prefix_of turns ≤ prefix_of later
+    by : (transactions : List Transaction) → length transactions ≡ 0 → prefix_of transactions ≤ prefix_of later
     by [] e = omega arith
-    by (t ∷ turns) e = absurd (omega arith)
-prefix_rises o history i (suc j) turns [] le at_i at_j = absurd (omega (arith, past_length o history (suc j) [] at_j))
-prefix_rises o history i (suc j) turns (t ∷ us) le at_i at_j =
+    by (t ∷ transactions) e = absurd (omega arith)
+prefix_rises o history i (suc j) transactions [] le at_i at_j = absurd (omega (arith, past_length o history (suc j) [] at_j))
+prefix_rises o history i (suc j) transactions (t ∷ us) le at_i at_j =
     elim (cases_lt j i) [
       | inl last_one ↦
           let same : i ≡ suc j = omega arith in
-          let e : Some turns ≡ Some (t ∷ us) = sym at_i ∙ (ap (λ z. past o z history) same ∙ at_j) in
-          let same_turns : turns ≡ t ∷ us = cc in
-          subst (λ z. prefix_of z ≤ t.prefix) (sym same_turns) (omega arith)
+          let e : Some transactions ≡ Some (t ∷ us) = sym at_i ∙ (ap (λ z. past o z history) same ∙ at_j) in
+          let same_transactions : transactions ≡ t ∷ us = cc in
+          subst (λ z. prefix_of z ≤ t.prefix) (sym same_transactions) (omega arith)
       | inr less ↦
           let b = beginning o history (past o j history) t us at_j in
-          prefix_step o history turns us t (past o j history) b (prefix_rises o history i j turns us less at_i b.before_is)
+          prefix_step o history transactions us t (past o j history) b (prefix_rises o history i j transactions us less at_i b.before_is)
     ]
 
 pub never_falls : NeverFalls
 never_falls o history entry =
     let rises = done_rises o history entry in (
       rises,
-      prefix_rises o (entry ∷ history) (done o history) (done o (entry ∷ history)) (ended_turns o history) (ended_turns o (entry ∷ history)) rises
-          (past_stays o history entry (done o history) (ended_turns o history) (done_past o history)) (done_past o (entry ∷ history)),
+      prefix_rises o (entry ∷ history) (done o history) (done o (entry ∷ history)) (ended_transactions o history) (ended_transactions o (entry ∷ history)) rises
+          (past_stays o history entry (done o history) (ended_transactions o history) (done_past o history)) (done_past o (entry ∷ history)),
     )
 
 -- ---- two ends
 
-not_ended_next : (o : Opening) (history : List Entry) (found : Option (List Turn)) → is_some (option_and_then (λ turns. ended o turns history) found) ≡ false → next o history found ≡ None
+not_ended_next : (o : Opening) (history : List Entry) (found : Option (List Transaction)) → is_some (option_and_then (λ transactions. ended o transactions history) found) ≡ false → next o history found ≡ None
 not_ended_next o history None h = refl
-not_ended_next o history (Some turns) h = by (ended o turns history) refl h
+not_ended_next o history (Some transactions) h = by (ended o transactions history) refl h
   where
-    by : (found : Option (List Entry)) → ended o turns history ≡ found → is_some found ≡ false → next o history (Some turns) ≡ None
+    by : (found : Option (List Entry)) → ended o transactions history ≡ found → is_some found ≡ false → next o history (Some transactions) ≡ None
     by None e k = rw e refl
     by (Some place) e k = let bad : true ≡ false = k in cc
 
@@ -171,7 +180,7 @@ ends_twice o history entry =
       | inl zero_m ↦ omega arith
       | inr holds ↦ elim (cases_lt (suc (suc (done o history))) m) [
         | inl above ↦ let p = has_place o (entry ∷ history) m holds in
-            let bad : None ≡ Some p.turns = sym (beyond o (entry ∷ history) (suc (suc (done o history))) m none above) ∙ p.past_is in cc
+            let bad : None ≡ Some p.transactions = sym (beyond o (entry ∷ history) (suc (suc (done o history))) m none above) ∙ p.past_is in cc
         | inr within ↦ omega arith
       ]
     ]
@@ -187,14 +196,14 @@ first_has c [] v rest h = cc
 first_has c (p ∷ parts) v rest h = first_has_step c p parts v rest (is_content p.part) (c p.con) refl (first_has c parts v rest) h
 
 module _ (o : Opening) (history : List Entry) (entry : Entry) (d : TxnValue) (e : Sees o history d) where
-  too_new_held : (n : ℕ) → length e.turns + 1 < n → (v : ConId) (w : Held) → IsHeld o history e.turns e.begun v w → gave n v (entry ∷ history) ≡ false
+  too_new_held : (n : ℕ) → length e.transactions + 1 < n → (v : ConId) (w : Held) → IsHeld o history e.transactions e.begun v w → gave n v (entry ∷ history) ≡ false
   too_new_held n above v w kept =
-      let few = few_begun e.turns e.begun e.one_more in
+      let few = few_begun e.transactions e.begun e.one_more in
       let other : eqb (last v history) n ≡ false = ne_eqb (last v history) n (λ same. omega (arith, kept.last_is, kept.acked_le, kept.serial_le)) in
-      let none : gave n v history ≡ false = kept.gave_is n (omega arith) ∙ lt-leb n w.under (omega (arith, kept.under_le, kept.acked_le, kept.serial_le)) in
+      let none : gave n v history ≡ false = kept.gave_is n (omega arith) ∙ lt-leb n w.buffer_serial (omega (arith, kept.under_le, kept.acked_le, kept.serial_le)) in
       or_from (gives v entry && eqb (last v history) n) (gave n v history) (and_right (gives v entry) _ other) none
 
-  too_new : (n : ℕ) → length e.turns + 1 < n → (v : ConId) (found : Option Held) (left : Option Buffer) → IsKept o history e.turns e.begun v found left → gave n v (entry ∷ history) ≡ false
+  too_new : (n : ℕ) → length e.transactions + 1 < n → (v : ConId) (found : Option Held) (left : Option Buffer) → IsKept o history e.transactions e.begun v found left → gave n v (entry ∷ history) ≡ false
   too_new n above v None None kept =
       let other : eqb (last v history) n ≡ false = ne_eqb (last v history) n (λ same. omega (arith, kept.no_last)) in
       or_from (gives v entry && eqb (last v history) n) (gave n v history) (and_right (gives v entry) _ other) (kept.no_gift n)
@@ -202,36 +211,36 @@ module _ (o : Opening) (history : List Entry) (entry : Entry) (d : TxnValue) (e 
   too_new n above v (Some w) left kept = too_new_held n above v w kept
 
 -- a transaction with a number that no window has acknowledged awaits nobody where it ends at once
-nobody : (o : Opening) (history : List Entry) (n : ℕ) (t : Turn) (turns : List Turn) (c : ConId → Bool) → ((v : ConId) → gave n v history ≡ false) → ((v : ConId) → has v (arrangement o history) ≡ true → is_open o v history ≡ true)
+nobody : (o : Opening) (history : List Entry) (n : ℕ) (t : Transaction) (transactions : List Transaction) (c : ConId → Bool) → ((v : ConId) → gave n v history ≡ false) → ((v : ConId) → has v (arrangement o history) ≡ true → is_open o v history ≡ true)
     → (views : List ConId) → contents c (arrangement o history) ≡ views → list_all (answered o n history) views ≡ true → views ≡ []
-nobody o history n t turns c none opens [] at all = refl
-nobody o history n t turns c none opens (v ∷ views) at all =
+nobody o history n t transactions c none opens [] at all = refl
+nobody o history n t transactions c none opens (v ∷ views) at all =
     let answer = and_parts (answered o n history v) (list_all (answered o n history) views) all in
     let there = opens v (first_has c (arrangement o history) v views at) in
     let bad : false ≡ true = rw (none v, there) at answer.0 in
     cc
 
 pub second_awaits_nobody : SecondAwaitsNobody
-second_awaits_nobody o history entry before after stood stands t turns place begun_is ended_at =
-    let g = heard o history in
-    let e' = hear o entry g in
+second_awaits_nobody o history entry before after stood stands t transactions place begun_is ended_at =
+    let g = accepted o history in
+    let e' = accept o entry g in
     let n = done o g + 2 in
     let e = sees o g before stood in
     let none : past o n g ≡ None = ap (λ z. past o z g) (two (done o g)) ∙ not_begun o g in
-    let new = begins_there o g e' n t turns none begun_is in
-    let at_prefix : t.prefix ≡ length (e' ∷ g) = ap (λ (z : Turn). z.prefix) new in
-    let late = ended_late o (e' ∷ g) t turns place ended_at in
-    let here : place ≡ e' ∷ g = first_late (may_end o (length turns + 1) t) t.prefix g place e' ended_at (omega arith) in
-    let may : may_end o (length turns + 1) t (e' ∷ g) ≡ true = ap (may_end o (length turns + 1) t) (sym here) ∙ first_holds (may_end o (length turns + 1) t) t.prefix (e' ∷ g) place ended_at in
-    let number : suc (length turns) ≡ n = past_length o (e' ∷ g) n (t ∷ turns) begun_is in
-    let number_is : length turns + 1 ≡ n = omega arith in
+    let new = begins_there o g e' n t transactions none begun_is in
+    let at_prefix : t.prefix ≡ length (e' ∷ g) = ap (λ (z : Transaction). z.prefix) new in
+    let late = ended_late o (e' ∷ g) t transactions place ended_at in
+    let here : place ≡ e' ∷ g = first_late (may_end o (length transactions + 1) t) t.prefix g place e' ended_at (omega arith) in
+    let may : may_end o (length transactions + 1) t (e' ∷ g) ≡ true = ap (may_end o (length transactions + 1) t) (sym here) ∙ first_holds (may_end o (length transactions + 1) t) t.prefix (e' ∷ g) place ended_at in
+    let number : suc (length transactions) ≡ n = past_length o (e' ∷ g) n (t ∷ transactions) begun_is in
+    let number_is : length transactions + 1 ≡ n = omega arith in
     let not_late : leb t.prefix (length g) ≡ false = lt-leb t.prefix (length g) (omega arith) in
-    let not_named : is_named (length turns + 1) t.prefix (e' ∷ g) ≡ false = rw not_late (and_right (names (length turns + 1) e') false refl) in
-    let all : list_all (answered o (length turns + 1) (e' ∷ g)) t.awaits ≡ true = either (list_all (answered o (length turns + 1) (e' ∷ g)) t.awaits) (is_named (length turns + 1) t.prefix (e' ∷ g)) may not_named in
+    let not_named : is_named (length transactions + 1) t.prefix (e' ∷ g) ≡ false = rw not_late (and_right (names (length transactions + 1) e') false refl) in
+    let all : list_all (answered o (length transactions + 1) (e' ∷ g)) t.awaits ≡ true = either (list_all (answered o (length transactions + 1) (e' ∷ g)) t.awaits) (is_named (length transactions + 1) t.prefix (e' ∷ g)) may not_named in
     let done_is = e.numbers.done_is in
-    let awaits : t.awaits ≡ contents (configures turns (arrangement o (e' ∷ g))) (arrangement o (e' ∷ g)) = ap (λ (z : Turn). z.awaits) new in
-    nobody o (e' ∷ g) (length turns + 1) t turns (configures turns (arrangement o (e' ∷ g)))
-    (λ v. too_new o g e' before e (length turns + 1) (omega arith) v (find v before.windows) (left_of v before.gone) (e.keeps.each v))
+    let awaits : t.awaits ≡ contents (configures transactions (arrangement o (e' ∷ g))) (arrangement o (e' ∷ g)) = ap (λ (z : Transaction). z.awaits) new in
+    nobody o (e' ∷ g) (length transactions + 1) t transactions (configures transactions (arrangement o (e' ∷ g)))
+    (λ v. too_new o g e' before e (length transactions + 1) (omega arith) v (find v before.windows) (left_of v before.gone) (e.keeps.each v))
     stands.keeps.open_contents t.awaits (sym awaits) all
   where
     two : (m : ℕ) → m + 2 ≡ suc (suc m)

@@ -1,5 +1,5 @@
 pub mod AnswerLemmas
-pub mod AskLemmas
+pub mod ConfigureLemmas
 pub mod BeginLemmas
 pub mod CloseLemmas
 pub mod DueLemmas
@@ -7,7 +7,7 @@ pub mod EntryLemmas
 pub mod FirstLemmas
 pub mod FollowLemmas
 pub mod GoneLemmas
-pub mod HeardLemmas
+pub mod AcceptedLemmas
 pub mod JudgeLemmas
 pub mod KeepLemmas
 pub mod LastingLemmas

@@ -2,8 +2,8 @@
 use Rattle.std.proofs.Common.{◌≡◌, ℕ, zero, suc, ◌+◌, ◌≤◌, ◌<◌, Bool, true, false, cond, ◌⊎◌, inl, inr, ⊎_elim, List, ◌∷◌, length, None, refl, ap, sym, ◌∙◌, arith}
 use Rattle.std.proofs.lemmas.Bool.{cases_lt}
 use Rattle.wm_txn.specs.History.{Opening, Entry}
-use Rattle.wm_txn.specs.Schedule.{Turn, next, past}
-use Rattle.wm_txn.specs.Commits.{greatest, has_begun, has_ended, done, started, turns_up_to, ended_turns, begun_turns}
+use Rattle.wm_txn.specs.Schedule.{Transaction, next, past}
+use Rattle.wm_txn.specs.Commits.{greatest, has_begun, has_ended, done, started, transactions_up_to, ended_transactions, begun_transactions}
 use Rattle.wm_txn.specs.Stands.{HasEnded, IsIdle, IsWaiting}
 
 -- behind one that has not begun none has
@@ -35,47 +35,47 @@ greatest_is test n (suc m) within holds above =
     at_last test n m (test (suc m)) refl within holds (above (suc m)) (λ less. greatest_is test n m less holds above)
 
 -- what the history says of the numbers
-pub record Numbers (o : Opening) (history : List Entry) (turns begun : List Turn) : Type 0 where
-  pub done_is : done o history ≡ length turns
+pub record Numbers (o : Opening) (history : List Entry) (transactions begun : List Transaction) : Type 0 where
+  pub done_is : done o history ≡ length transactions
   pub started_is : started o history ≡ length begun
-  pub ended_are : ended_turns o history ≡ turns
-  pub begun_are : begun_turns o history ≡ begun
+  pub ended_are : ended_transactions o history ≡ transactions
+  pub begun_are : begun_transactions o history ≡ begun
 
-module _ (o : Opening) (history : List Entry) (turns : List Turn) (h : HasEnded o history turns) where
-  turns_are : (n : ℕ) → n ≡ length turns → turns_up_to o n history ≡ turns
-  turns_are n e = rw (e, h.past_is) refl
+module _ (o : Opening) (history : List Entry) (transactions : List Transaction) (h : HasEnded o history transactions) where
+  transactions_are : (n : ℕ) → n ≡ length transactions → transactions_up_to o n history ≡ transactions
+  transactions_are n e = rw (e, h.past_is) refl
 
-  done_by : length turns ≤ length history → ((j : ℕ) → length turns < j → has_ended o history j ≡ false) → done o history ≡ length turns
+  done_by : length transactions ≤ length history → ((j : ℕ) → length transactions < j → has_ended o history j ≡ false) → done o history ≡ length transactions
   done_by within above =
-      greatest_is (has_ended o history) (length turns) (length history) within (inr (rw (h.past_is, h.ended_at) refl)) above
+      greatest_is (has_ended o history) (length transactions) (length history) within (inr (rw (h.past_is, h.ended_at) refl)) above
 
-  pub numbers_idle : IsIdle o history turns → length turns ≤ length history → Numbers o history turns turns
+  pub numbers_idle : IsIdle o history transactions → length transactions ≤ length history → Numbers o history transactions transactions
   numbers_idle idle within =
-      let none : (j : ℕ) → length turns < j → past o j history ≡ None = λ j above. beyond o history (length turns) j idle.none above in
+      let none : (j : ℕ) → length transactions < j → past o j history ≡ None = λ j above. beyond o history (length transactions) j idle.none above in
       let number = done_by within (λ j above. rw (none j above) refl) in
-      let begun_number : started o history ≡ length turns = greatest_is (has_begun o history) (length turns) (length history) within (inr (rw h.past_is refl)) (λ j above. rw (none j above) refl) in
+      let begun_number : started o history ≡ length transactions = greatest_is (has_begun o history) (length transactions) (length history) within (inr (rw h.past_is refl)) (λ j above. rw (none j above) refl) in
       record {
         done_is = number;
         started_is = begun_number;
-        ended_are = turns_are (done o history) number;
-        begun_are = turns_are (started o history) begun_number;
+        ended_are = transactions_are (done o history) number;
+        begun_are = transactions_are (started o history) begun_number;
       }
 
-  pub numbers_waiting : (t : Turn) → IsWaiting o history t turns → length turns + 1 ≤ length history → Numbers o history turns (t ∷ turns)
+  pub numbers_waiting : (t : Transaction) → IsWaiting o history t transactions → length transactions + 1 ≤ length history → Numbers o history transactions (t ∷ transactions)
   numbers_waiting t w within =
-      let after : past o (suc (suc (length turns))) history ≡ None = rw (w.begun_is, w.not_ended) refl in
-      let none : (j : ℕ) → suc (length turns) < j → past o j history ≡ None = λ j above. beyond o history (suc (length turns)) j after above in
-      let open_one : has_ended o history (suc (length turns)) ≡ false = rw (w.begun_is, w.not_ended) refl in
-      let not_ended_yet : (j : ℕ) → length turns < j → has_ended o history j ≡ false = λ j above.
-      elim (cases_lt (suc (length turns)) j) [
+      let after : past o (suc (suc (length transactions))) history ≡ None = rw (w.begun_is, w.not_ended) refl in
+      let none : (j : ℕ) → suc (length transactions) < j → past o j history ≡ None = λ j above. beyond o history (suc (length transactions)) j after above in
+      let open_one : has_ended o history (suc (length transactions)) ≡ false = rw (w.begun_is, w.not_ended) refl in
+      let not_ended_yet : (j : ℕ) → length transactions < j → has_ended o history j ≡ false = λ j above.
+      elim (cases_lt (suc (length transactions)) j) [
         | inl further ↦ rw (none j further) refl
-        | inr near ↦ let same : j ≡ suc (length turns) = omega arith in rw same open_one
+        | inr near ↦ let same : j ≡ suc (length transactions) = omega arith in rw same open_one
       ] in
       let number = done_by (omega arith) not_ended_yet in
-      let begun_number : started o history ≡ suc (length turns) = greatest_is (has_begun o history) (suc (length turns)) (length history) (omega arith) (inr (rw w.begun_is refl)) (λ j above. rw (none j above) refl) in
+      let begun_number : started o history ≡ suc (length transactions) = greatest_is (has_begun o history) (suc (length transactions)) (length history) (omega arith) (inr (rw w.begun_is refl)) (λ j above. rw (none j above) refl) in
       record {
         done_is = number;
         started_is = begun_number;
-        ended_are = turns_are (done o history) number;
+        ended_are = transactions_are (done o history) number;
         begun_are = rw (begun_number, w.begun_is) refl;
       }

@@ -1,18 +1,18 @@
--- The machine at its beginning, and how long what was heard is.
+-- The machine at its beginning, and how long what was accepted is.
 use Rattle.std.proofs.Common.{◌≡◌, suc, true, false, List, [], ◌∷◌, length, None, is_some, refl, ap, sym, ◌∙◌, subst, arith}
 use Rattle.wm_base.specs.declared.ids.ConId.{ConId}
 use Rattle.wm_arrange.specs.declared.parts.Arrangement.{Arrangement}
-use Rattle.wm_txn.specs.Heard.{heard}
+use Rattle.wm_txn.specs.Accepted.{accepted}
 use Rattle.wm_txn.specs.History.{Opening, Entry}
 use Rattle.wm_txn.specs.Machine.{TxnValue}
 use Rattle.wm_txn.specs.Windows.{AreSorted, Buffers, HasNoContent, Windows, find, left_of}
 use Rattle.wm_txn.specs.Stands.{AreOpen, IsIdle, IsKept, Stands}
 use Rattle.wm_txn.proofs.SettleLemmas.{same_itself}
 
--- as much is heard as there are entries
-pub heard_length : (o : Opening) (history : List Entry) → length (heard o history) ≡ length history
-heard_length o [] = refl
-heard_length o (entry ∷ history) = ap suc (heard_length o history)
+-- as much is accepted as there are entries
+pub accepted_length : (o : Opening) (history : List Entry) → length (accepted o history) ≡ length history
+accepted_length o [] = refl
+accepted_length o (entry ∷ history) = ap suc (accepted_length o history)
 
 none_open : (o : Opening) → HasNoContent o.parts → AreOpen o []
 none_open o none v there = let bad : false ≡ true = sym (ap is_some (none v)) ∙ there in cc
@@ -32,7 +32,7 @@ stands_start first windows buffers none no_windows sorted no_buffers =
     let o : Opening = record { parts = first.parts; windows = [] } in
     let Kept : Windows → Buffers → Type 0 = λ z y. (v : ConId) → IsKept o [] [] [] v (find v z) (left_of v y) in
     record {
-      turns = [];
+      transactions = [];
       begun = [];
       keeps = record {
         number_is = refl;

@@ -10,11 +10,11 @@ use Rattle.wm_arrange.proofs.SameLemmas.{parts-decide}
 use Rattle.wm_arrange.specs.Same.{same_parts}
 use Rattle.wm_arrange.specs.Sizes.{is_content}
 use Rattle.wm_arrange.specs.declared.parts.Arrangement.{Arrangement}
-use Rattle.wm_txn.specs.Commits.{asked, begun_turns, current, done, least, lesser, prefix, prefix_of, shown, started, waiting, waiting_for}
+use Rattle.wm_txn.specs.Commits.{configured, begun_transactions, current, done, least, lesser, prefix, prefix_of, shown, started, waiting, waiting_for}
 use Rattle.wm_txn.specs.History.{Opening, Entry, arrangement, buffer_up_to, gave, last}
-use Rattle.wm_txn.specs.Machine.{TxnValue, asked_of, newest_of, newest_or, shown_of, shown_or, waiting_in}
+use Rattle.wm_txn.specs.Machine.{TxnValue, configured_of, newest_of, newest_or, shown_of, shown_or, waiting_in}
 use Rattle.wm_txn.specs.Windows.{Windows, find, has_acked, is_left, least_left, left_of}
-use Rattle.wm_txn.specs.Schedule.{Turn, answered, configures, contents, last_parts}
+use Rattle.wm_txn.specs.Schedule.{Transaction, answered, configures, contents, last_parts}
 use Rattle.wm_txn.specs.Stands.{IsHeld, IsKept, IsNewest, IsScheduled, StandsFor}
 use Rattle.wm_txn.specs.declared.answers.Waiting.{Waiting}
 use Rattle.wm_txn.specs.declared.held.Held.{Held}
@@ -44,7 +44,7 @@ module _ (o : Opening) (history : List Entry) (d : TxnValue) (s : StandsFor o hi
   same : (xs ys : List Placed) → same_parts xs ys ≡ true → xs ≡ ys
   same xs ys h = (parts-decide xs ys).0 h
 
-  newest_by : (newest : Option Arrangement) (waits : Option Pending) → IsNewest (arrangement o history) (last_parts o s.begun) newest → IsScheduled o history s.turns s.begun waits d → (newest_or newest waits d.current).parts ≡ arrangement o history
+  newest_by : (newest : Option Arrangement) (waits : Option Pending) → IsNewest (arrangement o history) (last_parts o s.begun) newest → IsScheduled o history s.transactions s.begun waits d → (newest_or newest waits d.current).parts ≡ arrangement o history
   newest_by (Some a) waits n sch = n
   newest_by None (Some p) n sch = sch.parts_are ∙ (ap (last_parts o) (sym sch.begun_are) ∙ sym (same (arrangement o history) (last_parts o s.begun) n))
   newest_by None None n sch = s.keeps.current_is ∙ (ap (last_parts o) (sym sch.begun_are) ∙ sym (same (arrangement o history) (last_parts o s.begun) n))
@@ -55,34 +55,34 @@ module _ (o : Opening) (history : List Entry) (d : TxnValue) (s : StandsFor o hi
 
   -- ---- what a window shows
 
-  shown_step : (v : ConId) (w : Held) (turns begun : List Turn) → IsHeld o history turns begun v w → d.number ≡ length turns → (b : Bool) → leb w.under d.number ≡ b → Some (cond b w.newest w.older) ≡ buffer_up_to o d.number v history
-  shown_step v w turns begun h number true at = sym (h.newest_is d.number (leb-true w.under d.number at))
-  shown_step v w turns begun h number false at =
-      let later = leb-false w.under d.number at in
-      sym (ap (λ n. buffer_up_to o n v history) number ∙ h.older_is (omega arith))
+  shown_step : (v : ConId) (w : Held) (transactions begun : List Transaction) → IsHeld o history transactions begun v w → d.number ≡ length transactions → (b : Bool) → leb w.buffer_serial d.number ≡ b → Some (cond b w.buffer w.saved_buffer) ≡ buffer_up_to o d.number v history
+  shown_step v w transactions begun h number true at = sym (h.newest_is d.number (leb-true w.buffer_serial d.number at))
+  shown_step v w transactions begun h number false at =
+      let later = leb-false w.buffer_serial d.number at in
+      sym (ap (λ n. buffer_up_to o n v history) number ∙ h.saved_is (omega arith))
 
-  shown_found : (v : ConId) (found : Option Held) (left : Option Buffer) (turns begun : List Turn) → IsKept o history turns begun v found left → d.number ≡ length turns → shown_or d.number found left ≡ buffer_up_to o d.number v history
-  shown_found v None None turns begun kept number = sym (kept.no_buffer d.number)
-  shown_found v None (Some buffer) turns begun kept number = ap (λ z. Some z) (sym kept.newest_is) ∙ sym (kept.held_is.newest_is d.number (omega (arith, kept.done)))
-  shown_found v (Some w) left turns begun kept number = shown_step v w turns begun kept number (leb w.under d.number) refl
+  shown_found : (v : ConId) (found : Option Held) (left : Option Buffer) (transactions begun : List Transaction) → IsKept o history transactions begun v found left → d.number ≡ length transactions → shown_or d.number found left ≡ buffer_up_to o d.number v history
+  shown_found v None None transactions begun kept number = sym (kept.no_buffer d.number)
+  shown_found v None (Some buffer) transactions begun kept number = ap (λ z. Some z) (sym kept.newest_is) ∙ sym (kept.held_is.newest_is d.number (omega (arith, kept.done)))
+  shown_found v (Some w) left transactions begun kept number = shown_step v w transactions begun kept number (leb w.buffer_serial d.number) refl
 
   pub shown_is : (v : ConId) → shown_of v d ≡ shown o v history
-  shown_is v = shown_found v (find v d.windows) (left_of v d.gone) seen.turns seen.begun (seen.keeps.each v) seen.keeps.number_is ∙ ap (λ n. buffer_up_to o n v history) done_is
+  shown_is v = shown_found v (find v d.windows) (left_of v d.gone) seen.transactions seen.begun (seen.keeps.each v) seen.keeps.number_is ∙ ap (λ n. buffer_up_to o n v history) done_is
 
-  -- ---- what a window was asked
+  -- ---- what a window was configured with
 
-  asked_held : (live zero : Bool) (serial : ℕ) (size : Size) → (cond {A = Option (ℕ × Size)} (live && not zero) (Some (serial, size)) None) ≡ cond {A = Option (ℕ × Size)} live (cond {A = Option (ℕ × Size)} zero None (Some (serial, size))) None
-  asked_held false zero serial size = refl
-  asked_held true true serial size = refl
-  asked_held true false serial size = refl
+  configured_held : (live zero : Bool) (serial : ℕ) (size : Size) → (cond {A = Option (ℕ × Size)} (live && not zero) (Some (serial, size)) None) ≡ cond {A = Option (ℕ × Size)} live (cond {A = Option (ℕ × Size)} zero None (Some (serial, size))) None
+  configured_held false zero serial size = refl
+  configured_held true true serial size = refl
+  configured_held true false serial size = refl
 
-  asked_found : (v : ConId) (found : Option Held) (left : Option Buffer) (turns begun : List Turn) → IsKept o history turns begun v found left → begun_turns o history ≡ begun → asked_of found ≡ asked o v history
-  asked_found v None left turns begun kept same_begun = rw (left_closed o history turns begun v left kept) refl
-  asked_found v (Some w) left turns begun kept same_begun =
-      asked_held w.live (eqb w.serial 0) w.serial w.size ∙ sym (rw (kept.live_is, same_begun, kept.latest_is) refl)
+  configured_found : (v : ConId) (found : Option Held) (left : Option Buffer) (transactions begun : List Transaction) → IsKept o history transactions begun v found left → begun_transactions o history ≡ begun → configured_of found ≡ configured o v history
+  configured_found v None left transactions begun kept same_begun = rw (left_closed o history transactions begun v left kept) refl
+  configured_found v (Some w) left transactions begun kept same_begun =
+      configured_held w.live (eqb w.configure_serial 0) w.configure_serial w.configured_size ∙ sym (rw (kept.live_is, same_begun, kept.latest_is) refl)
 
-  pub asked_is : (v : ConId) → asked_of (find v d.windows) ≡ asked o v history
-  asked_is v = asked_found v (find v d.windows) (left_of v d.gone) seen.turns seen.begun (seen.keeps.each v) seen.numbers.begun_are
+  pub configured_is : (v : ConId) → configured_of (find v d.windows) ≡ configured o v history
+  configured_is v = configured_found v (find v d.windows) (left_of v d.gone) seen.transactions seen.begun (seen.keeps.each v) seen.numbers.begun_are
 
   -- ---- the transaction that waits
 
@@ -112,9 +112,9 @@ module _ (o : Opening) (history : List Entry) (d : TxnValue) (s : StandsFor o hi
           between true m = let same_id : w ≡ v = cc in ap test (sym same_id) ∙ e
           between false m = later m
 
-  acked_found : (v : ConId) (found : Option Held) (left : Option Buffer) (turns begun : List Turn) (n : ℕ) → IsKept o history turns begun v found left → not (answered o n history v) ≡ true → has_acked n found ≡ (eqb (last v history) n)
-  acked_found v None left turns begun n kept awaited =
-      let closed = left_closed o history turns begun v left kept in
+  acked_found : (v : ConId) (found : Option Held) (left : Option Buffer) (transactions begun : List Transaction) (n : ℕ) → IsKept o history transactions begun v found left → not (answered o n history v) ≡ true → has_acked n found ≡ (eqb (last v history) n)
+  acked_found v None left transactions begun n kept awaited =
+      let closed = left_closed o history transactions begun v left kept in
       let gone : answered o n history v ≡ true = ap (λ b. gave n v history || not b) closed ∙ either (gave n v history) in
       let bad : false ≡ true = ap not (sym gone) ∙ awaited in
       cc
@@ -122,21 +122,21 @@ module _ (o : Opening) (history : List Entry) (d : TxnValue) (s : StandsFor o hi
       either : (b : Bool) → (b || true) ≡ true
       either true = refl
       either false = refl
-  acked_found v (Some w) left turns begun n kept awaited = rw kept.last_is refl
+  acked_found v (Some w) left transactions begun n kept awaited = rw kept.last_is refl
 
-  waiting_here : (turns : List Turn) (t : Turn) (p : Pending) → Pends o history turns t p d → waiting_in (length turns + 1) d.windows (Some p) ≡ waiting_for o (length turns + 1) history t
-  waiting_here turns t p w =
-      let n = length turns + 1 in
+  waiting_here : (transactions : List Transaction) (t : Transaction) (p : Pending) → Pends o history transactions t p d → waiting_in (length transactions + 1) d.windows (Some p) ≡ waiting_for o (length transactions + 1) history t
+  waiting_here transactions t p w =
+      let n = length transactions + 1 in
       let test : ConId → Bool = λ v. not (answered o n history v) in
-      let chosen : (v : ConId) → has v t.parts ≡ true → (configures turns t.parts v && test v) ≡ is_left n (find v d.windows) = λ v there. is_left_where o history turns t d.windows d.gone v (find v d.windows) (left_of v d.gone) (w.keeps.each v) in
+      let chosen : (v : ConId) → has v t.parts ≡ true → (configures transactions t.parts v && test v) ≡ is_left n (find v d.windows) = λ v there. is_left_where o history transactions t d.windows d.gone v (find v d.windows) (left_of v d.gone) (w.keeps.each v) in
       let same_least : least_left n d.windows p.arrangement.parts ≡ least test t.awaits =
-      ap (least_left n d.windows) w.parts_are ∙ (sym (least_parts n d.windows (configures turns t.parts) test t.parts chosen) ∙ ap (least test) (sym w.awaits_are)) in
+      ap (least_left n d.windows) w.parts_are ∙ (sym (least_parts n d.windows (configures transactions t.parts) test t.parts chosen) ∙ ap (least test) (sym w.awaits_are)) in
       rw same_least (each (least test t.awaits) (λ v at. least_passes test v t.awaits at))
     where
-      each : (found : Option ConId) → ((v : ConId) → found ≡ Some v → not (answered o (length turns + 1) history v) ≡ true) → option_map (λ (v : ConId). wait_of (length turns + 1) v (has_acked (length turns + 1) (find v d.windows))) found
-          ≡ option_map (λ (v : ConId). wait_of (length turns + 1) v (eqb (last v history) (length turns + 1))) found
+      each : (found : Option ConId) → ((v : ConId) → found ≡ Some v → not (answered o (length transactions + 1) history v) ≡ true) → option_map (λ (v : ConId). wait_of (length transactions + 1) v (has_acked (length transactions + 1) (find v d.windows))) found
+          ≡ option_map (λ (v : ConId). wait_of (length transactions + 1) v (eqb (last v history) (length transactions + 1))) found
       each None passes = refl
-      each (Some v) passes = ap (λ b. Some (wait_of (length turns + 1) v b)) (acked_found v (find v d.windows) (left_of v d.gone) turns (t ∷ turns) (length turns + 1) (w.keeps.each v) (passes v refl))
+      each (Some v) passes = ap (λ b. Some (wait_of (length transactions + 1) v b)) (acked_found v (find v d.windows) (left_of v d.gone) transactions (t ∷ transactions) (length transactions + 1) (w.keeps.each v) (passes v refl))
 
   pub waiting_is : waiting_in (d.number + 1) d.windows d.waiting ≡ waiting o history
   waiting_is = elim (known o history d s) [
@@ -145,9 +145,9 @@ module _ (o : Opening) (history : List Entry) (d : TxnValue) (s : StandsFor o hi
         let same_numbers : eqb (started o history) (done o history) ≡ true = eq-eqb (started o history) (done o history) (numbers.started_is ∙ sym numbers.done_is) in
         rw (r.1.none_waits, same_numbers) refl
     | inr w ↦
-        let turns = w.0 in
-        let numbers = numbers_waiting o history turns w.3.waiting_is.done w.1 w.3.waiting_is w.3.within in
+        let transactions = w.0 in
+        let numbers = numbers_waiting o history transactions w.3.waiting_is.done w.1 w.3.waiting_is w.3.within in
         let other : eqb (started o history) (done o history) ≡ false = ne_eqb (started o history) (done o history) (λ e. omega (arith, numbers.started_is, numbers.done_is)) in
-        let number : d.number + 1 ≡ length turns + 1 = ap (λ n. n + 1) w.3.keeps.number_is in
-        rw (w.3.pending_is, other, numbers.begun_are, number) (waiting_here turns w.1 w.2 w.3)
+        let number : d.number + 1 ≡ length transactions + 1 = ap (λ n. n + 1) w.3.keeps.number_is in
+        rw (w.3.pending_is, other, numbers.begun_are, number) (waiting_here transactions w.1 w.2 w.3)
   ]

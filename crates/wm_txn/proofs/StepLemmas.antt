@@ -1,4 +1,4 @@
--- The machine that stood for what was heard stands for it with one more entry.
+-- The machine that stood for what was accepted stands for it with one more entry.
 use Rattle.std.proofs.Common.{◌≡◌, ℕ, suc, ◌+◌, ◌≤◌, ◌<◌, true, false, eqb, ◌⊎◌, inl, inr, List, ◌∷◌, length, Option, Some, None, refl, ap, sym, ◌∙◌, subst, arith}
 use Rattle.std.proofs.lemmas.Bool.{ne_eqb}
 use Rattle.wm_arrange.specs.declared.parts.Arrangement.{Arrangement}
@@ -7,7 +7,7 @@ use Rattle.wm_arrange.specs.Same.{same_parts}
 use Rattle.wm_txn.specs.History.{Opening, Entry, arrangement}
 use Rattle.wm_txn.specs.Machine.{TxnValue, settled}
 use Rattle.wm_txn.specs.Windows.{Windows, count_unanswered}
-use Rattle.wm_txn.specs.Schedule.{Turn, configures, contents, is_named, last_parts}
+use Rattle.wm_txn.specs.Schedule.{Transaction, configures, contents, is_named, last_parts}
 use Rattle.wm_txn.specs.Stands.{Idles, IsIdle, IsNewest, IsScheduled, IsWaiting, Keeps, StandsFor, Waits}
 use Rattle.wm_txn.specs.declared.held.Pending.{Pending}
 use Rattle.wm_txn.proofs.AnswerLemmas.{answered_is}
@@ -18,55 +18,55 @@ use Rattle.wm_txn.proofs.ScheduleLemmas.{was_idle, was_waiting}
 -- ---- the transactions that the machine knows
 
 -- the transaction t waits
-pub record Pends (o : Opening) (history : List Entry) (turns : List Turn) (t : Turn) (p : Pending) (d : TxnValue) : Type 0 where
-  pub keeps : Keeps o history turns (t ∷ turns) d.number d.prefix d.current.parts d.windows d.gone
+pub record Pends (o : Opening) (history : List Entry) (transactions : List Transaction) (t : Transaction) (p : Pending) (d : TxnValue) : Type 0 where
+  pub keeps : Keeps o history transactions (t ∷ transactions) d.number d.prefix d.current.parts d.windows d.gone
   pub pending_is : d.waiting ≡ Some p
-  pub waiting_is : IsWaiting o history t turns
+  pub waiting_is : IsWaiting o history t transactions
   pub prefix_is : p.prefix ≡ t.prefix
   pub parts_are : p.arrangement.parts ≡ t.parts
-  pub awaits_are : t.awaits ≡ contents (configures turns t.parts) t.parts
-  pub left_is : d.left ≡ count_unanswered (length turns + 1) d.windows
+  pub awaits_are : t.awaits ≡ contents (configures transactions t.parts) t.parts
+  pub left_is : d.left ≡ count_unanswered (length transactions + 1) d.windows
   pub some_left : 0 < d.left
   pub newest_is : IsNewest (arrangement o history) t.parts d.newest
-  pub within : length turns + 1 ≤ length history
+  pub within : length transactions + 1 ≤ length history
 
 -- none waits
-pub record Rests (o : Opening) (history : List Entry) (turns : List Turn) (d : TxnValue) : Type 0 where
-  pub keeps : Keeps o history turns turns d.number d.prefix d.current.parts d.windows d.gone
+pub record Rests (o : Opening) (history : List Entry) (transactions : List Transaction) (d : TxnValue) : Type 0 where
+  pub keeps : Keeps o history transactions transactions d.number d.prefix d.current.parts d.windows d.gone
   pub none_waits : d.waiting ≡ None
-  pub idle_is : IsIdle o history turns
+  pub idle_is : IsIdle o history transactions
   pub none_newest : d.newest ≡ None
   pub none_left : d.left ≡ 0
-  pub same_arrangement : same_parts (arrangement o history) (last_parts o turns) ≡ true
-  pub within : length turns ≤ length history
+  pub same_arrangement : same_parts (arrangement o history) (last_parts o transactions) ≡ true
+  pub within : length transactions ≤ length history
 
 abbrev pub Known : Opening → List Entry → TxnValue → Type 0
-Known o history d = ((turns : List Turn) × Rests o history turns d) ⊎ ((turns : List Turn) × (t : Turn) × (p : Pending) × Pends o history turns t p d)
+Known o history d = ((transactions : List Transaction) × Rests o history transactions d) ⊎ ((transactions : List Transaction) × (t : Transaction) × (p : Pending) × Pends o history transactions t p d)
 
 module _ (o : Opening) (history : List Entry) (d : TxnValue) where
-  known_idle : (turns begun : List Turn) → Keeps o history turns begun d.number d.prefix d.current.parts d.windows d.gone → IsNewest (arrangement o history) (last_parts o begun) d.newest → d.waiting ≡ None
-      → Idles o history turns begun d.newest d.left → length begun ≤ length history → Rests o history turns d
-  known_idle turns begun k newest none i within =
-      let Kept : List Turn → Type 0 = λ z. Keeps o history turns z d.number d.prefix d.current.parts d.windows d.gone in
-      let New : List Turn → Type 0 = λ z. IsNewest (arrangement o history) (last_parts o z) d.newest in
-      let Few : List Turn → Type 0 = λ z. length z ≤ length history in
+  known_idle : (transactions begun : List Transaction) → Keeps o history transactions begun d.number d.prefix d.current.parts d.windows d.gone → IsNewest (arrangement o history) (last_parts o begun) d.newest → d.waiting ≡ None
+      → Idles o history transactions begun d.newest d.left → length begun ≤ length history → Rests o history transactions d
+  known_idle transactions begun k newest none i within =
+      let Kept : List Transaction → Type 0 = λ z. Keeps o history transactions z d.number d.prefix d.current.parts d.windows d.gone in
+      let New : List Transaction → Type 0 = λ z. IsNewest (arrangement o history) (last_parts o z) d.newest in
+      let Few : List Transaction → Type 0 = λ z. length z ≤ length history in
       record {
         keeps = subst Kept i.begun_are k;
         none_waits = none;
         idle_is = i.idle_is;
         none_newest = i.none_newest;
         none_left = i.none_left;
-        same_arrangement = subst (IsNewest (arrangement o history) (last_parts o turns)) i.none_newest (subst New i.begun_are newest);
+        same_arrangement = subst (IsNewest (arrangement o history) (last_parts o transactions)) i.none_newest (subst New i.begun_are newest);
         within = subst Few i.begun_are within;
       }
 
-  known_waiting : (turns begun : List Turn) (p : Pending) → Keeps o history turns begun d.number d.prefix d.current.parts d.windows d.gone → IsNewest (arrangement o history) (last_parts o begun) d.newest → d.waiting ≡ Some p
-      → (w : Waits o history turns begun p d.left d.windows) → length begun ≤ length history → Pends o history turns w.t p d
-  known_waiting turns begun p k newest some w within =
-      let Kept : List Turn → Type 0 = λ z. Keeps o history turns z d.number d.prefix d.current.parts d.windows d.gone in
-      let New : List Turn → Type 0 = λ z. IsNewest (arrangement o history) (last_parts o z) d.newest in
-      let Few : List Turn → Type 0 = λ z. length z ≤ length history in
-      let few : suc (length turns) ≤ length history = subst Few w.begun_are within in
+  known_waiting : (transactions begun : List Transaction) (p : Pending) → Keeps o history transactions begun d.number d.prefix d.current.parts d.windows d.gone → IsNewest (arrangement o history) (last_parts o begun) d.newest → d.waiting ≡ Some p
+      → (w : Waits o history transactions begun p d.left d.windows) → length begun ≤ length history → Pends o history transactions w.t p d
+  known_waiting transactions begun p k newest some w within =
+      let Kept : List Transaction → Type 0 = λ z. Keeps o history transactions z d.number d.prefix d.current.parts d.windows d.gone in
+      let New : List Transaction → Type 0 = λ z. IsNewest (arrangement o history) (last_parts o z) d.newest in
+      let Few : List Transaction → Type 0 = λ z. length z ≤ length history in
+      let few : suc (length transactions) ≤ length history = subst Few w.begun_are within in
       record {
         keeps = subst Kept w.begun_are k;
         pending_is = some;
@@ -80,47 +80,47 @@ module _ (o : Opening) (history : List Entry) (d : TxnValue) where
         within = omega arith;
       }
 
-  known_by : (found : Option Pending) → d.waiting ≡ found → (turns begun : List Turn) → Keeps o history turns begun d.number d.prefix d.current.parts d.windows d.gone → IsNewest (arrangement o history) (last_parts o begun) d.newest
-      → IsScheduled o history turns begun found d → length begun ≤ length history → Known o history d
-  known_by None at turns begun k newest s within = inl (turns, known_idle turns begun k newest at s within)
-  known_by (Some p) at turns begun k newest s within = inr (turns, s.t, p, known_waiting turns begun p k newest at s within)
+  known_by : (found : Option Pending) → d.waiting ≡ found → (transactions begun : List Transaction) → Keeps o history transactions begun d.number d.prefix d.current.parts d.windows d.gone → IsNewest (arrangement o history) (last_parts o begun) d.newest
+      → IsScheduled o history transactions begun found d → length begun ≤ length history → Known o history d
+  known_by None at transactions begun k newest s within = inl (transactions, known_idle transactions begun k newest at s within)
+  known_by (Some p) at transactions begun k newest s within = inr (transactions, s.t, p, known_waiting transactions begun p k newest at s within)
 
   pub known : StandsFor o history d → Known o history d
-  known s = known_by d.waiting refl s.turns s.begun s.keeps s.newest_is s.schedule s.within
+  known s = known_by d.waiting refl s.transactions s.begun s.keeps s.newest_is s.schedule s.within
 
 -- ---- one more entry
 
 module _ (o : Opening) (history : List Entry) (entry : Entry) (d : TxnValue) (windows : Windows) (left : ℕ) (newest : Option Arrangement)
-    (keeps : (turns begun : List Turn) → OneMore turns begun → Keeps o history turns begun d.number d.prefix d.current.parts d.windows d.gone → Keeps o (entry ∷ history) turns begun d.number d.prefix d.current.parts windows d.gone)
+    (keeps : (transactions begun : List Transaction) → OneMore transactions begun → Keeps o history transactions begun d.number d.prefix d.current.parts d.windows d.gone → Keeps o (entry ∷ history) transactions begun d.number d.prefix d.current.parts windows d.gone)
     (news : (last : List Placed) → IsNewest (arrangement o history) last d.newest → IsNewest (arrangement o (entry ∷ history)) last newest)
     (fewer : d.left ≡ 0 → left ≡ 0)
     (counted : d.left ≡ count_unanswered (d.number + 1) d.windows → left ≡ count_unanswered (d.number + 1) windows)
-    (unnamed : (turns : List Turn) (t : Turn) (p : Pending) → Pends o history turns t p d → is_named (length turns + 1) t.prefix (entry ∷ history) ≡ false)
+    (unnamed : (transactions : List Transaction) (t : Transaction) (p : Pending) → Pends o history transactions t p d → is_named (length transactions + 1) t.prefix (entry ∷ history) ≡ false)
   where
     abbrev next_value : TxnValue
     next_value = record d { windows = windows; left = left; newest = newest }
 
-    awaits_after : (turns : List Turn) (t : Turn) (p : Pending) → Pends o history turns t p d → Awaits o history entry turns t p next_value
-    awaits_after turns t p w =
-        let kept = keeps turns (t ∷ turns) (inr (t, refl)) w.keeps in
-        let n = length turns + 1 in
+    awaits_after : (transactions : List Transaction) (t : Transaction) (p : Pending) → Pends o history transactions t p d → Awaits o history entry transactions t p next_value
+    awaits_after transactions t p w =
+        let kept = keeps transactions (t ∷ transactions) (inr (t, refl)) w.keeps in
+        let n = length transactions + 1 in
         let number = w.keeps.number_is in
         let left_is : left ≡ count_unanswered n windows = counted (w.left_is ∙ ap (λ z. count_unanswered (z + 1) d.windows) (sym number)) ∙ ap (λ z. count_unanswered (z + 1) windows) number in
         record {
           keeps = kept;
-          was = was_waiting o history entry t turns w.waiting_is;
+          was = was_waiting o history entry t transactions w.waiting_is;
           waiting_is = w.pending_is;
           prefix_is = w.prefix_is;
           parts_are = w.parts_are;
           awaits_are = w.awaits_are;
-          ends_is = or_none _ (is_named n t.prefix (entry ∷ history)) (unnamed turns t p w)
-              ∙ (answered_is o (entry ∷ history) turns t windows d.gone d.number d.prefix d.current.parts kept w.awaits_are ∙ ap (λ z. eqb z 0) (sym left_is));
+          ends_is = or_none _ (is_named n t.prefix (entry ∷ history)) (unnamed transactions t p w)
+              ∙ (answered_is o (entry ∷ history) transactions t windows d.gone d.number d.prefix d.current.parts kept w.awaits_are ∙ ap (λ z. eqb z 0) (sym left_is));
           left_is = λ above. left_is;
           newest_is = news t.parts w.newest_is;
         }
 
-    new_idle : (turns : List Turn) → Rests o history turns d → IsNewest (arrangement o (entry ∷ history)) (last_parts o turns) newest
-    new_idle turns r = news (last_parts o turns) (subst (IsNewest (arrangement o history) (last_parts o turns)) (sym r.none_newest) r.same_arrangement)
+    new_idle : (transactions : List Transaction) → Rests o history transactions d → IsNewest (arrangement o (entry ∷ history)) (last_parts o transactions) newest
+    new_idle transactions r = news (last_parts o transactions) (subst (IsNewest (arrangement o history) (last_parts o transactions)) (sym r.none_newest) r.same_arrangement)
 
     -- the machine after it is settled
     pub stands_settled : (steps : ℕ) → steps ≡ length history + 1 → StandsFor o history d → StandsFor o (entry ∷ history) (settled steps next_value)

@@ -10,7 +10,7 @@ use Rattle.wm_txn.specs.Commits.{done, lesser, started, waiting}
 use Rattle.wm_txn.specs.History.{Opening, Entry}
 use Rattle.wm_txn.specs.Machine.{TxnValue}
 use Rattle.wm_txn.specs.Windows.{Windows, is_unanswered, find, is_left, least_left, left_of}
-use Rattle.wm_txn.specs.Schedule.{Turn, answered, configure, configures}
+use Rattle.wm_txn.specs.Schedule.{Transaction, answered, configure, configures}
 use Rattle.wm_txn.specs.Stands.{StandsFor}
 use Rattle.wm_txn.specs.declared.held.Held.{Held}
 use Rattle.wm_txn.specs.declared.held.Pending.{Pending}
@@ -19,7 +19,7 @@ use Rattle.wm_txn.proofs.NumberLemmas.{numbers_idle, numbers_waiting}
 use Rattle.wm_txn.proofs.StepLemmas.{Pends, known}
 use Rattle.wm_forest.specs.Look.{same}
 use Rattle.std.proofs.lemmas.Bool.{and_parts, false_from_ne_true, true_from_ne_false}
-use Rattle.wm_txn.specs.Heard.{heard}
+use Rattle.wm_txn.specs.Accepted.{accepted}
 use Rattle.wm_txn.specs.Standing.{TellsWaiting}
 use Rattle.wm_txn.proofs.AnswerLemmas.{new_some}
 use Rattle.wm_txn.proofs.ReadingLemmas.{waiting_is}
@@ -53,15 +53,15 @@ mapped_some f None = refl
 mapped_some f (Some x) = refl
 
 module _ (o : Opening) (history : List Entry) (d : TxnValue) (s : StandsFor o history d) where
-  left_here : (turns : List Turn) (t : Turn) (p : Pending) → Pends o history turns t p d → is_some (least_left (length turns + 1) d.windows p.arrangement.parts) ≡ true
-  left_here turns t p w =
-      let n = length turns + 1 in
+  left_here : (transactions : List Transaction) (t : Transaction) (p : Pending) → Pends o history transactions t p d → is_some (least_left (length transactions + 1) d.windows p.arrangement.parts) ≡ true
+  left_here transactions t p w =
+      let n = length transactions + 1 in
       true_from_ne_false (is_some (least_left n d.windows p.arrangement.parts)) (λ none.
       let each : (a : ConId) (x : Held) → find a d.windows ≡ Some x → is_unanswered n x ≡ false = λ a x at.
       false_from_ne_true (is_unanswered n x) (λ left.
       let left_a : is_left n (find a d.windows) ≡ true = ap (is_left n) at ∙ left in
-      let asks = and_parts (configures turns t.parts a) (not (answered o n history a)) (is_left_where o history turns t d.windows d.gone a (find a d.windows) (left_of a d.gone) (w.keeps.each a) ∙ left_a) in
-      let there = ap (λ z. has a z) w.parts_are ∙ new_some (content_size a t.parts) (configure a turns) asks.0 in
+      let configures_it = and_parts (configures transactions t.parts a) (not (answered o n history a)) (is_left_where o history transactions t d.windows d.gone a (find a d.windows) (left_of a d.gone) (w.keeps.each a) ∙ left_a) in
+      let there = ap (λ z. has a z) w.parts_are ∙ new_some (content_size a t.parts) (configure a transactions) configures_it.0 in
       let bad : true ≡ false = sym (least_some n d.windows a p.arrangement.parts there left_a) ∙ none in
       cc) in
       let zero_left = all_answered n d.windows w.keeps.sorted each in
@@ -74,12 +74,12 @@ module _ (o : Opening) (history : List Entry) (d : TxnValue) (s : StandsFor o hi
         let same_numbers : eqb (started o history) (done o history) ≡ true = eq-eqb (started o history) (done o history) (numbers.started_is ∙ sym numbers.done_is) in
         rw (r.1.none_waits, same_numbers) refl
     | inr w ↦
-        let turns = w.0 in
-        let numbers = numbers_waiting o history turns w.3.waiting_is.done w.1 w.3.waiting_is w.3.within in
+        let transactions = w.0 in
+        let numbers = numbers_waiting o history transactions w.3.waiting_is.done w.1 w.3.waiting_is w.3.within in
         let other : eqb (started o history) (done o history) ≡ false = ne_eqb (started o history) (done o history) (λ e. omega (arith, numbers.started_is, numbers.done_is)) in
-        let number : d.number + 1 ≡ length turns + 1 = ap (λ n. n + 1) w.3.keeps.number_is in
-        rw (w.3.pending_is, other, number) (mapped_some _ (least_left (length turns + 1) d.windows w.2.arrangement.parts) ∙ left_here turns w.1 w.2 w.3)
+        let number : d.number + 1 ≡ length transactions + 1 = ap (λ n. n + 1) w.3.keeps.number_is in
+        rw (w.3.pending_is, other, number) (mapped_some _ (least_left (length transactions + 1) d.windows w.2.arrangement.parts) ∙ left_here transactions w.1 w.2 w.3)
   ]
 
 pub tells_waiting : TellsWaiting
-tells_waiting o history d s = waits_told o (heard o history) d s
+tells_waiting o history d s = waits_told o (accepted o history) d s

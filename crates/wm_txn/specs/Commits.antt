@@ -7,7 +7,7 @@ use Rattle.wm_base.specs.declared.ids.Buffer.{Buffer}
 use Rattle.wm_base.specs.declared.ids.ConId.{ConId}
 use Rattle.wm_arrange.specs.declared.parts.Placed.{Placed}
 use Rattle.wm_txn.specs.History.{Opening, Entry, is_open, last, buffer_up_to}
-use Rattle.wm_txn.specs.Schedule.{Turn, answered, configure, ended, last_parts, past}
+use Rattle.wm_txn.specs.Schedule.{Transaction, answered, configure, ended, last_parts, past}
 use Rattle.wm_txn.specs.declared.answers.Waiting.{Waiting}
 
 -- the greatest number up to n that passes, or 0
@@ -19,7 +19,7 @@ abbrev pub has_begun : Opening → List Entry → ℕ → Bool
 has_begun o history i = is_some (past o i history)
 
 abbrev pub has_ended : Opening → List Entry → ℕ → Bool
-has_ended o history i = is_some (option_and_then (λ turns. ended o turns history) (past o i history))
+has_ended o history i = is_some (option_and_then (λ transactions. ended o transactions history) (past o i history))
 
 -- the number of the last transaction that has ended
 abbrev pub done : Opening → List Entry → ℕ
@@ -29,36 +29,36 @@ done o history = greatest (has_ended o history) (length history)
 abbrev pub started : Opening → List Entry → ℕ
 started o history = greatest (has_begun o history) (length history)
 
-abbrev pub turns_up_to : Opening → ℕ → List Entry → List Turn
-turns_up_to o i history = unwrap_or (past o i history) []
+abbrev pub transactions_up_to : Opening → ℕ → List Entry → List Transaction
+transactions_up_to o i history = unwrap_or (past o i history) []
 
 -- the transactions that have ended, the last one first
-abbrev pub ended_turns : Opening → List Entry → List Turn
-ended_turns o history = turns_up_to o (done o history) history
+abbrev pub ended_transactions : Opening → List Entry → List Transaction
+ended_transactions o history = transactions_up_to o (done o history) history
 
 -- those that have begun: one more where a transaction waits
-abbrev pub begun_turns : Opening → List Entry → List Turn
-begun_turns o history = turns_up_to o (started o history) history
+abbrev pub begun_transactions : Opening → List Entry → List Transaction
+begun_transactions o history = transactions_up_to o (started o history) history
 
-abbrev pub prefix_of : List Turn → ℕ
+abbrev pub prefix_of : List Transaction → ℕ
 prefix_of [] = 0
-prefix_of (t ∷ turns) = t.prefix
+prefix_of (t ∷ transactions) = t.prefix
 
 -- how many entries had come when the last ended transaction began
 abbrev pub prefix : Opening → List Entry → ℕ
-prefix o history = prefix_of (ended_turns o history)
+prefix o history = prefix_of (ended_transactions o history)
 
 -- the arrangement of the last ended transaction
 abbrev pub current : Opening → List Entry → List Placed
-current o history = last_parts o (ended_turns o history)
+current o history = last_parts o (ended_transactions o history)
 
 -- the buffer that v shows: the last one that is under a number not above that of the last ended transaction
 abbrev pub shown : Opening → ConId → List Entry → Option Buffer
 shown o v history = buffer_up_to o (done o history) v history
 
 -- the number and the size of the latest configure of an open window
-abbrev pub asked : Opening → ConId → List Entry → Option (ℕ × Size)
-asked o v history = if is_open o v history then configure v (begun_turns o history) else None
+abbrev pub configured : Opening → ConId → List Entry → Option (ℕ × Size)
+configured o v history = if is_open o v history then configure v (begun_transactions o history) else None
 
 -- ---- the transaction that waits
 
@@ -71,15 +71,15 @@ abbrev pub least : (ConId → Bool) → List ConId → Option ConId
 least test [] = None
 least test (v ∷ views) = if test v then lesser v (least test views) else least test views
 
-abbrev pub waiting_for : Opening → ℕ → List Entry → Turn → Option Waiting
+abbrev pub waiting_for : Opening → ℕ → List Entry → Transaction → Option Waiting
 waiting_for o n history t =
     option_map (λ v. record { number = n; least = v; acked = last v history == n }) (least (λ v. not (answered o n history v)) t.awaits)
 
-abbrev pub waiting_turn : Opening → List Entry → List Turn → Option Waiting
-waiting_turn o history [] = None
-waiting_turn o history (t ∷ turns) = waiting_for o (length turns + 1) history t
+abbrev pub waiting_transaction : Opening → List Entry → List Transaction → Option Waiting
+waiting_transaction o history [] = None
+waiting_transaction o history (t ∷ transactions) = waiting_for o (length transactions + 1) history t
 
 -- the number of the transaction that waits, the least of those awaited without their answer, and whether it acknowledged
 -- the number
 abbrev pub waiting : Opening → List Entry → Option Waiting
-waiting o history = if started o history == done o history then None else waiting_turn o history (begun_turns o history)
+waiting o history = if started o history == done o history then None else waiting_transaction o history (begun_transactions o history)

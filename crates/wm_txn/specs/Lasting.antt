@@ -1,23 +1,23 @@
 -- Laws of the schedule as the history grows.
 use Rattle.std.specs.Prelude.{◌≡◌, ◌≤◌, ℕ, suc, ◌+◌, List, [], ◌∷◌, None, Some}
 use Rattle.wm_txn.specs.Commits.{done, prefix}
-use Rattle.wm_txn.specs.Heard.{heard}
+use Rattle.wm_txn.specs.Accepted.{accepted}
 use Rattle.wm_txn.specs.History.{Opening, Entry}
 use Rattle.wm_txn.specs.Machine.{TxnValue}
-use Rattle.wm_txn.specs.Schedule.{Turn, ended, past, turn_from}
+use Rattle.wm_txn.specs.Schedule.{Transaction, ended, past, transaction_from}
 use Rattle.wm_txn.specs.Stands.{Stands}
 
 -- what has begun stays so
 abbrev pub BegunStays : Type 0
-BegunStays = (o : Opening) (history : List Entry) (entry : Entry) (i : ℕ) (turns : List Turn) → past o i history ≡ Some turns → past o i (entry ∷ history) ≡ Some turns
+BegunStays = (o : Opening) (history : List Entry) (entry : Entry) (i : ℕ) (transactions : List Transaction) → past o i history ≡ Some transactions → past o i (entry ∷ history) ≡ Some transactions
 
 -- what has ended stays so
 abbrev pub EndedStays : Type 0
-EndedStays = (o : Opening) (history : List Entry) (entry : Entry) (turns : List Turn) (place : List Entry) → ended o turns history ≡ Some place → ended o turns (entry ∷ history) ≡ Some place
+EndedStays = (o : Opening) (history : List Entry) (entry : Entry) (transactions : List Transaction) (place : List Entry) → ended o transactions history ≡ Some place → ended o transactions (entry ∷ history) ≡ Some place
 
 -- a transaction that has begun with one more entry began at that entry
 abbrev pub BeginsThere : Type 0
-BeginsThere = (o : Opening) (history : List Entry) (entry : Entry) (i : ℕ) (t : Turn) (turns : List Turn) → past o i history ≡ None → past o i (entry ∷ history) ≡ Some (t ∷ turns) → t ≡ turn_from o turns (entry ∷ history)
+BeginsThere = (o : Opening) (history : List Entry) (entry : Entry) (i : ℕ) (t : Transaction) (transactions : List Transaction) → past o i history ≡ None → past o i (entry ∷ history) ≡ Some (t ∷ transactions) → t ≡ transaction_from o transactions (entry ∷ history)
 
 -- and only one begins there
 abbrev pub BeginsOnce : Type 0
@@ -25,7 +25,7 @@ BeginsOnce = (o : Opening) (history : List Entry) (entry : Entry) (i : ℕ) → 
 
 -- a transaction that has ended with one more entry ended at that entry
 abbrev pub EndsThere : Type 0
-EndsThere = (o : Opening) (history : List Entry) (entry : Entry) (turns : List Turn) (place : List Entry) → ended o turns history ≡ None → ended o turns (entry ∷ history) ≡ Some place → place ≡ entry ∷ history
+EndsThere = (o : Opening) (history : List Entry) (entry : Entry) (transactions : List Transaction) (place : List Entry) → ended o transactions history ≡ None → ended o transactions (entry ∷ history) ≡ Some place → place ≡ entry ∷ history
 
 -- the number of the last ended transaction and its prefix never fall
 abbrev pub NeverFalls : Type 0
@@ -38,4 +38,4 @@ EndsTwiceAtMost = (o : Opening) (history : List Entry) (entry : Entry) → done 
 -- and the second one awaits nobody
 abbrev pub SecondAwaitsNobody : Type 0
 SecondAwaitsNobody = (o : Opening) (history : List Entry) (entry : Entry) (before after : TxnValue) → Stands o history before → Stands o (entry ∷ history) after
-    → (t : Turn) (turns : List Turn) (place : List Entry) → past o (done o (heard o history) + 2) (heard o (entry ∷ history)) ≡ Some (t ∷ turns) → ended o (t ∷ turns) (heard o (entry ∷ history)) ≡ Some place → t.awaits ≡ []
+    → (t : Transaction) (transactions : List Transaction) (place : List Entry) → past o (done o (accepted o history) + 2) (accepted o (entry ∷ history)) ≡ Some (t ∷ transactions) → ended o (t ∷ transactions) (accepted o (entry ∷ history)) ≡ Some place → t.awaits ≡ []

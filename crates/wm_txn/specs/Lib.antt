@@ -1,5 +1,5 @@
 pub mod Commits
-pub mod Heard
+pub mod Accepted
 pub mod History
 pub mod Lasting
 pub mod Machine

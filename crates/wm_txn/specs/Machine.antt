@@ -14,7 +14,7 @@ use Rattle.wm_txn.specs.contracts.held.Held as held
 use Rattle.wm_txn.specs.contracts.held.Pending as pending
 use Rattle.wm_arrange.specs.declared.parts.Arrangement.{Arrangement}
 use Rattle.wm_arrange.specs.Same.{same_parts}
-use Rattle.wm_txn.specs.Heard.{is_empty}
+use Rattle.wm_txn.specs.Accepted.{is_empty}
 use Rattle.wm_txn.specs.declared.answers.Waiting.{Waiting}
 use Rattle.wm_txn.specs.declared.answers.AckRefusal.{AckRefusal}
 use Rattle.wm_txn.specs.declared.answers.AckRefusal.TheVariants as ack
@@ -22,7 +22,7 @@ use Rattle.wm_txn.specs.declared.answers.BufferRefusal.{BufferRefusal}
 use Rattle.wm_txn.specs.declared.answers.BufferRefusal.TheVariants as buffers
 use Rattle.wm_txn.specs.declared.held.Held.{Held}
 use Rattle.wm_txn.specs.declared.held.Pending.{Pending}
-use Rattle.wm_txn.specs.Windows.{Buffers, Windows, acked_with, ask_all, buffered_with, close_all, committed_serial, count_all, count_closed, find, has_acked, is_unanswered, least_left, left_of, one_if, open_fresh, put, shown_by}
+use Rattle.wm_txn.specs.Windows.{Buffers, Windows, acked_with, configure_all, buffered_with, close_all, committed_serial, count_all, count_closed, find, has_acked, is_unanswered, least_left, left_of, one_if, open_fresh, put, shown_by}
 
 -- ---- the machine
 
@@ -53,7 +53,7 @@ committed d = commit_pending d.waiting d
 -- a transaction with this arrangement begins
 abbrev pub began : ℕ → Arrangement → TxnValue → TxnValue
 began steps a d = record d {
-  windows = ask_all (d.number + 1) a.parts d.windows;
+  windows = configure_all (d.number + 1) a.parts d.windows;
   waiting = Some (record { prefix = steps; arrangement = a });
   left = count_all (d.number + 1) a.parts d.windows;
 }
@@ -97,10 +97,10 @@ acked v serial d = ack_found v serial (find v d.windows) d
 
 -- the serial is that of the latest configure, or of the latest by a transaction that has ended, and is above the last one
 abbrev pub is_due_by : ℕ → ℕ → Held → Bool
-is_due_by done serial w = (serial == w.serial || serial == committed_serial done w) && nat_lt w.acked serial
+is_due_by done serial w = (serial == w.configure_serial || serial == committed_serial done w) && nat_lt w.acked_serial serial
 
 abbrev pub judge_serial : ℕ → ℕ → Held → Result (Unit {0}) AckRefusal
-judge_serial done serial w = if is_due_by done serial w then Ok tt else Err (ack.BadSerial serial w.acked)
+judge_serial done serial w = if is_due_by done serial w then Ok tt else Err (ack.BadSerial serial w.acked_serial)
 
 abbrev pub judge_ack : ℕ → ℕ → Option Held → Result (Unit {0}) AckRefusal
 judge_ack done serial None = Err ack.NoView
@@ -148,7 +148,7 @@ timed_out place n d = if is_over place n d.number d.waiting then settled (place 
 abbrev pub tucked : ConId → Held → TxnValue → TxnValue
 tucked v w d = record d {
   windows = remove_entry (is_at (nat_cmp v.0)) d.windows;
-  gone = insert_entry nat_cmp d.gone v.0 w.newest;
+  gone = insert_entry nat_cmp d.gone v.0 w.buffer;
 }
 
 abbrev pub prefix_with : Option Pending → ℕ → ℕ
@@ -169,9 +169,9 @@ shown_or done (Some w) left = Some (shown_by done w)
 abbrev pub shown_of : ConId → TxnValue → Option Buffer
 shown_of v d = shown_or d.number (find v d.windows) (left_of v d.gone)
 
-abbrev pub asked_of : Option Held → Option (ℕ × Size)
-asked_of None = None
-asked_of (Some w) = if w.live && not (w.serial == 0) then Some (w.serial, w.size) else None
+abbrev pub configured_of : Option Held → Option (ℕ × Size)
+configured_of None = None
+configured_of (Some w) = if w.live && not (w.configure_serial == 0) then Some (w.configure_serial, w.configured_size) else None
 
 abbrev pub waiting_in : ℕ → Windows → Option Pending → Option Waiting
 waiting_in n windows None = None

@@ -1,4 +1,4 @@
--- The schedule of transactions: where in the whole history each one begins and ends, and whom it asks and awaits.
+-- The schedule of transactions: where in the whole history each one begins and ends, and whom it configures and awaits.
 use Rattle.std.specs.Prelude.{ℕ, zero, suc, ◌+◌, ◌==◌, nat_le, Bool, true, false, not, ◌&&◌, ◌||◌, if◌then◌else◌, List, [], ◌∷◌, length, Option, None, Some}
 use Rattle.std.specs.List.{list_all}
 use Rattle.std.specs.Option.{option_map, option_and_then}
@@ -11,12 +11,12 @@ use Rattle.wm_txn.specs.History.{Opening, Entry, Arranged, Acked, Gave, Deadline
 
 -- a transaction that has begun: how many entries had come then, its arrangement, and the windows that it awaits. Those
 -- that begun before it stand behind it in a list, so its number is one more than the length of that list
-pub record Turn : Type 0 where
+pub record Transaction : Type 0 where
   pub prefix : ℕ
   pub parts : List Placed
   pub awaits : List ConId
 
--- ---- what is asked of a window
+-- ---- what a window is configured with
 
 abbrev pub same_size : Size → Size → Bool
 same_size a b = a.w == b.w && a.h == b.h
@@ -27,17 +27,17 @@ is_new None before = false
 is_new (Some size) None = true
 is_new (Some size) (Some before) = not (same_size before.1 size)
 
--- the latest configure of v: the number of the transaction, and the size that it asked; None where none configured it
-abbrev pub configure : ConId → List Turn → Option (ℕ × Size)
+-- the latest configure of v: the number of the transaction, and the size; None where none configured it
+abbrev pub configure : ConId → List Transaction → Option (ℕ × Size)
 configure v [] = None
-configure v (t ∷ turns) =
-    if is_new (content_size v t.parts) (configure v turns)
-    then option_map (λ size. (length turns + 1, size)) (content_size v t.parts)
-    else configure v turns
+configure v (t ∷ transactions) =
+    if is_new (content_size v t.parts) (configure v transactions)
+    then option_map (λ size. (length transactions + 1, size)) (content_size v t.parts)
+    else configure v transactions
 
--- a transaction with this arrangement configures v: it has a content whose size is not the one that was asked last
-abbrev pub configures : List Turn → List Placed → ConId → Bool
-configures turns parts v = is_new (content_size v parts) (configure v turns)
+-- a transaction with this arrangement configures v: it has a content whose size is not the one that was configured last
+abbrev pub configures : List Transaction → List Placed → ConId → Bool
+configures transactions parts v = is_new (content_size v parts) (configure v transactions)
 
 -- the windows with a content that pass, in order
 abbrev pub contents : (ConId → Bool) → List Placed → List ConId
@@ -57,20 +57,20 @@ first_when test n (entry ∷ history) =
     or_here (first_when test n history) (nat_le n (length history + 1) && test (entry ∷ history)) (entry ∷ history)
 
 -- the arrangement of the last of these transactions, or that of the opening
-abbrev pub last_parts : Opening → List Turn → List Placed
+abbrev pub last_parts : Opening → List Transaction → List Placed
 last_parts o [] = o.parts
-last_parts o (t ∷ turns) = t.parts
+last_parts o (t ∷ transactions) = t.parts
 
 -- the arrangement after a beginning differs from that of the last transaction
-abbrev pub differs : Opening → List Turn → List Entry → Bool
-differs o turns history = not (same_parts (arrangement o history) (last_parts o turns))
+abbrev pub differs : Opening → List Transaction → List Entry → Bool
+differs o transactions history = not (same_parts (arrangement o history) (last_parts o transactions))
 
 -- the transaction that begins after this beginning of the history
-abbrev pub turn_from : Opening → List Turn → List Entry → Turn
-turn_from o turns history = record {
+abbrev pub transaction_from : Opening → List Transaction → List Entry → Transaction
+transaction_from o transactions history = record {
   prefix = length history;
   parts = arrangement o history;
-  awaits = contents (configures turns (arrangement o history)) (arrangement o history);
+  awaits = contents (configures transactions (arrangement o history)) (arrangement o history);
 }
 
 -- v gave a buffer under n, or is closed
@@ -90,23 +90,23 @@ is_named n prefix [] = false
 is_named n prefix (entry ∷ history) = names n entry && nat_le prefix (length history)
 
 -- transaction n may end here: each one awaited has answered, or a deadline names it
-abbrev pub may_end : Opening → ℕ → Turn → List Entry → Bool
+abbrev pub may_end : Opening → ℕ → Transaction → List Entry → Bool
 may_end o n t history = list_all (answered o n history) t.awaits || is_named n t.prefix history
 
 -- where the last of these transactions ended: at the first beginning, not before its own, at which it may
-abbrev pub ended : Opening → List Turn → List Entry → Option (List Entry)
+abbrev pub ended : Opening → List Transaction → List Entry → Option (List Entry)
 ended o [] history = Some []
-ended o (t ∷ turns) history = first_when (may_end o (length turns + 1) t) t.prefix history
+ended o (t ∷ transactions) history = first_when (may_end o (length transactions + 1) t) t.prefix history
 
 -- where the one after them began: at the first beginning, not before the last one's end, whose arrangement differs
-abbrev pub begun : Opening → List Turn → List Entry → Option (List Entry)
-begun o turns history = option_and_then (λ at. first_when (differs o turns) (length at) history) (ended o turns history)
+abbrev pub begun : Opening → List Transaction → List Entry → Option (List Entry)
+begun o transactions history = option_and_then (λ at. first_when (differs o transactions) (length at) history) (ended o transactions history)
 
-abbrev pub next : Opening → List Entry → Option (List Turn) → Option (List Turn)
+abbrev pub next : Opening → List Entry → Option (List Transaction) → Option (List Transaction)
 next o history None = None
-next o history (Some turns) = option_map (λ at. turn_from o turns at ∷ turns) (begun o turns history)
+next o history (Some transactions) = option_map (λ at. transaction_from o transactions at ∷ transactions) (begun o transactions history)
 
 -- the first i transactions, the last one first, where they have begun in the history
-abbrev pub past : Opening → ℕ → List Entry → Option (List Turn)
+abbrev pub past : Opening → ℕ → List Entry → Option (List Transaction)
 past o zero history = Some []
 past o (suc i) history = next o history (past o i history)

@@ -2,7 +2,7 @@
 use Rattle.std.specs.Prelude.{◌≡◌, ◌≤◌, List, ◌∷◌, length, is_some, not, ◌==◌}
 use Rattle.wm_base.specs.declared.ids.ConId.{ConId}
 use Rattle.wm_txn.specs.Commits.{done, started, waiting}
-use Rattle.wm_txn.specs.Heard.{heard}
+use Rattle.wm_txn.specs.Accepted.{accepted}
 use Rattle.wm_txn.specs.History.{Opening, Entry, Still, is_open, was_open}
 use Rattle.wm_txn.specs.Machine.{TxnValue, last_prefix, shown_of}
 use Rattle.wm_txn.specs.Windows.{find, is_live}
@@ -26,4 +26,4 @@ KnowsOpen = (o : Opening) (history : List Entry) (d : TxnValue) → Stands o his
 
 -- a waiting transaction is told exactly where more have begun than have ended
 abbrev pub TellsWaiting : Type 0
-TellsWaiting = (o : Opening) (history : List Entry) (d : TxnValue) → Stands o history d → is_some (waiting o (heard o history)) ≡ not (started o (heard o history) == done o (heard o history))
+TellsWaiting = (o : Opening) (history : List Entry) (d : TxnValue) → Stands o history d → is_some (waiting o (accepted o history)) ≡ not (started o (accepted o history) == done o (accepted o history))

@@ -1,5 +1,5 @@
--- The windows that the transactions keep, by id: what is asked of them, those that are mapped and close, and the buffers
--- of those that are gone.
+-- The windows that the transactions keep, by id: what they are configured with, those that are mapped and close, and the
+-- buffers of those that are gone.
 use Rattle.std.specs.Prelude.{◌≡◌, ℕ, ◌+◌, ◌==◌, nat_le, nat_lt, Bool, true, false, not, ◌&&◌, ◌||◌, if◌then◌else◌, List, [], ◌∷◌, Option, None, Some, is_some}
 use Rattle.std.specs.BTreeMap.{insert_entry, is_at}
 use Rattle.std.specs.List.{list_any}
@@ -20,29 +20,29 @@ use Rattle.wm_txn.specs.declared.held.Held.{Held}
 -- ---- a window
 
 abbrev pub held_of : Buffer → Held
-held_of buffer = record { live = true; acked = 0; newest = buffer; under = 0; older = buffer; serial = 0; size = buffer.size; before = 0; placed = 0 }
+held_of buffer = record { live = true; acked_serial = 0; buffer = buffer; buffer_serial = 0; saved_buffer = buffer; configure_serial = 0; configured_size = buffer.size; previous_serial = 0; placed = 0 }
 
 -- transaction n awaits it, and it has not answered
 abbrev pub is_unanswered : ℕ → Held → Bool
-is_unanswered n w = w.live && (w.serial == n && nat_lt w.under n)
+is_unanswered n w = w.live && (w.configure_serial == n && nat_lt w.buffer_serial n)
 
-abbrev pub asked_by : ℕ → Size → Held → Held
-asked_by n size w =
+abbrev pub configured_by : ℕ → Size → Held → Held
+configured_by n size w =
     if w.placed == n then w
-    else if w.serial == 0 || not (same_size w.size size) then record w { placed = n; before = w.serial; serial = n; size = size }
+    else if w.configure_serial == 0 || not (same_size w.configured_size size) then record w { placed = n; previous_serial = w.configure_serial; configure_serial = n; configured_size = size }
     else record w { placed = n }
 
 abbrev pub committed_serial : ℕ → Held → ℕ
-committed_serial done w = if nat_le w.serial done then w.serial else w.before
+committed_serial done w = if nat_le w.configure_serial done then w.configure_serial else w.previous_serial
 
 abbrev pub shown_by : ℕ → Held → Buffer
-shown_by done w = if nat_le w.under done then w.newest else w.older
+shown_by done w = if nat_le w.buffer_serial done then w.buffer else w.saved_buffer
 
 abbrev pub buffered_with : ℕ → Buffer → Held → Held
-buffered_with done buffer w = record w { older = shown_by done w; newest = buffer; under = w.acked }
+buffered_with done buffer w = record w { saved_buffer = shown_by done w; buffer = buffer; buffer_serial = w.acked_serial }
 
 abbrev pub acked_with : ℕ → Held → Held
-acked_with serial w = record w { acked = serial }
+acked_with serial w = record w { acked_serial = serial }
 
 -- ---- the windows, by id
 
@@ -76,32 +76,32 @@ one_if true = 1
 one_if false = 0
 
 -- transaction n awaits the window now, and did not before
-abbrev pub is_newly_asked : ℕ → Size → Held → Bool
-is_newly_asked n size w = not (w.placed == n) && is_unanswered n (asked_by n size w)
+abbrev pub is_newly_configured : ℕ → Size → Held → Bool
+is_newly_configured n size w = not (w.placed == n) && is_unanswered n (configured_by n size w)
 
-abbrev pub ask_found : ℕ → Size → ConId → Option Held → Windows → Windows
-ask_found n size v None windows = windows
-ask_found n size v (Some w) windows = put v (asked_by n size w) windows
+abbrev pub configure_found : ℕ → Size → ConId → Option Held → Windows → Windows
+configure_found n size v None windows = windows
+configure_found n size v (Some w) windows = put v (configured_by n size w) windows
 
 abbrev pub count_found : ℕ → Size → Option Held → ℕ
 count_found n size None = 0
-count_found n size (Some w) = one_if (is_newly_asked n size w)
+count_found n size (Some w) = one_if (is_newly_configured n size w)
 
 -- the windows after transaction n places this part, and how many it awaits for that
-abbrev pub ask_part : ℕ → Placed → Windows → Windows
-ask_part n p windows = if is_content p.part then ask_found n (size_of p) p.con (find p.con windows) windows else windows
+abbrev pub configure_part : ℕ → Placed → Windows → Windows
+configure_part n p windows = if is_content p.part then configure_found n (size_of p) p.con (find p.con windows) windows else windows
 
 abbrev pub count_part : ℕ → Placed → Windows → ℕ
 count_part n p windows = if is_content p.part then count_found n (size_of p) (find p.con windows) else 0
 
 -- the same for all parts, in order
-abbrev pub ask_all : ℕ → List Placed → Windows → Windows
-ask_all n [] windows = windows
-ask_all n (p ∷ parts) windows = ask_all n parts (ask_part n p windows)
+abbrev pub configure_all : ℕ → List Placed → Windows → Windows
+configure_all n [] windows = windows
+configure_all n (p ∷ parts) windows = configure_all n parts (configure_part n p windows)
 
 abbrev pub count_all : ℕ → List Placed → Windows → ℕ
 count_all n [] windows = 0
-count_all n (p ∷ parts) windows = count_part n p windows + count_all n parts (ask_part n p windows)
+count_all n (p ∷ parts) windows = count_part n p windows + count_all n parts (configure_part n p windows)
 
 -- how many windows transaction n awaits that have not answered
 abbrev pub count_unanswered : ℕ → Windows → ℕ
@@ -162,7 +162,7 @@ is_left n (Some w) = is_unanswered n w
 
 abbrev pub has_acked : ℕ → Option Held → Bool
 has_acked n None = false
-has_acked n (Some w) = w.acked == n
+has_acked n (Some w) = w.acked_serial == n
 
 -- the least window with a content among the parts that transaction n awaits and that has not answered
 abbrev pub least_left : ℕ → Windows → List Placed → Option ConId

@@ -1,6 +1,6 @@
 //! What callers do to the transactions.
 ghost use Rattle.std.specs.Prelude.{◌≡◌, ◌+◌, ◌<◌, ◌≤◌, ◌^◌, List, ◌∷◌, [], length, IfOk, OnOk, OnErr, is_some};
-ghost use Rattle.wm_txn.specs.Heard.{ack_answer, buffer_answer, heard};
+ghost use Rattle.wm_txn.specs.Accepted.{ack_answer, buffer_answer, accepted};
 ghost use Rattle.wm_txn.specs.History.{Opening, Entry, Acked, Arranged, Deadline, Gave};
 ghost use Rattle.wm_txn.specs.Machine.{judge_ack, judge_buffer, last_prefix};
 ghost use Rattle.wm_txn.specs.Windows.{HasNoContent, find};
@@ -66,7 +66,7 @@ impl Txn {
     /// The client of a window acknowledges a serial.
     pub fn ack(&mut self, view: ConId, serial: u64) -> Result<(), AckRefusal>
         ensures answer { (o : Opening) → (history : List Entry) → Stands o history self.old →
-            result ≡ ack_answer o view serial (heard o history) }
+            result ≡ ack_answer o view serial (accepted o history) }
         ensures there { result ≡ judge_ack self.old.number serial (find view self.old.windows) }
         ensures stands { (o : Opening) → (history : List Entry) → Stands o history self.old →
             Stands o (Acked view serial ∷ history) self.new }
@@ -81,7 +81,7 @@ impl Txn {
         requires few { place < 2 ^ 48 }
         requires rises { last_prefix self.old ≤ place }
         ensures answer { (o : Opening) → (history : List Entry) → Stands o history self.old →
-            result ≡ buffer_answer o view b (heard o history) }
+            result ≡ buffer_answer o view b (accepted o history) }
         ensures there { result ≡ judge_buffer b (find view self.old.windows) }
         ensures stands { (o : Opening) → (history : List Entry) → length history ≡ place → Stands o history self.old →
             Stands o (Gave view b ∷ history) self.new }

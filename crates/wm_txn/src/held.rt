@@ -1,25 +1,26 @@
 //! What is kept of a window, its last two buffers and its last two configures, and of a transaction that waits.
 ghost use Rattle.std.specs.Prelude.{◌≡◌};
 ghost use Rattle.wm_txn.specs.Machine.{judge_serial};
-ghost use Rattle.wm_txn.specs.Windows.{acked_with, asked_by, buffered_with, closed_held, committed_serial, held_of, is_unanswered, shown_by};
+ghost use Rattle.wm_txn.specs.Windows.{acked_with, configured_by, buffered_with, closed_held, committed_serial, held_of, is_unanswered, shown_by};
 
 use crate::answers::AckRefusal;
 use wm_arrange::Arrangement;
 use wm_base::{Buffer, Size};
 
-/// A window. `under` is the serial under which its newest buffer came, and `older` is the buffer that it shows while
-/// the newest is under a number that is not done. `serial` and `size` are those of its latest configure, and `before`
-/// is the serial of the configure before that. `placed` is the number of the last transaction that has a content of it.
+/// A window. `acked_serial` is the last serial that it acknowledged. `buffer` is the newest one that it gave, under
+/// `buffer_serial`, and `saved_buffer` is what it shows while that is a number that is not done. `configure_serial` and
+/// `configured_size` are those of its latest configure, and `previous_serial` is the serial of the configure before that.
+/// `placed` is the number of the last transaction that has a content of it.
 #[derive(Clone, Copy, Debug)]
 pub struct Held {
     pub live: bool,
-    pub acked: u64,
-    pub newest: Buffer,
-    pub under: u64,
-    pub older: Buffer,
-    pub serial: u64,
-    pub size: Size,
-    pub before: u64,
+    pub acked_serial: u64,
+    pub buffer: Buffer,
+    pub buffer_serial: u64,
+    pub saved_buffer: Buffer,
+    pub configure_serial: u64,
+    pub configured_size: Size,
+    pub previous_serial: u64,
     pub placed: u64,
 }
 
@@ -37,13 +38,13 @@ impl Held {
     {
         Held {
             live: true,
-            acked: 0,
-            newest: buffer,
-            under: 0,
-            older: buffer,
-            serial: 0,
-            size: buffer.size,
-            before: 0,
+            acked_serial: 0,
+            buffer,
+            buffer_serial: 0,
+            saved_buffer: buffer,
+            configure_serial: 0,
+            configured_size: buffer.size,
+            previous_serial: 0,
             placed: 0,
         }
     }
@@ -52,23 +53,23 @@ impl Held {
     pub(crate) fn is_unanswered(&self, number: u64) -> bool
         ensures { result ≡ is_unanswered number self.now }
     {
-        self.live && self.serial == number && self.under < number
+        self.live && self.configure_serial == number && self.buffer_serial < number
     }
 
-    /// The window after transaction `number` places its content with this size: it is configured where it was not asked
-    /// for that size.
-    pub(crate) fn asked_by(self, number: u64, size: Size) -> Held
-        ensures { result ≡ asked_by number size self }
+    /// The window after transaction `number` places its content with this size: it is configured where its latest
+    /// configure was not with that size.
+    pub(crate) fn configured_by(self, number: u64, size: Size) -> Held
+        ensures { result ≡ configured_by number size self }
     {
         if self.placed == number {
             return self;
         }
         let mut held = self;
         held.placed = number;
-        if self.serial == 0 || self.size != size {
-            held.before = self.serial;
-            held.serial = number;
-            held.size = size;
+        if self.configure_serial == 0 || self.configured_size != size {
+            held.previous_serial = self.configure_serial;
+            held.configure_serial = number;
+            held.configured_size = size;
         }
         held
     }
@@ -77,10 +78,10 @@ impl Held {
     pub(crate) fn committed_serial(&self, done: u64) -> u64
         ensures { result ≡ committed_serial done self.now }
     {
-        if self.serial <= done {
-            self.serial
+        if self.configure_serial <= done {
+            self.configure_serial
         } else {
-            self.before
+            self.previous_serial
         }
     }
 
@@ -88,13 +89,13 @@ impl Held {
     pub(crate) fn judge_ack(&self, done: u64, serial: u64) -> Result<(), AckRefusal>
         ensures { result ≡ judge_serial done serial self.now }
     {
-        let due = serial == self.serial || serial == self.committed_serial(done);
-        if due && self.acked < serial {
+        let due = serial == self.configure_serial || serial == self.committed_serial(done);
+        if due && self.acked_serial < serial {
             return Ok(());
         }
         Err(AckRefusal::BadSerial {
             asked: serial,
-            last: self.acked,
+            last: self.acked_serial,
         })
     }
 
@@ -103,7 +104,7 @@ impl Held {
         ensures { result ≡ acked_with serial self }
     {
         let mut held = self;
-        held.acked = serial;
+        held.acked_serial = serial;
         held
     }
 
@@ -121,9 +122,9 @@ impl Held {
         ensures { result ≡ buffered_with done buffer self }
     {
         let mut held = self;
-        held.older = self.shown_by(done);
-        held.newest = buffer;
-        held.under = self.acked;
+        held.saved_buffer = self.shown_by(done);
+        held.buffer = buffer;
+        held.buffer_serial = self.acked_serial;
         held
     }
 
@@ -131,10 +132,10 @@ impl Held {
     pub(crate) fn shown_by(&self, done: u64) -> Buffer
         ensures { result ≡ shown_by done self.now }
     {
-        if self.under <= done {
-            self.newest
+        if self.buffer_serial <= done {
+            self.buffer
         } else {
-            self.older
+            self.saved_buffer
         }
     }
 }

@@ -1,6 +1,6 @@
 //! Laws of the transactions.
 ghost use Rattle.wm_txn.specs.Lasting.{BeginsOnce, BeginsThere, BegunStays, EndedStays, EndsThere, EndsTwiceAtMost, NeverFalls, SecondAwaitsNobody};
-ghost use Rattle.wm_txn.specs.Shown.{HasAskedSize, ShowsAnswer, ShowsOpening};
+ghost use Rattle.wm_txn.specs.Shown.{HasConfiguredSize, ShowsAnswer, ShowsOpening};
 ghost use Rattle.wm_txn.specs.Standing.{BeginsWithin, KnowsOpen, KnowsWindows, StillStands, TellsWaiting};
 
 /// An entry that is none of the machine's business leaves it standing for the history.
@@ -73,14 +73,14 @@ pub fn the_second_awaits_nobody()
     ensures { SecondAwaitsNobody }
 {}
 
-/// A window in the arrangement that is done has the size that was asked of it last.
-#[tactic(auto, using(crate::proofs::ShownLemmas::has_asked_size))]
-pub fn a_window_has_the_asked_size()
-    ensures { HasAskedSize }
+/// A window in the arrangement that is done has the size that it was configured with last.
+#[tactic(auto, using(crate::proofs::ShownLemmas::has_configured_size))]
+pub fn a_window_has_the_configured_size()
+    ensures { HasConfiguredSize }
 {}
 
-/// A window shows its buffer under the number of the transaction that asked it last, unless a deadline ended that one or
-/// the window was closed then.
+/// A window shows its buffer under the number of the transaction that configured it last, unless a deadline ended that
+/// one or the window was closed then.
 pub fn a_window_shows_its_answer()
     ensures { ShowsAnswer }
 {}

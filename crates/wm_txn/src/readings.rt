@@ -1,10 +1,10 @@
-//! What the transactions tell: what is done, what each window shows and was asked, and what waits.
+//! What the transactions tell: what is done, what each window shows and was configured with, and what waits.
 ghost use Rattle.std.specs.Prelude.{◌≡◌, ◌+◌, List};
-ghost use Rattle.wm_txn.specs.Commits.{asked, current, done, prefix, shown, waiting};
-ghost use Rattle.wm_txn.specs.Heard.{heard};
+ghost use Rattle.wm_txn.specs.Commits.{configured, current, done, prefix, shown, waiting};
+ghost use Rattle.wm_txn.specs.Accepted.{accepted};
 ghost use Rattle.wm_txn.specs.History.{arrangement, Opening, Entry};
 ghost use Rattle.wm_txn.specs.Stands.{Stands};
-ghost use Rattle.wm_txn.specs.Machine.{asked_of, newest_of, shown_of, waiting_in};
+ghost use Rattle.wm_txn.specs.Machine.{configured_of, newest_of, shown_of, waiting_in};
 ghost use Rattle.wm_txn.specs.Windows.{find, has_acked};
 
 use crate::answers::Waiting;
@@ -17,7 +17,7 @@ impl Txn {
     /// The buffer that a window shows. `None` exactly where it was never there.
     pub fn shown(&self, view: ConId) -> Option<Buffer>
         ensures value { result ≡ shown_of view self.now }
-        ensures history { (o : Opening) → (history : List Entry) → Stands o history self.now → result ≡ shown o view (heard o history) }
+        ensures history { (o : Opening) → (history : List Entry) → Stands o history self.now → result ≡ shown o view (accepted o history) }
     {
         self.shown_of(view)
     }
@@ -25,7 +25,7 @@ impl Txn {
     /// The number of the last transaction that has ended.
     pub fn done(&self) -> u64
         ensures value { result ≡ self.now.number }
-        ensures history { (o : Opening) → (history : List Entry) → Stands o history self.now → result ≡ done o (heard o history) }
+        ensures history { (o : Opening) → (history : List Entry) → Stands o history self.now → result ≡ done o (accepted o history) }
     {
         self.number
     }
@@ -33,7 +33,7 @@ impl Txn {
     /// How many entries had come when the last ended transaction began.
     pub fn prefix(&self) -> u64
         ensures value { result ≡ self.now.prefix }
-        ensures history { (o : Opening) → (history : List Entry) → Stands o history self.now → result ≡ prefix o (heard o history) }
+        ensures history { (o : Opening) → (history : List Entry) → Stands o history self.now → result ≡ prefix o (accepted o history) }
     {
         self.prefix
     }
@@ -41,7 +41,7 @@ impl Txn {
     /// The arrangement of the last ended transaction.
     pub fn current(&self) -> &Arrangement
         ensures value { result.now ≡ self.now.current }
-        ensures history { (o : Opening) → (history : List Entry) → Stands o history self.now → result.now.parts ≡ current o (heard o history) }
+        ensures history { (o : Opening) → (history : List Entry) → Stands o history self.now → result.now.parts ≡ current o (accepted o history) }
     {
         &self.current
     }
@@ -49,7 +49,7 @@ impl Txn {
     /// The arrangement after the history, which nothing may have begun yet.
     pub fn newest(&self) -> &Arrangement
         ensures value { result.now ≡ newest_of self.now }
-        ensures history { (o : Opening) → (history : List Entry) → Stands o history self.now → result.now.parts ≡ arrangement o (heard o history) }
+        ensures history { (o : Opening) → (history : List Entry) → Stands o history self.now → result.now.parts ≡ arrangement o (accepted o history) }
     {
         self.newest_of()
     }
@@ -57,16 +57,16 @@ impl Txn {
     /// The serial and the size of the latest configure of a window. `None` exactly where it is not open, or no
     /// transaction has configured it.
     pub fn asked(&self, view: ConId) -> Option<(u64, Size)>
-        ensures value { result ≡ asked_of (find view self.now.windows) }
-        ensures history { (o : Opening) → (history : List Entry) → Stands o history self.now → result ≡ asked o view (heard o history) }
+        ensures value { result ≡ configured_of (find view self.now.windows) }
+        ensures history { (o : Opening) → (history : List Entry) → Stands o history self.now → result ≡ configured o view (accepted o history) }
     {
-        self.asked_of(view)
+        self.configured_of(view)
     }
 
     /// The transaction that waits.
     pub fn waiting(&self) -> Option<Waiting>
         ensures value { result ≡ waiting_in (self.now.number + 1) self.now.windows self.now.waiting }
-        ensures history { (o : Opening) → (history : List Entry) → Stands o history self.now → result ≡ waiting o (heard o history) }
+        ensures history { (o : Opening) → (history : List Entry) → Stands o history self.now → result ≡ waiting o (accepted o history) }
     {
         self.waiting_of()
     }
@@ -92,11 +92,14 @@ impl Txn {
         }
     }
 
-    fn asked_of(&self, view: ConId) -> Option<(u64, Size)>
-        ensures { result ≡ asked_of (find view self.now.windows) }
+    fn configured_of(&self, view: ConId) -> Option<(u64, Size)>
+        ensures { result ≡ configured_of (find view self.now.windows) }
     {
         match self.windows.get(view.0) {
-            Some(held) if held.live && held.serial != 0 => Some((held.serial, held.size)),
+            Some(held) if held.live && held.configure_serial != 0 => Some((
+                held.configure_serial,
+                held.configured_size,
+            )),
             _ => None,
         }
     }
@@ -118,7 +121,7 @@ impl Txn {
         ensures { result ≡ has_acked number (find view self.now.windows) }
     {
         match self.windows.get(view.0) {
-            Some(held) => held.acked == number,
+            Some(held) => held.acked_serial == number,
             None => false,
         }
     }

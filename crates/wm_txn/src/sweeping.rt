@@ -47,8 +47,12 @@ impl Txn {
         if held.live {
             return;
         }
-        let Held { newest, under, .. } = *held;
-        if self.number < under || self.gone.insert(con.0, newest).is_err() {
+        let Held {
+            buffer,
+            buffer_serial,
+            ..
+        } = *held;
+        if self.number < buffer_serial || self.gone.insert(con.0, buffer).is_err() {
             let _ = self.late.push(con);
             return;
         }

@@ -5,7 +5,7 @@ ghost use Rattle.wm_txn.specs.Windows.{AreSorted, find};
 
 use crate::answers::{AckRefusal, BufferRefusal};
 use crate::held::{Held, Pending};
-use crate::windows::{ask_all, close_all, one_if};
+use crate::windows::{close_all, configure_all, one_if};
 use std::alloc::Global;
 use std::collections::BTreeMap;
 use std::marker::Model;
@@ -74,7 +74,7 @@ impl Txn {
         ensures prefix { last_prefix self.new ≡ steps }
     {
         let number = self.number + 1;
-        self.left = ask_all(&mut self.windows, newest.parts.items(), number);
+        self.left = configure_all(&mut self.windows, newest.parts.items(), number);
         self.waiting = Some(Pending {
             prefix: steps,
             arrangement: newest,

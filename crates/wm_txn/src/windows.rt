@@ -1,6 +1,6 @@
-//! The windows by id: what transactions ask of them, and those that close.
+//! The windows by id: what transactions configure them with, and those that close.
 ghost use Rattle.std.specs.Prelude.{◌≡◌, ◌≤◌, Some};
-ghost use Rattle.wm_txn.specs.Windows.{ask_all, ask_found, close_all, close_found, count_all, count_awaited, count_closed, count_found, find, is_left, least_left, one_if, size_of};
+ghost use Rattle.wm_txn.specs.Windows.{configure_all, configure_found, close_all, close_found, count_all, count_awaited, count_closed, count_found, find, is_left, least_left, one_if, size_of};
 ghost use Rattle.wm_txn.specs.Commits.{lesser};
 ghost use Rattle.wm_arrange.specs.Sizes.{is_content};
 
@@ -9,25 +9,26 @@ use wm_arrange::{Placed, PlacedPart};
 use wm_base::{ConId, Size};
 use wm_ids::IdMap;
 
-/// Asks the windows that have a content among the parts for its size, and answers how many transaction `number` awaits.
-pub(crate) fn ask_all(windows: &mut IdMap<Held>, parts: &[Placed], number: u64) -> u64
-    ensures windows { windows.new ≡ ask_all number parts.now windows.old }
+/// Configures the windows that have a content among the parts with its size, and answers how many transaction `number`
+/// awaits.
+pub(crate) fn configure_all(windows: &mut IdMap<Held>, parts: &[Placed], number: u64) -> u64
+    ensures windows { windows.new ≡ configure_all number parts.now windows.old }
     ensures count { result ≡ count_all number parts.now windows.old }
 {
     let mut count: u64 = 0;
     let mut rest = parts;
     while let [placed, after @ ..] = rest {
         if is_content(&placed.part) {
-            count += ask(windows, placed.con, size_of(placed), number);
+            count += configure(windows, placed.con, size_of(placed), number);
         }
         rest = after;
     }
     count
 }
 
-/// Asks a window for a size, and answers 1 where transaction `number` awaits it for that.
-fn ask(windows: &mut IdMap<Held>, con: ConId, size: Size, number: u64) -> u64
-    ensures windows { windows.new ≡ ask_found number size con (find con windows.old) windows.old }
+/// Configures a window with a size, and answers 1 where transaction `number` awaits it for that.
+fn configure(windows: &mut IdMap<Held>, con: ConId, size: Size, number: u64) -> u64
+    ensures windows { windows.new ≡ configure_found number size con (find con windows.old) windows.old }
     ensures count { result ≡ count_found number size (find con windows.old) }
     ensures small { result ≤ 1 }
 {
@@ -35,7 +36,7 @@ fn ask(windows: &mut IdMap<Held>, con: ConId, size: Size, number: u64) -> u64
         return 0;
     };
     let before = *held;
-    let after = before.asked_by(number, size);
+    let after = before.configured_by(number, size);
     windows.set(con.0, after);
     one_if(before.placed != number && after.is_unanswered(number))
 }

@@ -1,7 +1,7 @@
 use Rattle.std.proofs.Common.{◌≡◌, ◌++◌, filter, length, not}
 use Rattle.wm_base.specs.declared.ids.ConId.{ConId}
 use Rattle.wm_opens.specs.Opens.{is_window_of}
-use Rattle.wm_core.specs.History.{closed}
+use Rattle.wm_core.specs.Effect.{closed}
 use Rattle.wm_core.specs.Windows.{holds}
 use Rattle.wm_core.proofs.counting.missing.Given as goal
 

@@ -1,5 +1,5 @@
 use Rattle.std.proofs.Common.{◌≡◌, map, take}
-use Rattle.wm_core.specs.History.{reply_to}
+use Rattle.wm_core.specs.Effect.{reply_to}
 use Rattle.wm_core.proofs.replies.replies_to.Given as goal
 
 -- the replies so far are those to the first ones

@@ -14,7 +14,7 @@ loop-rest-preserved c =
     record {
       sound = c.set.ensures.sound;
       outputs = c.set.ensures.outputs ∙ kept.outputs;
-      homes = c.set.ensures.homes ∙ kept.homes;
+      env = c.set.ensures.env ∙ kept.env;
       fit = All-take IsFitLine _ _ (All-drop IsFitLine 1 rest kept.fit);
       set =
           ap (set_by_all (take (length rest - 1) (drop 1 rest))) c.set.ensures.setting

@@ -6,4 +6,4 @@ use Rattle.wm_book.proofs.recorded.RecordedKept.state.Goals as goal
 pub returns : goal.returns
 returns c = λ entries s.
     let same = ap (λ (r : RecordedValue). r.desk) c.self.view_is in
-    rw (← same) (c.state.ensures (history_of entries) (rw (← same) at s.desk_stands))
+    rw (← same) (c.state.ensures _ (history_of entries) (rw (← same) at s.desk_stands))

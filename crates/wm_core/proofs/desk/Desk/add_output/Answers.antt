@@ -8,30 +8,31 @@ use Rattle.wm_tree.specs.TreeValue.{TreeValue}
 use Rattle.wm_tree.specs.Words.{settled}
 use Rattle.wm_core.specs.Act.{OutputAdd}
 use Rattle.wm_core.specs.DeskValue.{DeskValue}
-use Rattle.wm_core.specs.History.{left}
+use Rattle.wm_core.specs.Effect.{leaving}
+use Rattle.wm_core.specs.declared.step.Answer.TheVariants.{Done}
 use Rattle.wm_core.proofs.FollowLemmas.{follows_made}
-use Rattle.wm_core.proofs.StepLemmas.{has_limit, has_room, is_added, never_taken, not_added, says_added, says_not_added}
+use Rattle.wm_core.proofs.StepLemmas.{has_limit, has_room, is_added, never_taken, not_added, taken}
 use Rattle.wm_core.proofs.desk.Desk.add_output.Goals as goal
 
 -- an output has the name, so nothing changes
-pub returns-then-is_some-clause-stands : goal.returns-then-is_some-clause-stands
-returns-then-is_some-clause-stands c = λ history s.
+pub returns-then-is_some : goal.returns-then-is_some
+returns-then-is_some c =
     let seen = ap (λ (d : DeskValue). d.tree) c.self.view_is in
-    let taken : is_some (output_named c.args.plan.now.name c.args.self.now.tree) ≡ true =
+    let named : is_some (output_named c.args.plan.now.name c.args.self.now.tree) ≡ true =
     sym (c.if-is_some.ensures ∙ ap is_some (c.in_ok-output_named.ensures ∙ ap (output_named c.args.plan.now.name) seen)) in
-    c.stay.ensures.stands history (record { who = c.args.who; act = OutputAdd c.args.plan.now }) s (rw taken refl) (rw taken refl) refl
+    taken _ _ _ _ (c.stay.ensures (record { who = c.args.who; act = OutputAdd c.args.plan.now }) (rw named refl))
 
 -- nor does anything where the rectangle is outside the limits
-pub returns-then-not-is_fit_rect-clause-stands : goal.returns-then-not-is_fit_rect-clause-stands
-returns-then-not-is_fit_rect-clause-stands c = λ history s.
+pub returns-then-not-is_fit_rect : goal.returns-then-not-is_fit_rect
+returns-then-not-is_fit_rect c =
     let seen = ap (λ (d : DeskValue). d.tree) c.self.view_is in
     let free : is_some (output_named c.args.plan.now.name c.args.self.now.tree) ≡ false =
     sym (c.if-is_some.ensures ∙ ap is_some (c.in_ok-output_named.ensures ∙ ap (output_named c.args.plan.now.name) seen)) in
     let unfit : is_fit_rect c.args.plan.now.rect ≡ false = sym c.if-not-is_fit_rect.ensures in
-    c.stay-then-not-is_fit_rect.ensures.stands history (record { who = c.args.who; act = OutputAdd c.args.plan.now }) s (rw (free, unfit) refl) (rw (free, unfit) refl) refl
+    taken _ _ _ _ (c.stay-then-not-is_fit_rect.ensures (record { who = c.args.who; act = OutputAdd c.args.plan.now }) (rw (free, unfit) refl))
 
-pub returns-in-Ok-clause-stands : goal.returns-in-Ok-clause-stands
-returns-in-Ok-clause-stands c = λ history s.
+pub returns-in-Ok : goal.returns-in-Ok
+returns-in-Ok c =
     let t = c.args.self.now.tree in
     let seen = ap (λ (d : DeskValue). d.tree) c.self.view_is in
     let same : c.in_ok-tree.tree ≡ t = c.in_ok-tree.ensures ∙ seen in
@@ -42,14 +43,12 @@ returns-in-Ok-clause-stands c = λ history s.
     let room : passed_by_output t.nodes t.next_id ≡ None =
     ap (λ (z : TreeValue). passed_by_output z.nodes z.next_id) (sym same) ∙ has_room c.args.plan.now c.in_ok-tree.tree copied c.in-Ok.ensures.fine in
     let made = c.in-Ok.ensures.tree ∙ ap (output_added_tree c.args.plan.now) same in
-    c.finish.ensures.stands history (record { who = c.args.who; act = OutputAdd c.args.plan.now }) s
-    (ap settled made ∙ is_added c.args.plan.now t free fit room)
-    (says_added c.args.plan.now t free fit room ∙ ap (λ z. left t (settled z) None) (sym made))
-    refl
+    c.finish.ensures (record { who = c.args.who; act = OutputAdd c.args.plan.now })
+    (is_added c.args.plan.now t free fit room ∙ ap (λ z. leaving Done t (settled z) None) (sym made))
 
 -- no room, so nothing changes
-pub returns-in-Err-Full-clause-stands : goal.returns-in-Err-Full-clause-stands
-returns-in-Err-Full-clause-stands c = λ history s.
+pub returns-in-Err-Full : goal.returns-in-Err-Full
+returns-in-Err-Full c =
     let t = c.args.self.now.tree in
     let seen = ap (λ (d : DeskValue). d.tree) c.self.view_is in
     let same : c.in_ok-tree.tree ≡ t = c.in_ok-tree.ensures ∙ seen in
@@ -59,7 +58,7 @@ returns-in-Err-Full-clause-stands c = λ history s.
     let copied : is_some (output_named c.args.plan.now.name c.in_ok-tree.tree) ≡ false = ap (λ z. is_some (output_named c.args.plan.now.name z)) same ∙ free in
     let full : passed_by_output t.nodes t.next_id ≡ Some c.in-Err-Full.limit =
     ap (λ (z : TreeValue). passed_by_output z.nodes z.next_id) (sym same) ∙ has_limit c.args.plan.now c.in_ok-tree.tree copied c.in-Err-Full.limit (rw c.in-Err-Full.field-0-is at c.in-Err-Full.ensures.cause) in
-    c.stay-in-Err-Full.ensures.stands history (record { who = c.args.who; act = OutputAdd c.args.plan.now }) s (not_added c.args.plan.now t c.in-Err-Full.limit free fit full) (says_not_added c.args.plan.now t c.in-Err-Full.limit free fit full) refl
+    taken _ _ _ _ (c.stay-in-Err-Full.ensures (record { who = c.args.who; act = OutputAdd c.args.plan.now }) (not_added c.args.plan.now t c.in-Err-Full.limit free fit full))
 
 -- the name was tested before
 pub unreachable-requires : goal.unreachable-requires

@@ -1,39 +1,32 @@
-use Rattle.std.proofs.Common.{◌≡◌, Bool, List, None, ap, ap₂, sym, ◌∙◌}
+use Rattle.std.proofs.Common.{◌≡◌, map, None, ap, ap₂, sym, ◌∙◌}
 use Rattle.wm_apply.specs.Batches.{Outcome, outcome}
-use Rattle.wm_base.specs.declared.ids.ConId.{ConId}
 use Rattle.wm_opens.proofs.CommandLemmas.{kept_outcome}
 use Rattle.wm_core.specs.DeskValue.{DeskValue}
-use Rattle.wm_core.specs.History.{Beside, left, verdict_tree}
+use Rattle.wm_core.specs.Effect.{changing, ran, reply_to}
+use Rattle.wm_core.specs.History.{done_by}
+use Rattle.wm_core.specs.declared.step.Answer.TheVariants.{Replies}
 use Rattle.wm_core.proofs.FollowLemmas.{follows_made}
 use Rattle.wm_core.proofs.desk.Desk.apply.Goals as goal
 
-abbrev beside_with : Bool → List ConId → Beside
-beside_with stops asked = record { stops = stops; asked = asked }
-
-abbrev beside_of : Outcome → Beside
-beside_of o = beside_with o.exit o.kills
-
-pub returns-clause-stands : goal.returns-clause-stands
-returns-clause-stands c = λ history entry after says does s.
+pub returns : goal.returns
+returns c = λ entry is.
     let d = c.args.self.now in
     let verdict = c.args.text.now.verdict in
-    let same : c.self.inside.tree ≡ d.tree = ap (λ (d : DeskValue). d.tree) c.self.view_is in
-    let homes : c.self.inside.plan.env.homes ≡ d.plan.env.homes = ap (λ (d : DeskValue). d.plan.env.homes) c.self.view_is in
-    let made : c.in_ok-tree.tree ≡ verdict_tree d.plan.env.homes verdict d.tree =
-    c.in_ok-tree.ensures.tree ∙ (ap (λ z. verdict_tree z verdict c.self.inside.tree) homes ∙ ap (verdict_tree d.plan.env.homes verdict) same) in
-    let here : outcome c.self.inside.plan.env.homes verdict None c.self.inside.tree ≡ outcome d.plan.env.homes verdict None d.tree =
-    ap (λ z. outcome z verdict None c.self.inside.tree) homes ∙ ap (outcome d.plan.env.homes verdict None) same in
-    let did : beside_of (outcome d.plan.env.homes verdict None d.tree) ≡ record { stops = c.in_ok-tree.applied.exit; asked = c.items-2.result.now } =
-    sym (ap₂ beside_with (c.in_ok-tree.ensures.exit ∙ ap (λ (z : Outcome). z.exit) here) (c.items-2.ensures ∙ (c.in_ok-tree.ensures.kills ∙ ap (λ (z : Outcome). z.kills) here))) in
-    c.in_ok-commit.ensures.stands history entry s (made ∙ after) (says ∙ ap (λ z. left d.tree z None) (sym made)) (does ∙ did)
+    let left : outcome c.self.inside.plan.env.homes verdict None c.self.inside.tree ≡ outcome d.plan.env.homes verdict None d.tree = ap (λ (d : DeskValue). outcome d.plan.env.homes verdict None d.tree) c.self.view_is in
+    let made = c.in_ok-tree.ensures.tree ∙ ap (λ (z : Outcome). z.tree) left in
+    let exits = c.in_ok-tree.ensures.exit ∙ ap (λ (z : Outcome). z.exit) left in
+    let kills = c.in_ok-tree.ensures.kills ∙ ap (λ (z : Outcome). z.kills) left in
+    let replies = c.in_ok-tree.ensures.replies ∙ ap (λ (z : Outcome). z.replies) left in
+    let o = outcome d.plan.env.homes verdict None d.tree in
+    let here : done_by d.plan.env d.tree entry ≡ changing (Replies (map reply_to c.in_ok-tree.applied.replies)) d.tree c.in_ok-tree.tree None c.in_ok-tree.applied.exit c.in_ok-tree.applied.kills =
+    is ∙ (ap₂ (λ rs t. changing (Replies (map reply_to rs)) d.tree t None o.exit o.kills) (sym replies) (sym made)
+    ∙ ap₂ (λ b ids. changing (Replies (map reply_to c.in_ok-tree.applied.replies)) d.tree c.in_ok-tree.tree None b ids) (sym exits) (sym kills)) in
+    c.take-answer.ensures entry here
 
 -- a text opens no window
-pub commit-requires-clause-follows : goal.commit-requires-clause-follows
-commit-requires-clause-follows c =
+pub take-answer-requires-clause-follows : goal.take-answer-requires-clause-follows
+take-answer-requires-clause-follows c =
     let d = c.args.self.now in
     let verdict = c.args.text.now.verdict in
-    let same : c.self.inside.tree ≡ d.tree = ap (λ (d : DeskValue). d.tree) c.self.view_is in
-    let homes : c.self.inside.plan.env.homes ≡ d.plan.env.homes = ap (λ (d : DeskValue). d.plan.env.homes) c.self.view_is in
-    let made : c.in_ok-tree.tree ≡ verdict_tree d.plan.env.homes verdict d.tree =
-    c.in_ok-tree.ensures.tree ∙ (ap (λ z. verdict_tree z verdict c.self.inside.tree) homes ∙ ap (verdict_tree d.plan.env.homes verdict) same) in
-    follows_made d.tree (verdict_tree d.plan.env.homes verdict d.tree) c.in_ok-tree.tree made (kept_outcome d.plan.env.homes verdict None d.tree)
+    let left : outcome c.self.inside.plan.env.homes verdict None c.self.inside.tree ≡ outcome d.plan.env.homes verdict None d.tree = ap (λ (d : DeskValue). outcome d.plan.env.homes verdict None d.tree) c.self.view_is in
+    follows_made d.tree (outcome d.plan.env.homes verdict None d.tree).tree c.in_ok-tree.tree (c.in_ok-tree.ensures.tree ∙ ap (λ (z : Outcome). z.tree) left) (kept_outcome d.plan.env.homes verdict None d.tree)

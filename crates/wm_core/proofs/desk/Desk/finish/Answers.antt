@@ -2,8 +2,11 @@ use Rattle.std.proofs.Common.{None, ap, subst, sym, ◌∙◌}
 use Rattle.wm_opens.proofs.KeptLemmas.{kept_settled}
 use Rattle.wm_tree.specs.Words.{settled}
 use Rattle.wm_core.specs.DeskValue.{Follows}
-use Rattle.wm_core.specs.History.{left}
+use Rattle.wm_core.specs.Effect.{leaving}
+use Rattle.wm_core.specs.declared.step.Answer.TheVariants.{Done}
 use Rattle.wm_core.proofs.FollowLemmas.{follows_then}
+use Rattle.wm_core.proofs.StandsLemmas.{answered}
+use Rattle.wm_core.proofs.StepLemmas.{answered_after, none_answered}
 use Rattle.wm_core.proofs.desk.Desk.finish.Goals as goal
 
 -- settling opens no window
@@ -12,7 +15,14 @@ commit-requires-clause-follows c =
     let t = c.args.self.now.tree in
     subst (λ z. Follows t z None) (sym c.settle.ensures.tree) (follows_then t c.args.tree (settled c.args.tree) None c.requires.follows (kept_settled c.args.tree))
 
-pub returns-clause-stands : goal.returns-clause-stands
-returns-clause-stands c = λ history entry s after says ends.
-    let made = c.settle.ensures.tree in
-    c.in_ok-commit.ensures.stands history entry s (made ∙ after) (says ∙ ap (λ z. left c.args.self.now.tree z None) (sym made)) ends
+pub returns : goal.returns
+returns c = λ entry is.
+    let d = c.args.self.now in
+    let here = is ∙ ap (λ z. leaving Done d.tree z None) (sym c.settle.ensures.tree) in
+    answered_after d c.commit.new.self Done entry (λ start history s. answered d start history s entry _ is) (c.in_ok-commit.ensures entry Done here)
+
+pub returns-in_err-commit : goal.returns-in_err-commit
+returns-in_err-commit c = λ entry is.
+    let d = c.args.self.now in
+    let here = is ∙ ap (λ z. leaving Done d.tree z None) (sym c.settle.ensures.tree) in
+    none_answered d c.commit.new.self entry c.from_residual.result _ _ c.from_residual.ensures.1 (c.in_err-commit.ensures entry Done here)

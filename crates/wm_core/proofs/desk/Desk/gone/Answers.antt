@@ -2,7 +2,8 @@ use Rattle.std.proofs.Common.{None, ap, refl, subst, sym, ◌∙◌}
 use Rattle.wm_tree.specs.Words.{settled}
 use Rattle.wm_core.specs.Act.{Gone}
 use Rattle.wm_core.specs.DeskValue.{DeskValue}
-use Rattle.wm_core.specs.History.{left}
+use Rattle.wm_core.specs.Effect.{leaving}
+use Rattle.wm_core.specs.declared.step.Answer.TheVariants.{Done}
 use Rattle.wm_core.specs.Windows.{AreContainers, owned, without_windows}
 use Rattle.wm_core.proofs.FollowLemmas.{follows_made}
 use Rattle.wm_core.proofs.GoneLemmas.{kept_without, owned_containers}
@@ -17,17 +18,14 @@ detach_all-requires-clause-containers c =
     (subst (AreContainers (owned c.args.who t)) (sym same) (owned_containers c.args.who t))
 
 -- they are taken out
-pub returns-clause-stands : goal.returns-clause-stands
-returns-clause-stands c = λ history s.
+pub returns : goal.returns
+returns c =
     let t = c.args.self.now.tree in
     let windows = owned c.args.who t in
     let seen = ap (λ (d : DeskValue). d.tree) c.self.view_is in
     let taken = c.deref.ensures.value ∙ c.in_ok-windows.ensures in
     let made = c.detach_all.ensures.tree ∙ (ap (λ l. without_windows l c.in_ok-tree.tree) taken ∙ ap (without_windows windows) (c.in_ok-tree.ensures ∙ seen)) in
-    c.finish.ensures.stands history (record { who = c.args.who; act = Gone }) s
-    (ap settled made)
-    (ap (λ z. left t (settled z) None) (sym made))
-    refl
+    c.finish.ensures (record { who = c.args.who; act = Gone }) (ap (λ z. leaving Done t (settled z) None) (sym made))
 
 -- and no other one comes
 pub finish-requires-clause-follows : goal.finish-requires-clause-follows

@@ -1,9 +1,19 @@
-use Rattle.wm_core.specs.DeskValue.{DeskValue}
-use Rattle.wm_core.proofs.StandsLemmas.{stands_counted}
+use Rattle.std.proofs.Common.{◌≡◌, refl, sym, ◌∙◌}
+use Rattle.wm_core.specs.DeskValue.{DeskValue, StandsFrom}
+use Rattle.wm_core.specs.Effect.{refused}
+use Rattle.wm_core.specs.History.{done_by}
+use Rattle.wm_core.proofs.StandsLemmas.{answered, stands_counted}
 use Rattle.wm_core.proofs.desk.Desk.stay.Goals as goal
 
-pub returns-clause-stands : goal.returns-clause-stands
-returns-clause-stands c = λ history entry s after says ends.
+-- a refused step is counted
+pub returns : goal.returns
+returns c = λ entry is.
     let i = c.self.inside in
     let d : DeskValue = record { plan = i.plan; steps = i.steps; tree = i.tree; txn = i.txn; stopped = i.stopped; kills = i.kills.entries } in
-    stands_counted d history (rw (← c.self.view_is) at s) entry (rw (← c.self.view_is) at after) (rw (← c.self.view_is) at says) (rw (← c.self.view_is) at ends)
+    let here : done_by d.plan.env d.tree entry ≡ refused c.args.answer d.tree = rw (← c.self.view_is) at is in
+    record {
+      answer = λ start history s. answered d start history (rw (← c.self.view_is) at s) entry (refused c.args.answer d.tree) here;
+      stands = λ start history s. stands_counted d start history (rw (← c.self.view_is) at s) entry c.args.answer here;
+      plan = rw (← c.self.view_is) refl;
+      count = rw (← c.self.view_is) refl;
+    }

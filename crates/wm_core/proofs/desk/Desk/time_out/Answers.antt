@@ -1,15 +1,25 @@
 use Rattle.std.proofs.Common.{refl}
 use Rattle.wm_txn.specs.History as commits
 use Rattle.wm_core.specs.Act.{Deadline}
-use Rattle.wm_core.specs.DeskValue.{DeskValue, Stands}
-use Rattle.wm_core.proofs.StandsLemmas.{place, stands_told}
+use Rattle.wm_core.specs.DeskValue.{DeskValue, StandsFrom}
+use Rattle.wm_core.specs.Effect.{telling}
+use Rattle.wm_core.specs.History.{Entry}
+use Rattle.wm_core.specs.declared.step.Answer.TheVariants.{Done}
+use Rattle.wm_core.proofs.StandsLemmas.{answered, place, stands_told}
 use Rattle.wm_core.proofs.desk.Desk.time_out.Goals as goal
 
--- the transactions hear the deadline
-pub returns-clause-stands : goal.returns-clause-stands
-returns-clause-stands c = λ history s.
+-- the transactions are told the deadline
+pub returns : goal.returns
+returns c =
     let i = c.self.inside in
     let d : DeskValue = record { plan = i.plan; steps = i.steps; tree = i.tree; txn = i.txn; stopped = i.stopped; kills = i.kills.entries } in
-    let stood : Stands d history = rw (← c.self.view_is) at s in
-    stands_told d history stood (record { who = c.args.who; act = Deadline c.args.number }) (commits.Deadline c.args.number) c.deadline.new.self refl refl refl (λ v b. refl) (λ v. refl)
-    (c.deadline.ensures.stands _ _ (place d history stood) stood.commits)
+    let entry : Entry = record { who = c.args.who; act = Deadline c.args.number } in
+    let told = commits.Deadline c.args.number in
+    record {
+      answer = λ start history s. answered d start history (rw (← c.self.view_is) at s) entry (telling told (λ judge. Done) d.tree) refl;
+      stands = λ start history s.
+          let stood : StandsFrom start d history = rw (← c.self.view_is) at s in
+          stands_told d start history stood entry told (λ judge. Done) c.deadline.new.self refl (λ v b. refl) (λ v. refl) (c.deadline.ensures.stands _ _ (place d start history stood) stood.commits);
+      plan = rw (← c.self.view_is) refl;
+      count = rw (← c.self.view_is) refl;
+    }

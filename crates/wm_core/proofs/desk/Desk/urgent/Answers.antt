@@ -5,10 +5,12 @@ use Rattle.wm_forest.specs.Recency.{lists}
 use Rattle.wm_tree.specs.TreeValue.{TreeValue}
 use Rattle.wm_tree.specs.Words.{settled}
 use Rattle.wm_core.specs.DeskValue.{DeskValue}
-use Rattle.wm_core.specs.History.{left}
+use Rattle.wm_core.specs.Effect.{leaving}
+use Rattle.wm_core.specs.declared.step.Answer.TheVariants.{Done}
 use Rattle.wm_core.proofs.FollowLemmas.{follows_made}
 use Rattle.wm_core.specs.Windows.{is_window, with_urgent, without_urgent}
 use Rattle.wm_base.specs.declared.ids.ConId.{ConId}
+use Rattle.wm_core.proofs.StepLemmas.{taken}
 use Rattle.wm_core.proofs.desk.Desk.urgent.Goals as goal
 
 abbrev urgency : ConId → Bool → TreeValue → TreeValue
@@ -26,21 +28,18 @@ kept_urgency v true t = kept_urgent v t
 kept_urgency v false t = kept_nodes t (without_urgent v t) (record { next = refl; nodes = refl })
 
 -- no window of the caller, so nothing changes
-pub returns-then-not-is_window-clause-stands : goal.returns-then-not-is_window-clause-stands
-returns-then-not-is_window-clause-stands c = λ history s.
+pub returns-then-not-is_window : goal.returns-then-not-is_window
+returns-then-not-is_window c =
     let not_its : is_window c.args.self.now.tree c.args.who c.args.con ≡ false = sym c.is_window.ensures.value ∙ c.if-not-is_window.true in
-    c.stay.ensures.stands history (record { who = c.args.who; act = Urgent c.args.con c.args.on }) s (rw not_its refl) (rw not_its refl) refl
+    taken _ _ _ _ (c.stay.ensures (record { who = c.args.who; act = Urgent c.args.con c.args.on }) (rw not_its refl))
 
-pub returns-clause-stands : goal.returns-clause-stands
-returns-clause-stands c = λ history s.
+pub returns : goal.returns
+returns c =
     let t = c.args.self.now.tree in
     let seen = ap (λ (d : DeskValue). d.tree) c.self.view_is in
     let its : is_window t c.args.who c.args.con ≡ true = sym c.is_window.ensures.value ∙ c.if-not-is_window.false in
     let made : c.set_urgent.new.tree ≡ urgency c.args.con c.args.on t = c.in_ok-set_urgent.ensures.tree ∙ ap (urgency c.args.con c.args.on) (c.in_ok-tree.ensures ∙ seen) in
-    c.finish.ensures.stands history (record { who = c.args.who; act = Urgent c.args.con c.args.on }) s
-    (ap settled made ∙ rw its refl)
-    (rw its (ap (λ z. left t (settled z) None) (sym made)))
-    refl
+    c.finish.ensures (record { who = c.args.who; act = Urgent c.args.con c.args.on }) (rw its (ap (λ z. leaving Done t (settled z) None) (sym made)))
 
 -- nor does a window that is urgent or no longer so
 pub finish-requires-clause-follows : goal.finish-requires-clause-follows

@@ -1,11 +1,11 @@
 use Rattle.std.proofs.Common.{◌≡◌, ◌+◌, ◌∷◌, ◌∙◌, ap, subst, sym}
-use Rattle.wm_txn.specs.Heard.{heard}
+use Rattle.wm_txn.specs.Accepted.{accepted}
 use Rattle.wm_txn.specs.History.{Arranged}
 use Rattle.wm_txn.specs.Machine.{TxnValue, arranged, opened, settled}
 use Rattle.wm_txn.specs.Windows.{AreSorted}
 use Rattle.wm_txn.proofs.EntryLemmas.{stands_arranged}
 use Rattle.wm_txn.proofs.StandingLemmas.{fit_windows}
-use Rattle.wm_txn.proofs.OpeningLemmas.{heard_length}
+use Rattle.wm_txn.proofs.OpeningLemmas.{accepted_length}
 use Rattle.wm_txn.proofs.txn.Txn.admit.Goals as goal
 
 pub returns-clause-stands : goal.returns-clause-stands
@@ -19,4 +19,4 @@ returns-clause-stands c = λ o history at s fit.
     let left : c.settle.new.self ≡ settled (c.args.place + 1) (arranged c.args.newest c.args.gone.now (opened c.args.fresh d)) =
     c.settle.ensures.value ∙ ap (settled (c.args.place + 1)) (c.arrange.ensures.value ∙ ap (arranged c.args.newest c.args.gone.now) made) in
     rw c.discard.ensures (c.sweep.ensures.stands o (Arranged c.args.newest.parts c.args.fresh c.args.gone.now ∷ history)
-    (rw left (stands_arranged o (heard o history) d s c.args.newest c.args.fresh c.args.gone.now (c.args.place + 1) (ap (λ n. n + 1) (sym at ∙ sym (heard_length o history))) fits.0 fits.1 sorted)))
+    (rw left (stands_arranged o (accepted o history) d s c.args.newest c.args.fresh c.args.gone.now (c.args.place + 1) (ap (λ n. n + 1) (sym at ∙ sym (accepted_length o history))) fits.0 fits.1 sorted)))

@@ -1,15 +1,15 @@
--- What is heard opens, closes and maps the same windows.
+-- What is accepted opens, closes and maps the same windows.
 use Rattle.std.proofs.Common.{◌≡◌, ℕ, Bool, true, false, cond, not, ◌&&◌, ◌||◌, leb, List, [], ◌∷◌, Option, Some, None, is_some, refl, ap, sym, ◌∙◌}
 use Rattle.std.proofs.lemmas.Bool.{and_parts}
 use Rattle.std.specs.List.{list_any}
 use Rattle.wm_base.specs.declared.ids.Buffer.{Buffer}
 use Rattle.wm_base.specs.declared.ids.ConId.{ConId}
 use Rattle.wm_forest.specs.Look.{same}
-use Rattle.wm_txn.specs.Heard.{hear, heard, is_due, is_empty}
+use Rattle.wm_txn.specs.Accepted.{accept, accepted, is_due, is_empty}
 use Rattle.wm_txn.specs.History.{Opening, Entry, Arranged, Acked, Gave, Deadline, Still, buffer_after, buffer_up_to, is_fresh, is_open, last, mapped_with, maps, open_after, was_open}
 use Rattle.wm_txn.proofs.WindowLemmas.{one_id}
 
-opens_same : (o : Opening) (v : ConId) (entry : Entry) (history : List Entry) (before : Bool) → open_after (hear o entry history) v before ≡ open_after entry v before
+opens_same : (o : Opening) (v : ConId) (entry : Entry) (history : List Entry) (before : Bool) → open_after (accept o entry history) v before ≡ open_after entry v before
 opens_same o v (Arranged newest fresh gone) history before = refl
 opens_same o v (Acked c serial) history before = by (is_open o c history && is_due o c serial history)
   where
@@ -24,10 +24,10 @@ opens_same o v (Gave c buffer) history before = by (is_open o c history && not (
 opens_same o v (Deadline number) history before = refl
 opens_same o v Still history before = refl
 
--- the same windows are open after what was heard
-pub heard_opens : (o : Opening) (v : ConId) (history : List Entry) → is_open o v (heard o history) ≡ is_open o v history
-heard_opens o v [] = refl
-heard_opens o v (entry ∷ history) = opens_same o v entry (heard o history) (is_open o v (heard o history)) ∙ ap (open_after entry v) (heard_opens o v history)
+-- the same windows are open after what was accepted
+pub accepted_opens : (o : Opening) (v : ConId) (history : List Entry) → is_open o v (accepted o history) ≡ is_open o v history
+accepted_opens o v [] = refl
+accepted_opens o v (entry ∷ history) = opens_same o v entry (accepted o history) (is_open o v (accepted o history)) ∙ ap (open_after entry v) (accepted_opens o v history)
 
 open_step : (v : ConId) (entry : Entry) (before was : Bool) → (before ≡ true → was ≡ true) → open_after entry v before ≡ true → (maps v entry || was) ≡ true
 open_step v (Arranged newest fresh gone) before was h opens = by (is_fresh v fresh) before (and_parts (is_fresh v fresh || before) (not (list_any (same v) gone)) opens).0 h
@@ -62,7 +62,7 @@ or_false false b h e = h
 or_false true b h e = cc
 
 some_step : (o : Opening) (v : ConId) (n : ℕ) (entry : Entry) (history : List Entry) (under : ℕ) (before : Option Buffer) (was : Bool) → (was ≡ true → is_some before ≡ true) → (maps v entry || was) ≡ true
-    → is_some (buffer_after (hear o entry history) v n under before) ≡ true
+    → is_some (buffer_after (accept o entry history) v n under before) ≡ true
 some_step o v n (Arranged newest fresh gone) history under before was h one = mapped_some v fresh before (λ other. h (or_false (is_fresh v fresh) was one other))
 some_step o v n (Acked c serial) history under before was h one = by (is_open o c history && is_due o c serial history)
   where
@@ -78,10 +78,10 @@ some_step o v n (Deadline number) history under before was h one = h one
 some_step o v n Still history under before was h one = h one
 
 -- one that was open has a buffer
-pub was_some : (o : Opening) (v : ConId) (n : ℕ) (history : List Entry) → was_open o v history ≡ true → is_some (buffer_up_to o n v (heard o history)) ≡ true
+pub was_some : (o : Opening) (v : ConId) (n : ℕ) (history : List Entry) → was_open o v history ≡ true → is_some (buffer_up_to o n v (accepted o history)) ≡ true
 was_some o v n [] h = h
 was_some o v n (entry ∷ history) h =
-    some_step o v n entry (heard o history) (last v (heard o history)) (buffer_up_to o n v (heard o history)) (was_open o v history) (was_some o v n history) h
+    some_step o v n entry (accepted o history) (last v (accepted o history)) (buffer_up_to o n v (accepted o history)) (was_open o v history) (was_some o v n history) h
 
 fresh_some : (v : ConId) (fresh : Option (ConId × Buffer)) (before : Option Buffer) (was : Bool) → (is_some before ≡ true → was ≡ true) → is_some (mapped_with v fresh before) ≡ true → (is_fresh v fresh || was) ≡ true
 fresh_some v None before was h some = h some
@@ -96,7 +96,7 @@ gave_some c v buffer before was in_time true one h some = one refl
 gave_some c v buffer before was in_time false one h some = h some
 
 was_step : (o : Opening) (v : ConId) (n : ℕ) (entry : Entry) (history : List Entry) (under : ℕ) (before : Option Buffer) (was : Bool) → ((c : ConId) → is_open o c history ≡ true → same c v ≡ true → was ≡ true) → (is_some before ≡ true → was ≡ true)
-    → is_some (buffer_after (hear o entry history) v n under before) ≡ true → (maps v entry || was) ≡ true
+    → is_some (buffer_after (accept o entry history) v n under before) ≡ true → (maps v entry || was) ≡ true
 was_step o v n (Arranged newest fresh gone) history under before was opened h some = fresh_some v fresh before was h some
 was_step o v n (Acked c serial) history under before was opened h some = by (is_open o c history && is_due o c serial history) some
   where
@@ -112,9 +112,9 @@ was_step o v n (Deadline number) history under before was opened h some = h some
 was_step o v n Still history under before was opened h some = h some
 
 -- one that has a buffer was open
-pub some_was : (o : Opening) (v : ConId) (n : ℕ) (history : List Entry) → is_some (buffer_up_to o n v (heard o history)) ≡ true → was_open o v history ≡ true
+pub some_was : (o : Opening) (v : ConId) (n : ℕ) (history : List Entry) → is_some (buffer_up_to o n v (accepted o history)) ≡ true → was_open o v history ≡ true
 some_was o v n [] h = h
 some_was o v n (entry ∷ history) h =
-    was_step o v n entry (heard o history) (last v (heard o history)) (buffer_up_to o n v (heard o history)) (was_open o v history)
-    (λ c opens one. ap (λ z. was_open o z history) (sym (one_id c v one)) ∙ open_was o c history (sym (heard_opens o c history) ∙ opens))
+    was_step o v n entry (accepted o history) (last v (accepted o history)) (buffer_up_to o n v (accepted o history)) (was_open o v history)
+    (λ c opens one. ap (λ z. was_open o z history) (sym (one_id c v one)) ∙ open_was o c history (sym (accepted_opens o c history) ∙ opens))
     (some_was o v n history) h

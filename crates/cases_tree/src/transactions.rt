@@ -16,7 +16,7 @@ const MOST: u64 = 1_000_000;
 
 /// The transactions of a case, and how many entries they took.
 #[derive(Drop)]
-struct Turns {
+struct Transactions {
     txn: Txn,
     place: u64,
     ghost rises: { last_prefix txn ≤ place },
@@ -32,21 +32,21 @@ struct News {
 }
 
 /// Does what the lines of a text say, and appends what comes out.
-pub fn play_turns(alloc: Global, text: &str, out: &mut String) -> Result<(), Fault> {
-    let mut turns = Turns::start(alloc)?;
-    let answer = turns.take_lines(alloc, text, out);
-    drop(turns);
+pub fn play_transactions(alloc: Global, text: &str, out: &mut String) -> Result<(), Fault> {
+    let mut transactions = Transactions::start(alloc)?;
+    let answer = transactions.take_lines(alloc, text, out);
+    drop(transactions);
     answer
 }
 
-impl Turns {
+impl Transactions {
     /// Transactions that begin with an empty arrangement.
-    fn start(alloc: Global) -> Result<Turns, NoMemory> {
+    fn start(alloc: Global) -> Result<Transactions, NoMemory> {
         let first = Arrangement {
             parts: List::of(Vec::new(alloc)),
         };
         let txn = Txn::start(alloc, first)?;
-        Ok(Turns { txn, place: 0 })
+        Ok(Transactions { txn, place: 0 })
     }
 
     fn take_lines(&mut self, alloc: Global, text: &str, out: &mut String) -> Result<(), Fault> {
@@ -87,8 +87,8 @@ impl Turns {
 
     /// Begins a case.
     fn begin(&mut self, words: &mut Words<'_>, out: &mut String) -> Result<(), Fault> {
-        let turns = Turns::start(words.alloc)?;
-        drop(mem::replace(self, turns));
+        let transactions = Transactions::start(words.alloc)?;
+        drop(mem::replace(self, transactions));
         tell_case(words, out)
     }
 

@@ -1,11 +1,11 @@
--- What is heard of a history: an acknowledgement or a buffer that is refused counts as an entry that does nothing.
+-- What is accepted of a history: an acknowledgement or a buffer that is refused counts as an entry that does nothing.
 use Rattle.std.specs.Prelude.{ℕ, ◌==◌, nat_lt, Bool, false, not, ◌&&◌, ◌||◌, if◌then◌else◌, List, [], ◌∷◌, Option, None, Some, Result, Ok, Err}
 use Rattle.wm_base.specs.declared.geometry.Size.{Size}
 use Rattle.wm_base.specs.declared.ids.Buffer.{Buffer}
 use Rattle.wm_base.specs.declared.ids.ConId.{ConId}
 use Rattle.wm_txn.specs.History.{Opening, Entry, Arranged, Acked, Gave, Deadline, Still, is_open, last}
 use Rattle.wm_txn.specs.Schedule.{configure}
-use Rattle.wm_txn.specs.Commits.{begun_turns, ended_turns}
+use Rattle.wm_txn.specs.Commits.{begun_transactions, ended_transactions}
 use Rattle.wm_txn.specs.declared.answers.AckRefusal.{AckRefusal}
 use Rattle.wm_txn.specs.declared.answers.AckRefusal.TheVariants as ack
 use Rattle.wm_txn.specs.declared.answers.BufferRefusal.{BufferRefusal}
@@ -19,35 +19,35 @@ is_serial serial (Some configure) = configure.0 == serial
 -- that has ended, and is above the last one
 abbrev pub is_due : Opening → ConId → ℕ → List Entry → Bool
 is_due o v serial history =
-    (is_serial serial (configure v (begun_turns o history)) || is_serial serial (configure v (ended_turns o history)))
+    (is_serial serial (configure v (begun_transactions o history)) || is_serial serial (configure v (ended_transactions o history)))
     && nat_lt (last v history) serial
 
 abbrev pub is_empty : Size → Bool
 is_empty size = size.w == 0 || size.h == 0
 
--- an entry as it is heard after a history
-abbrev pub hear : Opening → Entry → List Entry → Entry
-hear o (Acked v serial) history = if is_open o v history && is_due o v serial history then Acked v serial else Still
-hear o (Gave v buffer) history = if is_open o v history && not (is_empty buffer.size) then Gave v buffer else Still
-hear o (Arranged newest fresh gone) history = Arranged newest fresh gone
-hear o (Deadline number) history = Deadline number
-hear o Still history = Still
+-- an entry as it is accepted after a history
+abbrev pub accept : Opening → Entry → List Entry → Entry
+accept o (Acked v serial) history = if is_open o v history && is_due o v serial history then Acked v serial else Still
+accept o (Gave v buffer) history = if is_open o v history && not (is_empty buffer.size) then Gave v buffer else Still
+accept o (Arranged newest fresh gone) history = Arranged newest fresh gone
+accept o (Deadline number) history = Deadline number
+accept o Still history = Still
 
-abbrev pub with_heard : Opening → Entry → List Entry → List Entry
-with_heard o entry history = hear o entry history ∷ history
+abbrev pub with_accepted : Opening → Entry → List Entry → List Entry
+with_accepted o entry history = accept o entry history ∷ history
 
-abbrev pub heard : Opening → List Entry → List Entry
-heard o [] = []
-heard o (entry ∷ history) = with_heard o entry (heard o history)
+abbrev pub accepted : Opening → List Entry → List Entry
+accepted o [] = []
+accepted o (entry ∷ history) = with_accepted o entry (accepted o history)
 
--- what an acknowledgement is answered, after what was heard
+-- what an acknowledgement is answered, after what was accepted
 abbrev pub ack_answer : Opening → ConId → ℕ → List Entry → Result (Unit {0}) AckRefusal
 ack_answer o v serial history =
     if not (is_open o v history) then Err ack.NoView
     else if is_due o v serial history then Ok tt
     else Err (ack.BadSerial serial (last v history))
 
--- what a buffer is answered, after what was heard
+-- what a buffer is answered, after what was accepted
 abbrev pub buffer_answer : Opening → ConId → Buffer → List Entry → Result (Unit {0}) BufferRefusal
 buffer_answer o v buffer history =
     if not (is_open o v history) then Err buffers.NoView

@@ -1,0 +1,13 @@
+use Rattle.std.proofs.Common.{◌≡◌, ap, refl, sym, ◌∙◌}
+use Rattle.wm_core.specs.Act.{Run, text_of}
+use Rattle.wm_core.specs.Effect.{run_effect}
+use Rattle.wm_core.proofs.desk.Desk.run.Goals as goal
+
+pub returns-in-Ready : goal.returns-in-Ready
+returns-in-Ready c = c.apply.ensures (record { who = c.args.who; act = Run (text_of c.args.text.now) }) (rw c.in-Ready.is refl)
+
+pub returns-in-Bad : goal.returns-in-Bad
+returns-in-Bad c = c.reply.ensures (record { who = c.args.who; act = Run (text_of c.args.text.now) }) (rw c.in-Bad.is refl)
+
+pub returns-in-PatternRefused : goal.returns-in-PatternRefused
+returns-in-PatternRefused c = c.reply-in-PatternRefused.ensures (record { who = c.args.who; act = Run (text_of c.args.text.now) }) (rw c.in-PatternRefused.is refl)

@@ -1,0 +1,151 @@
+-- What each step does to a desk: a case for each step.
+use Rattle.std.specs.Prelude.{ℕ, ◌==◌, ◌||◌, not, Bool, false, if◌then◌else◌, List, [], ◌∷◌, ◌++◌, filter, map, Option, None, Some, Result, Ok, Err}
+use Rattle.wm_arrange.specs.Arranged.{arranged}
+use Rattle.wm_base.specs.declared.errors.Limit.{Limit}
+use Rattle.wm_base.specs.declared.geometry.Size.{Size}
+use Rattle.wm_base.specs.declared.ids.Buffer.{Buffer}
+use Rattle.wm_base.specs.declared.ids.ConId.{ConId}
+use Rattle.wm_base.specs.declared.properties.Props.{Props}
+use Rattle.wm_forest.specs.declared.place.NewCon.TheVariants as new
+use Rattle.wm_forest.specs.Place.{passed_limit}
+use Rattle.wm_floats.specs.Fullscreen.{fills_alone}
+use Rattle.wm_tree.specs.TreeValue.{TreeValue, newcomer_place, workspace_of}
+use Rattle.wm_forest.specs.RootId.{id}
+use Rattle.wm_tree.specs.Words.{attached, detached, settled, with_raised}
+use Rattle.wm_core.specs.declared.step.Answer.{Answer}
+use Rattle.wm_core.specs.declared.step.Answer.TheVariants.{Done, Mapped, Replies, NoView, Empty, BadSerial, Full}
+use Rattle.wm_json.specs.declared.replies.Reply.{Reply}
+use Rattle.wm_json.specs.declared.replies.Reply.TheVariants as reply
+use Rattle.wm_core.specs.Act.{Act, Run, Map, Close, Retitle, Urgent, Gone, OutputAdd, OutputRemove, Reserve, Key, Tick, Ack, Give, Deadline}
+use Rattle.wm_core.specs.Outputs.{add_answer, added, remove_answer, removed, reserve_answer, reserved}
+use Rattle.wm_core.specs.Windows.{is_window, without_owned, retitled, with_urgency}
+use Rattle.wm_apply.specs.declared.applied.CommandReply.{CommandReply}
+use Rattle.wm_apply.specs.declared.applied.CommandReply.TheVariants as applied
+use Rattle.wm_apply.specs.Batches.{Outcome, outcome}
+use Rattle.wm_opens.specs.Opens.{is_window_of}
+use Rattle.wm_txn.specs.History as commits
+use Rattle.wm_txn.specs.declared.answers.AckRefusal.{AckRefusal}
+use Rattle.wm_txn.specs.declared.answers.AckRefusal.TheVariants as ack
+use Rattle.wm_layouts.specs.declared.plan.Env.{Env}
+use Rattle.wm_criteria.specs.declared.verdict.Verdict.{Verdict}
+use Rattle.wm_criteria.specs.declared.verdict.Verdict.TheVariants.{Ready, Bad, PatternRefused}
+
+-- what a window's acknowledgement of a serial is answered by the transactions
+abbrev pub Judge : Type 0
+Judge = ConId → ℕ → Result (Unit {0}) AckRefusal
+
+pub record Effect : Type 0 where
+  -- what the step is answered, where this one judges serials
+  pub answer : Judge → Answer
+  -- the tree that it leaves
+  pub tree : TreeValue
+  -- what it tells the transactions
+  pub told : commits.Entry
+  -- whether it stops the desk
+  pub stops : Bool
+  -- the windows that it asks to close
+  pub closes : List ConId
+
+-- ---- what an effect is made of
+
+-- a step that tells the transactions something, and leaves the tree
+abbrev pub telling : commits.Entry → (Judge → Answer) → TreeValue → Effect
+telling told answer t = record { answer = answer; tree = t; told = told; stops = false; closes = [] }
+
+-- a refused step changes nothing, and tells nothing
+abbrev pub refused : Answer → TreeValue → Effect
+refused answer t = telling commits.Still (λ judge. answer) t
+
+abbrev pub fresh_ids : Option (ConId × Buffer) → List ConId
+fresh_ids None = []
+fresh_ids (Some window) = window.0 ∷ []
+
+-- the windows that were closed: those of the old tree, or mapped since, that the new tree does not have
+abbrev pub closed : TreeValue → TreeValue → Option (ConId × Buffer) → List ConId
+closed old new fresh = filter (λ v. not (is_window_of new v)) (fresh_ids fresh ++ filter (is_window_of old) old.recency)
+
+-- the arrangement of the new tree, the window that was mapped with its buffer, and the windows that were closed
+abbrev pub rearranged : TreeValue → TreeValue → Option (ConId × Buffer) → commits.Entry
+rearranged old new fresh = commits.Arranged (arranged new) fresh (closed old new fresh)
+
+-- a step that leaves a new tree, opens this window with its buffer, if any, stops the desk or not, and asks these windows
+-- to close
+abbrev pub changing : Answer → TreeValue → TreeValue → Option (ConId × Buffer) → Bool → List ConId → Effect
+changing answer old new fresh stops closes =
+    record { answer = λ judge. answer; tree = new; told = rearranged old new fresh; stops = stops; closes = closes }
+
+-- a step that leaves a new tree, and opens this window with its buffer, if any
+abbrev pub leaving : Answer → TreeValue → TreeValue → Option (ConId × Buffer) → Effect
+leaving answer old new fresh = changing answer old new fresh false []
+
+-- a step that is done leaves the new tree; with another answer it is refused
+abbrev pub done_or_refused : Answer → TreeValue → TreeValue → Effect
+done_or_refused Done old new = leaving Done old new None
+done_or_refused other old new = refused other old
+
+-- ---- texts
+
+abbrev pub reply_to : CommandReply → Reply
+reply_to applied.Done = reply.Ok
+reply_to (applied.Error text) = reply.Error text
+
+-- the commands of a text were run
+abbrev pub ran : TreeValue → Outcome → Effect
+ran old o = changing (Replies (map reply_to o.replies)) old o.tree None o.exit o.kills
+
+-- a text with this verdict: its commands run, or a reply says why they do not
+abbrev pub run_effect : Env → Verdict → TreeValue → Effect
+run_effect env (Ready batch) t = ran t (outcome env.homes (Ready batch) None t)
+run_effect env (Bad at) t = refused (Replies (reply.Parse at ∷ [])) t
+run_effect env (PatternRefused pattern) t = refused (Replies (reply.Pattern pattern ∷ [])) t
+
+-- ---- windows
+
+abbrev pub has_no_pixels : Size → Bool
+has_no_pixels size = size.w == 0 || size.h == 0
+
+-- a new container is raised, unless another one of its workspace is fullscreen
+abbrev pub raised_unless_full : ConId → TreeValue → TreeValue
+raised_unless_full c t = if fills_alone c (workspace_of t c) t then with_raised c t else t
+
+-- the tree with a new window of the caller under the next id
+abbrev pub mapped : TreeValue → ℕ → Props → Size → TreeValue
+mapped t who props natural = settled (raised_unless_full (id t.next_id) (attached (newcomer_place t) (new.Window props who natural) t))
+
+-- the first limit that a new window would pass
+abbrev pub limit_of : TreeValue → Option Limit
+limit_of t = passed_limit (newcomer_place t) t.nodes t.next_id
+
+abbrev pub map_effect : TreeValue → ℕ → Props → Buffer → Option Limit → Effect
+map_effect t who props buffer (Some limit) = refused (Full limit) t
+map_effect t who props buffer None = leaving (Mapped (id t.next_id)) t (mapped t who props buffer.size) (Some (id t.next_id, buffer))
+
+-- what a step on a window of the caller is answered
+abbrev pub window_answer : TreeValue → ℕ → ConId → Answer
+window_answer t who v = if is_window t who v then Done else NoView
+
+abbrev pub ack_said : Result (Unit {0}) AckRefusal → Answer
+ack_said (Ok u) = Done
+ack_said (Err ack.NoView) = NoView
+ack_said (Err (ack.BadSerial asked last)) = BadSerial asked last
+
+-- ---- each step
+
+-- what a step of this caller does, where commands find this beside the tree. Keys and ticks are not taken yet, nor is a text
+-- that a map brings
+abbrev pub effect : Env → TreeValue → ℕ → Act → Effect
+effect env t who (Run text) = run_effect env text.verdict t
+effect env t who (Map props buffer text) = if has_no_pixels buffer.size then refused Empty t else map_effect t who props buffer (limit_of t)
+effect env t who (Close v) = done_or_refused (window_answer t who v) t (settled (detached v t))
+effect env t who (Retitle v title) = done_or_refused (window_answer t who v) t (retitled v title t)
+effect env t who (Urgent v on) = done_or_refused (window_answer t who v) t (with_urgency v on t)
+effect env t who Gone = leaving Done t (without_owned who t) None
+effect env t who (OutputAdd plan) = done_or_refused (add_answer plan t) t (added plan t)
+effect env t who (OutputRemove name) = done_or_refused (remove_answer name t) t (removed name t)
+effect env t who (Reserve name edges) = done_or_refused (reserve_answer name t) t (reserved name edges t)
+effect env t who (Key chord choices) = refused Done t
+effect env t who (Tick payload) = refused Done t
+effect env t who (Ack v serial) = if is_window t who v then telling (commits.Acked v serial) (λ judge. ack_said (judge v serial)) t else refused NoView t
+effect env t who (Give v buffer) =
+    if is_window t who v then (if has_no_pixels buffer.size then refused Empty t else telling (commits.Gave v buffer) (λ judge. Done) t) else refused NoView t
+effect env t who (Deadline number) = telling (commits.Deadline number) (λ judge. Done) t

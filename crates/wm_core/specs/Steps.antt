@@ -1,0 +1,36 @@
+-- What a step of a desk promises.
+use Rattle.std.specs.Prelude.{◌≡◌, ℕ, ◌+◌, List, ◌∷◌, Result, IfOk, OnErr, OnOk}
+use Rattle.wm_base.specs.declared.errors.NoMemory.{NoMemory}
+use Rattle.wm_core.specs.DeskValue.{DeskValue, StandsFrom}
+use Rattle.wm_core.specs.History.{Entry, Start, answer}
+use Rattle.wm_core.specs.declared.step.Answer.{Answer}
+
+-- the desk stands for the entry too, from each opening and after each history for which it stood
+abbrev pub GoesOn : DeskValue → DeskValue → Entry → Type 0
+GoesOn old new entry = (start : Start) (history : List Entry) → StandsFrom start old history → StandsFrom start new (entry ∷ history)
+
+-- this is the answer to the entry, from each opening and after each history for which the desk stood
+abbrev pub IsAnswer : DeskValue → Entry → Answer → Type 0
+IsAnswer old entry said = (start : Start) (history : List Entry) → StandsFrom start old history → said ≡ answer start history entry
+
+-- a step that takes no memory: it is answered as the history says, and counts in it
+pub record Answers (old new : DeskValue) (said : Answer) (entry : Entry) : Type 0 where
+  pub answer : IsAnswer old entry said
+  pub stands : GoesOn old new entry
+  pub plan : new.plan ≡ old.plan
+  pub count : new.steps ≡ old.steps + 1
+
+-- a step: the same, and after want of memory the desk is as it was
+pub record Takes (old new : DeskValue) (result : Result Answer NoMemory) (entry : Entry) : Type 0 where
+  pub answer : IfOk result (IsAnswer old entry)
+  pub stands : OnOk result (GoesOn old new entry)
+  pub plan : new.plan ≡ old.plan
+  pub count : OnOk result (new.steps ≡ old.steps + 1)
+  pub err : OnErr result (new ≡ old)
+
+-- what is left to answer is as a step
+pub record Commits (old new : DeskValue) (result : Result (Unit {0}) NoMemory) (entry : Entry) : Type 0 where
+  pub stands : OnOk result (GoesOn old new entry)
+  pub plan : new.plan ≡ old.plan
+  pub count : OnOk result (new.steps ≡ old.steps + 1)
+  pub err : OnErr result (new ≡ old)

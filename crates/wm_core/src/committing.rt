@@ -1,0 +1,161 @@
+//! What a step leaves is taken: the tree, its arrangement, and what goes with its windows.
+ghost use Rattle.std.specs.Prelude.{◌≡◌, ◌+◌, ◌<◌, ◌^◌, ◌||◌, None, IfOk};
+ghost use Rattle.std.specs.Option.{option_map};
+ghost use Rattle.wm_arrange.specs.Arranged.{arranged};
+ghost use Rattle.wm_base.specs.declared.ids.ConId.{ConId};
+ghost use Rattle.wm_core.specs.ByWindow.{left_of, new_or};
+ghost use Rattle.wm_core.specs.DeskValue.{Follows, kill_after, kill_in};
+ghost use Rattle.wm_core.specs.Effect.{changing, closed, leaving, refused};
+ghost use Rattle.wm_core.specs.History.{done_by, Entry};
+ghost use Rattle.wm_core.specs.Steps.{Answers, Commits, Takes};
+ghost use Rattle.wm_core.specs.Windows.{window_count};
+ghost use Rattle.wm_core.specs.declared.step.Answer.{Answer};
+ghost use Rattle.wm_core.specs.declared.step.Answer.TheVariants.{Done};
+ghost use Rattle.wm_tree.specs.Sound as trees;
+ghost use Rattle.wm_tree.specs.Words.{settled};
+
+use crate::by_window::{forget, renew};
+use crate::counting::{closed, window_count};
+use crate::desk::Desk;
+use crate::kills::noted;
+use crate::owners::{disown, forget_owners, own};
+use crate::step::Answer;
+use std::collections::BTreeMap;
+use std::mem;
+use wm_arrange::{Arrangement, arrange};
+use wm_base::{Buffer, ConId, NoMemory};
+use wm_tree::Tree;
+
+impl Desk {
+    /// Counts a step that changes nothing else, and gives its answer.
+    pub(crate) fn stay(&mut self, answer: Answer) -> Answer
+        requires few { self.old.steps < 2 ^ 48 }
+        ensures { (entry : Entry) → done_by self.old.plan.env self.old.tree entry ≡ refused answer self.old.tree → Answers self.old self.new result entry }
+    {
+        self.steps += 1;
+        answer
+    }
+
+    /// Settles a tree and takes it as the one after this step, which opened no window.
+    pub(crate) fn finish(&mut self, tree: Tree) -> Result<Answer, NoMemory>
+        requires few { self.old.steps < 2 ^ 48 }
+        requires sound { trees.IsSound tree }
+        requires follows { Follows self.old.tree tree None }
+        ensures { (entry : Entry) → done_by self.old.plan.env self.old.tree entry ≡ leaving Done self.old.tree (settled tree) None → Takes self.old self.new result entry }
+    {
+        let mut tree = tree;
+        tree.settle();
+        self.commit(tree, None, false, &[])?;
+        Ok(Answer::Done)
+    }
+
+    /// Takes a tree as the one after this step, which opened this window with its buffer, if any, and takes whether the
+    /// step stops the desk, and the windows that it asks to close.
+    pub(crate) fn commit(
+        &mut self,
+        tree: Tree,
+        opened: Option<(ConId, Buffer)>,
+        stops: bool,
+        closes: &[ConId],
+    ) -> Result<(), NoMemory>
+        requires few { self.old.steps < 2 ^ 48 }
+        requires sound { trees.IsSound tree }
+        requires follows { Follows self.old.tree tree opened }
+        ensures { (entry : Entry) (answer : Answer) → done_by self.old.plan.env self.old.tree entry ≡ changing answer self.old.tree tree opened stops closes.now → Commits self.old self.new result entry }
+    {
+        let mut tree = tree;
+        let done = self.exchange(&mut tree, opened, stops, closes);
+        drop(tree);
+        done
+    }
+
+    /// The same, with the tree exchanged for the old one. After an `Err` nothing is exchanged.
+    fn exchange(
+        &mut self,
+        tree: &mut Tree,
+        opened: Option<(ConId, Buffer)>,
+        stops: bool,
+        closes: &[ConId],
+    ) -> Result<(), NoMemory>
+        requires few { self.old.steps < 2 ^ 48 }
+        requires sound { trees.IsSound tree.old }
+        requires follows { Follows self.old.tree tree.old opened }
+        ensures { (entry : Entry) (answer : Answer) → done_by self.old.plan.env self.old.tree entry ≡ changing answer self.old.tree tree.old opened stops closes.now → Commits self.old self.new result entry }
+    {
+        let change = self.change_to(tree, opened, closes)?;
+        if let Err(error) = own(&mut self.owners, tree, opened) {
+            drop(change);
+            return Err(error);
+        }
+        let Change {
+            noted,
+            newest,
+            windows,
+            gone,
+        } = change;
+        if let Err(error) = self.txn.admit(self.steps, newest, opened, &gone) {
+            disown(&mut self.owners, opened);
+            drop(noted);
+            return Err(error);
+        }
+        self.steps += 1;
+        mem::swap(&mut self.tree, tree);
+        self.windows = windows;
+        self.stopped = either(self.stopped, stops);
+        note(&mut self.kills, noted, &gone);
+        forget_owners(&mut self.owners, &gone);
+        Ok(())
+    }
+
+    /// What changes with a new tree, in which this window was opened, if any, where these windows are asked to close.
+    fn change_to(
+        &self,
+        tree: &Tree,
+        opened: Option<(ConId, Buffer)>,
+        closes: &[ConId],
+    ) -> Result<Change, NoMemory>
+        requires few { self.now.steps < 2 ^ 48 }
+        requires sound { trees.IsSound tree.now }
+        ensures noted { (v : ConId) → IfOk result (λ change.
+            kill_in (new_or (option_map (λ m. m.entries) change.noted) self.now.kills) v ≡ kill_after closes.now (self.now.steps + 1) v (kill_in self.now.kills v)) }
+        ensures newest { IfOk result (λ change. change.newest.parts ≡ arranged tree.now) }
+        ensures windows { IfOk result (λ change. change.windows ≡ window_count tree.now) }
+        ensures gone { Follows self.now.tree tree.now opened → IfOk result (λ change. change.gone.items ≡ closed self.now.tree tree.now opened) }
+    {
+        let noted = noted(&self.kills, closes, self.steps + 1)?;
+        let newest = arrange(self.alloc, tree)?;
+        let windows = window_count(tree);
+        let gone = closed(self.alloc, &self.tree, self.windows, tree, windows, opened)?;
+        Ok(Change {
+            noted,
+            newest,
+            windows,
+            gone,
+        })
+    }
+}
+
+/// What changes with a new tree: the steps that asked windows to close, where some are asked, its arrangement, how many
+/// windows it has, and the windows that were closed.
+#[derive(Drop)]
+struct Change {
+    noted: Option<BTreeMap<u32, u64>>,
+    newest: Arrangement,
+    windows: u32,
+    gone: Vec<ConId>,
+}
+
+/// Takes the numbers of the steps that asked windows to close, if any were asked, and forgets those of windows that are gone.
+fn note(kills: &mut BTreeMap<u32, u64>, noted: Option<BTreeMap<u32, u64>>, gone: &[ConId])
+    ensures { (v : ConId) → kill_in kills.new.entries v ≡ left_of gone.now v (kill_in (new_or (option_map (λ m. m.entries) noted) kills.old.entries) v) }
+{
+    renew(kills, noted);
+    forget(kills, gone);
+}
+
+/// Whether one of the two holds.
+fn either(one: bool, other: bool) -> bool
+    ensures { result ≡ (one || other) }
+{
+    one || other
+}

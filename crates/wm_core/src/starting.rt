@@ -1,0 +1,81 @@
+//! The opening of a desk.
+ghost use Rattle.std.specs.Prelude.{◌≡◌, [], IfOk};
+ghost use Rattle.wm_arrange.specs.Arranged.{arranged};
+ghost use Rattle.wm_core.specs.DeskValue.{Stands};
+ghost use Rattle.wm_core.specs.History.{first, opening_of};
+ghost use Rattle.wm_layouts.specs.Plan.{IsSound};
+ghost use Rattle.wm_tree.specs.Sound as trees;
+ghost use Rattle.wm_txn.specs.Machine.{last_prefix};
+ghost use Rattle.wm_txn.specs.Stands as transactions;
+ghost use Rattle.wm_txn.specs.Windows.{HasNoContent};
+
+use crate::counting::window_count;
+use crate::desk::Desk;
+use std::alloc::Global;
+use std::collections::BTreeMap;
+use wm_arrange::arrange;
+use wm_base::NoMemory;
+use wm_ids::IdMap;
+use wm_layouts::Plan;
+use wm_tree::Tree;
+use wm_txn::Txn;
+
+impl Desk {
+    /// A desk at the opening of its plan. Transaction 0 is done.
+    pub fn start(alloc: Global, plan: Plan) -> Result<Desk, NoMemory>
+        requires { IsSound plan }
+        ensures plan { IfOk result (λ desk. desk.plan ≡ plan) }
+        ensures stands { IfOk result (λ desk. Stands desk []) }
+    {
+        match opening(alloc, &plan) {
+            Ok((tree, txn)) => {
+                let windows = window_count(&tree);
+                Ok(Desk {
+                    alloc,
+                    plan,
+                    steps: 0,
+                    tree,
+                    txn,
+                    stopped: false,
+                    kills: BTreeMap::new(alloc),
+                    owners: IdMap::new(alloc),
+                    windows,
+                })
+            }
+            Err(error) => {
+                drop(plan);
+                Err(error)
+            }
+        }
+    }
+}
+
+/// The tree and the transactions at the opening of a plan.
+fn opening(alloc: Global, plan: &Plan) -> Result<(Tree, Txn), NoMemory>
+    requires { IsSound plan.now }
+    ensures tree { IfOk result (λ r. r.0 ≡ (opening_of plan.now).opened) }
+    ensures sound { IfOk result (λ r. trees.IsSound r.0) }
+    ensures stands { IfOk result (λ r. transactions.Stands (first (opening_of plan.now)) [] r.1) }
+    ensures prefix { IfOk result (λ r. last_prefix r.1 ≡ 0) }
+{
+    let outputs = plan.outputs.items();
+    let tree = Tree::start(alloc, outputs, plan.border, plan.inner, plan.outer)?;
+    match first_of(alloc, &tree) {
+        Ok(txn) => Ok((tree, txn)),
+        Err(error) => {
+            drop(tree);
+            Err(error)
+        }
+    }
+}
+
+/// The transactions that begin with the arrangement of a tree without windows.
+fn first_of(alloc: Global, tree: &Tree) -> Result<Txn, NoMemory>
+    requires sound { trees.IsSound tree.now }
+    requires empty { HasNoContent (arranged tree.now) }
+    ensures stands { IfOk result (λ txn. transactions.Stands (record { parts = arranged tree.now; windows = [] }) [] txn) }
+    ensures prefix { IfOk result (λ txn. last_prefix txn ≡ 0) }
+{
+    let first = arrange(alloc, tree)?;
+    Txn::start(alloc, first)
+}
