@@ -39,13 +39,20 @@ impl Case {
             "|" => self.take_line(text)?,
             ":" => self.take_bytes(text)?,
             "slow" => self.slow = true,
-            "times" => return self.take_times(text),
-            "count" => return self.take_count(text),
-            "frame" => return self.take_frame(text),
-            "fail" => return self.take_fault(text),
-            _ => return Ok(false),
+            _ => return self.take_numbered(word, text),
         }
         Ok(true)
+    }
+
+    /// Takes a line that has a number, and tells whether it reads.
+    fn take_numbered(&mut self, word: &str, text: &str) -> Result<bool, AllocError> {
+        match word {
+            "times" => self.take_times(text),
+            "count" => self.take_count(text),
+            "frame" => self.take_frame(text),
+            "fail" => self.take_fault(text),
+            _ => Ok(false),
+        }
     }
 
     fn take_words(&mut self, text: &str) -> Result<(), AllocError> {

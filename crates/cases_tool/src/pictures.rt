@@ -70,12 +70,18 @@ fn push_rows(out: &mut String, length: usize, pixels: &[u8]) -> Result<(), Alloc
     push_row(out, last, count)
 }
 
-/// Appends a row that is there this often: its pixels, equal ones behind each other as one.
+/// Appends a row that is there this often.
 fn push_row(out: &mut String, row: &[u8], rows: u64) -> Result<(), AllocError> {
     if rows == 0 {
         return Ok(());
     }
     write!(out, "  {rows} rows:")?;
+    push_runs(out, row)?;
+    out.push_str("\n")
+}
+
+/// Appends the pixels of a row, equal ones behind each other as one.
+fn push_runs(out: &mut String, row: &[u8]) -> Result<(), AllocError> {
     let mut last: &[u8] = &[];
     let mut count: u64 = 0;
     for pixel in row.chunks_exact(3) {
@@ -87,8 +93,7 @@ fn push_row(out: &mut String, row: &[u8], rows: u64) -> Result<(), AllocError> {
             count = 1;
         }
     }
-    push_pixels(out, last, count)?;
-    out.push_str("\n")
+    push_pixels(out, last, count)
 }
 
 /// Appends a pixel that is there this often.

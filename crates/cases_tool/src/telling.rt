@@ -6,7 +6,7 @@ use crate::replies::push_replies;
 use crate::runs::{Ran, run, run_without_faults};
 use std::alloc::AllocError;
 use std::io;
-use wm_tool::Status;
+use wm_tool::{Refused, Status};
 
 /// How many bytes are printed as they are.
 const MOST: usize = 16_384;
@@ -38,15 +38,20 @@ fn push_status(out: &mut String, status: &Status) -> Result<(), AllocError> {
     match status {
         Status::Done { refused } => {
             out.push_str("\n")?;
-            for pattern in refused.items() {
-                let place = pattern.place;
-                let pattern = pattern.pattern;
-                write!(out, "refused {place} {pattern}\n")?;
-            }
-            Ok(())
+            push_refused(out, refused.items())
         }
         _ => write!(out, " {status}\n"),
     }
+}
+
+/// Appends the patterns that were refused, each with its place.
+fn push_refused(out: &mut String, refused: &[Refused]) -> Result<(), AllocError> {
+    for pattern in refused {
+        let place = pattern.place;
+        let pattern = pattern.pattern;
+        write!(out, "refused {place} {pattern}\n")?;
+    }
+    Ok(())
 }
 
 /// Appends what was written.
