@@ -1,7 +1,7 @@
 //! Properties of a window on a line of a script.
-ghost use Rattle.std.specs.Prelude.{◌≡◌, ◌≤◌, IfOk, length};
+ghost use Rattle.std.specs.Prelude.{◌≡◌, ◌≤◌, [], codes, IfOk, length};
 ghost use Rattle.std.specs.Option.{option_map};
-ghost use Rattle.wm_script.specs.Properties.{field_at, none_given, or_text, properties_at, property_at, props_of, with_property};
+ghost use Rattle.wm_script.specs.Properties.{field_at, none_given, once, or_text, properties_at, property_at, props_of, with_property};
 
 use crate::fields::behind;
 use crate::quoted::quoted;
@@ -53,31 +53,81 @@ impl Given {
         ensures { result ≡ with_property field text self }
     {
         let mut given = self;
-        let before = match field {
-            Field::Class => given.class.replace(text),
-            Field::Instance => given.instance.replace(text),
-            Field::Role => given.role.replace(text),
-            Field::Kind => given.kind.replace(text),
-            Field::Machine => given.machine.replace(text),
-            Field::Title => given.title.replace(text),
-        };
-        if before.is_none() { Some(given) } else { None }
+        let before = given.replace(field, text);
+        if before.is_none() {
+            return Some(given);
+        }
+        drop(given);
+        None
+    }
+
+    /// Takes the text as this property, and gives the one that it had.
+    fn replace(&mut self, field: Field, text: Text) -> Option<Text>
+        ensures { once result self.new ≡ with_property field text self.old }
+    {
+        match field {
+            Field::Class => self.class.replace(text),
+            Field::Instance => self.instance.replace(text),
+            Field::Role => self.role.replace(text),
+            Field::Kind => self.kind.replace(text),
+            Field::Machine => self.machine.replace(text),
+            Field::Title => self.title.replace(text),
+        }
     }
 
     /// The properties of a window: what was not given is empty, and its kind is `normal`.
     pub fn props(self, alloc: Global) -> Result<Props, NoMemory>
         ensures { IfOk result (λ props. props ≡ props_of self) }
     {
-        let none = word(alloc, "")?;
-        let normal = word(alloc, "normal")?;
+        let props = self.copy(alloc);
+        drop(self);
+        props
+    }
+
+    /// The same. The texts are copied, which moves no bytes.
+    fn copy(&self, alloc: Global) -> Result<Props, NoMemory>
+        ensures { IfOk result (λ props. props ≡ props_of self.now) }
+    {
+        let (class, instance, role) = self.copy_first(alloc)?;
+        let kind = self.copy_kind(alloc)?;
+        let (machine, title) = self.copy_last(alloc)?;
         Ok(Props {
-            class: or_text(self.class, &none)?,
-            instance: or_text(self.instance, &none)?,
-            role: or_text(self.role, &none)?,
-            kind: or_text(self.kind, &normal)?,
-            machine: or_text(self.machine, &none)?,
-            title: or_text(self.title, &none)?,
+            class,
+            instance,
+            role,
+            kind,
+            machine,
+            title,
         })
+    }
+
+    /// The class, the instance and the role.
+    fn copy_first(&self, alloc: Global) -> Result<(Text, Text, Text), NoMemory>
+        ensures { IfOk result (λ c. c ≡ (or_text self.now.class [], or_text self.now.instance [], or_text self.now.role [])) }
+    {
+        let none = word(alloc, "")?;
+        let class = or_text(&self.class, &none)?;
+        let instance = or_text(&self.instance, &none)?;
+        let role = or_text(&self.role, &none)?;
+        Ok((class, instance, role))
+    }
+
+    /// The machine and the title.
+    fn copy_last(&self, alloc: Global) -> Result<(Text, Text), NoMemory>
+        ensures { IfOk result (λ c. c ≡ (or_text self.now.machine [], or_text self.now.title [])) }
+    {
+        let none = word(alloc, "")?;
+        let machine = or_text(&self.machine, &none)?;
+        let title = or_text(&self.title, &none)?;
+        Ok((machine, title))
+    }
+
+    /// The kind.
+    fn copy_kind(&self, alloc: Global) -> Result<Text, NoMemory>
+        ensures { IfOk result (λ kind. kind ≡ or_text self.now.kind (codes "normal")) }
+    {
+        let normal = word(alloc, "normal")?;
+        Ok(or_text(&self.kind, &normal)?)
     }
 }
 
@@ -155,12 +205,12 @@ fn named_field(text: &[u8]) -> Option<(Field, &[u8])>
     Some((Field::Title, rest))
 }
 
-/// The text, or a copy of the other where there is none.
-fn or_text(text: Option<Text>, other: &Text) -> Result<Text, AllocError>
-    ensures { IfOk result (λ whole. whole ≡ or_text text other.now) }
+/// A copy of the text, or of the other where there is none.
+fn or_text(text: &Option<Text>, other: &Text) -> Result<Text, AllocError>
+    ensures { IfOk result (λ whole. whole ≡ or_text text.now other.now) }
 {
     match text {
-        Some(text) => Ok(text),
+        Some(text) => text.clone(),
         None => other.clone(),
     }
 }
