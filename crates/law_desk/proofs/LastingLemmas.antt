@@ -80,7 +80,7 @@ module _ {P : TreeValue → Type 0} (k : Lasts P) where
   has_done other new t g h = g
 
   has_run : (env : Env) (verdict : Verdict) (t : TreeValue) → HasLast P t → HasLast P (run_effect env verdict t).tree
-  has_run env (Ready batch) t g = has_outcome k env.homes (Ready batch) None t g
+  has_run env (Ready batch) t g = has_outcome k env (Ready batch) None t g
   has_run env (Bad at) t g = g
   has_run env (PatternRefused pattern) t g = g
 

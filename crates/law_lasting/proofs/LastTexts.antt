@@ -20,6 +20,7 @@ use Rattle.law_lasting.proofs.LastFloats.{last_kind, last_placed, last_scratchpa
 use Rattle.law_lasting.proofs.LastSizes.{last_border, last_cycled, last_format, last_gaps, last_mark, last_rect, last_resized, last_unmark}
 use Rattle.law_lasting.proofs.LastSpaces.{last_focusing, last_goal_sent, last_goal_shown, last_renamed}
 use Rattle.law_lasting.specs.Lasting.{Lasts}
+use Rattle.wm_layouts.specs.declared.plan.Env.{Env}
 use Rattle.wm_opens.proofs.SureCommands.{subject_con, unless}
 use Rattle.wm_opens.proofs.TextLemmas.{come_fits, sure_row, sure_whole}
 use Rattle.wm_floats.specs.Scratchpad.{show_scratchpad_refusal, show_scratchpad_tree}
@@ -56,47 +57,47 @@ module _ {P : TreeValue → Type 0} (k : Lasts P) where
       by_test false fits = last_focusing k c t sub.sound p
 
   -- a command on a subject, where it is not refused
-  pub last_row : (homes : List (List ℕ × List ℕ)) (how : How) (command : Command) (c : ConId) (t : TreeValue) → IsSubject t c → row_refusal homes how command c t ≡ None → P t → P (row_tree homes how command c t)
-  last_row homes how (commands.Split arg) c t sub h p = last_split k c _ t sub.sound h p
-  last_row homes how (commands.SetLayout arg) c t sub h p = last_laid k c _ t p
-  last_row homes how (commands.CycleLayout cycle) c t sub h p = last_laid k c _ t p
-  last_row homes how commands.Focus c t sub h p = last_focus how c t sub h p
-  last_row homes how (commands.FocusDir d) c t sub h p = last_focus_dir k d c t sub.sound p
-  last_row homes how commands.FocusParent c t sub h p = last_raised_some k _ t sub.sound p
-  last_row homes how commands.FocusChild c t sub h p = last_raised_some k _ t sub.sound p
-  last_row homes how (commands.MoveDir d px) c t sub h p = last_dir k c d px t sub.sound h p
-  last_row homes how (commands.MoveToMark name) c t sub h p = last_to_mark k c _ t sub h p
-  last_row homes how (commands.Swap arg) c t sub h p = last_swap k c _ _ t sub.sound h p
-  last_row homes how (commands.Mark add toggle name) c t sub h p = last_mark k c name add toggle t p
-  last_row homes how (commands.Unmark name) c t sub h p = last_unmark k (matched_subject how c) name t p
-  last_row homes how (commands.FocusOutput arg) c t sub h p = last_output_some k (output_at c arg t) t p
-  last_row homes how (commands.MoveToOutput arg) c t sub h p = last_to_output k c arg (output_at c arg t) t refl sub h p
-  last_row homes how (commands.MoveToWorkspace target) c t sub h p =
-      let a = unless (is_space t c) texts.AtWorkspace (goal_sent_refusal (goal_of target t) c homes t) h in
-      last_goal_sent k (goal_of target t) c homes t sub.sound (subject_con c t sub a.0) (goal_by target t (goal_of target t) refl sub.sound) a.1 p
-  last_row homes how (commands.MoveWorkspace arg) c t sub h p =
+  pub last_row : (env : Env) (how : How) (command : Command) (c : ConId) (t : TreeValue) → IsSubject t c → row_refusal env how command c t ≡ None → P t → P (row_tree env how command c t)
+  last_row env how (commands.Split arg) c t sub h p = last_split k c _ t sub.sound h p
+  last_row env how (commands.SetLayout arg) c t sub h p = last_laid k c _ t p
+  last_row env how (commands.CycleLayout cycle) c t sub h p = last_laid k c _ t p
+  last_row env how commands.Focus c t sub h p = last_focus how c t sub h p
+  last_row env how (commands.FocusDir d) c t sub h p = last_focus_dir k d c t sub.sound p
+  last_row env how commands.FocusParent c t sub h p = last_raised_some k _ t sub.sound p
+  last_row env how commands.FocusChild c t sub h p = last_raised_some k _ t sub.sound p
+  last_row env how (commands.MoveDir d px) c t sub h p = last_dir k c d px t sub.sound h p
+  last_row env how (commands.MoveToMark name) c t sub h p = last_to_mark k c _ t sub h p
+  last_row env how (commands.Swap arg) c t sub h p = last_swap k c _ _ t sub.sound h p
+  last_row env how (commands.Mark add toggle name) c t sub h p = last_mark k c name add toggle t p
+  last_row env how (commands.Unmark name) c t sub h p = last_unmark k (matched_subject how c) name t p
+  last_row env how (commands.FocusOutput arg) c t sub h p = last_output_some k (output_at c arg t) t p
+  last_row env how (commands.MoveToOutput arg) c t sub h p = last_to_output k c arg (output_at c arg t) t refl sub h p
+  last_row env how (commands.MoveToWorkspace target) c t sub h p =
+      let a = unless (is_space t c) texts.AtWorkspace (goal_sent_refusal (goal_of target t) c env.homes t) h in
+      last_goal_sent k (goal_of target t) c env.homes t sub.sound (subject_con c t sub a.0) (goal_by target t (goal_of target t) refl sub.sound) a.1 p
+  last_row env how (commands.MoveWorkspace arg) c t sub h p =
       let a = unless (is_hidden t c) texts.NoWorkspace (to_named_refusal (output_at c arg t) (workspace_of t c) t) h in
       last_to_named k c arg (output_at c arg t) (workspace_of t c) t refl refl sub.sound a.1 p
-  last_row homes how (commands.FocusKind kind) c t sub h p = last_kind k _ t sub.sound p
-  last_row homes how (commands.Floating arg) c t sub h p = last_floating k c arg t sub.sound h p
-  last_row homes how (commands.Fullscreen arg) c t sub h p = k.filling c _ t sub.sound h p
-  last_row homes how (commands.Sticky arg) c t sub h p = last_stuck k _ c t p
-  last_row homes how (commands.MovePosition x y) c t sub h p = last_placed k c x y t p
-  last_row homes how commands.MoveCenter c t sub h p = last_placed k c _ _ t p
-  last_row homes how commands.MoveToScratchpad c t sub h p = k.hiding c t sub.sound h p
-  last_row homes how commands.ScratchpadShow c t sub h p = last_scratchpad k (matched_subject how c) t (λ x e. subst (IsSubject t) (matched_is how c x e) sub) sub.sound h p
-  last_row homes how (commands.Resize grow side px ppt) c t sub h p = last_resized k c grow side px ppt t p
-  last_row homes how (commands.ResizeSet w high) c t sub h p = last_rect k _ c t p
-  last_row homes how (commands.SetBorder border) c t sub h p = last_border k border c t p
-  last_row homes how commands.CycleBorder c t sub h p = last_cycled k c t p
-  last_row homes how (commands.Gaps outer all op px) c t sub h p = last_gaps k c outer all op px t p
-  last_row homes how (commands.TitleFormat format) c t sub h p = last_format k c format t p
-  last_row homes how other c t sub h p = p
+  last_row env how (commands.FocusKind kind) c t sub h p = last_kind k _ t sub.sound p
+  last_row env how (commands.Floating arg) c t sub h p = last_floating k c arg t sub.sound h p
+  last_row env how (commands.Fullscreen arg) c t sub h p = k.filling c _ t sub.sound h p
+  last_row env how (commands.Sticky arg) c t sub h p = last_stuck k _ c t p
+  last_row env how (commands.MovePosition x y) c t sub h p = last_placed k c x y t p
+  last_row env how commands.MoveCenter c t sub h p = last_placed k c _ _ t p
+  last_row env how commands.MoveToScratchpad c t sub h p = k.hiding c t sub.sound h p
+  last_row env how commands.ScratchpadShow c t sub h p = last_scratchpad k (matched_subject how c) t (λ x e. subst (IsSubject t) (matched_is how c x e) sub) sub.sound h p
+  last_row env how (commands.Resize grow side px ppt) c t sub h p = last_resized k c grow side px ppt t p
+  last_row env how (commands.ResizeSet w high) c t sub h p = last_rect k _ c t p
+  last_row env how (commands.SetBorder border) c t sub h p = last_border k border c t p
+  last_row env how commands.CycleBorder c t sub h p = last_cycled k c t p
+  last_row env how (commands.Gaps outer all op px) c t sub h p = last_gaps k c outer all op px t p
+  last_row env how (commands.TitleFormat format) c t sub h p = last_format k c format t p
+  last_row env how other c t sub h p = p
 
-  pub last_whole : (homes : List (List ℕ × List ℕ)) (command : Command) (t : TreeValue) → IsSound t → whole_refusal command t ≡ None → P t → P (whole_tree homes command t)
-  last_whole homes (commands.Workspace target) t s h p = last_goal_shown k (goal_of target t) homes t s (goal_by target t (goal_of target t) refl s) h p
-  last_whole homes (commands.Rename was name) t s h p = last_renamed k (renamed_space was t) name t p
-  last_whole homes other t s h p = p
+  pub last_whole : (env : Env) (command : Command) (t : TreeValue) → IsSound t → whole_refusal command t ≡ None → P t → P (whole_tree env command t)
+  last_whole env (commands.Workspace target) t s h p = last_goal_shown k (goal_of target t) env.homes t s (goal_by target t (goal_of target t) refl s) h p
+  last_whole env (commands.Rename was name) t s h p = last_renamed k (renamed_space was t) name t p
+  last_whole env other t s h p = p
 
   -- ---- subjects, commands and groups
 
@@ -107,39 +108,39 @@ module _ {P : TreeValue → Type 0} (k : Lasts P) where
   has_unless None t new g h = h refl
   has_unless (Some e) t new g h = g
 
-  has_one : (homes : List (List ℕ × List ℕ)) (how : How) (command : Command) (c : ConId) (t : TreeValue) → HasLast P t → HasLast P (one_tree homes how command c t)
-  has_one homes how command c t g = step (is_there c t) refl
+  has_one : (env : Env) (how : How) (command : Command) (c : ConId) (t : TreeValue) → HasLast P t → HasLast P (one_tree env how command c t)
+  has_one env how command c t g = step (is_there c t) refl
     where
-      done : IsSubject t c → row_refusal homes how command c t ≡ None → HasLast P (settled (row_tree homes how command c t))
-      done sub h = has_settled (row_tree homes how command c t) (record { sound = (sure_row homes how command c t sub h).sound; held = last_row homes how command c t sub h g.held })
+      done : IsSubject t c → row_refusal env how command c t ≡ None → HasLast P (settled (row_tree env how command c t))
+      done sub h = has_settled (row_tree env how command c t) (record { sound = (sure_row env how command c t sub h).sound; held = last_row env how command c t sub h g.held })
 
-      step : (b : Bool) → is_there c t ≡ b → HasLast P (cond b (unless_refused (row_refusal homes how command c t) t (settled (row_tree homes how command c t))) t)
-      step true e = has_unless (row_refusal homes how command c t) t (settled (row_tree homes how command c t)) g (λ h. done (record { sound = g.sound; kind = e }) h)
+      step : (b : Bool) → is_there c t ≡ b → HasLast P (cond b (unless_refused (row_refusal env how command c t) t (settled (row_tree env how command c t))) t)
+      step true e = has_unless (row_refusal env how command c t) t (settled (row_tree env how command c t)) g (λ h. done (record { sound = g.sound; kind = e }) h)
       step false e = g
 
-  has_each : (homes : List (List ℕ × List ℕ)) (how : How) (command : Command) (cs : List ConId) (t : TreeValue) → HasLast P t → HasLast P (each_tree homes how command cs t)
-  has_each homes how command [] t g = g
-  has_each homes how command (c ∷ cs) t g = has_each homes how command cs (one_tree homes how command c t) (has_one homes how command c t g)
+  has_each : (env : Env) (how : How) (command : Command) (cs : List ConId) (t : TreeValue) → HasLast P t → HasLast P (each_tree env how command cs t)
+  has_each env how command [] t g = g
+  has_each env how command (c ∷ cs) t g = has_each env how command cs (one_tree env how command c t) (has_one env how command c t g)
 
-  has_course : (homes : List (List ℕ × List ℕ)) (c : Course) (command : Command) (t : TreeValue) → HasLast P t → HasLast P (course_tree homes c command t)
-  has_course homes (refused e) command t g = g
-  has_course homes (on how cs) command t g = has_each homes how command cs t g
-  has_course homes whole command t g = has_unless (whole_refusal command t) t (settled (whole_tree homes command t)) g (λ h. done h)
+  has_course : (env : Env) (c : Course) (command : Command) (t : TreeValue) → HasLast P t → HasLast P (course_tree env c command t)
+  has_course env (refused e) command t g = g
+  has_course env (on how cs) command t g = has_each env how command cs t g
+  has_course env whole command t g = has_unless (whole_refusal command t) t (settled (whole_tree env command t)) g (λ h. done h)
     where
-      done : whole_refusal command t ≡ None → HasLast P (settled (whole_tree homes command t))
-      done h = has_settled (whole_tree homes command t) (record { sound = (sure_whole homes command t g.sound h).sound; held = last_whole homes command t g.sound h g.held })
+      done : whole_refusal command t ≡ None → HasLast P (settled (whole_tree env command t))
+      done h = has_settled (whole_tree env command t) (record { sound = (sure_whole env command t g.sound h).sound; held = last_whole env command t g.sound h g.held })
 
-  has_commands : (homes : List (List ℕ × List ℕ)) (found : Targets) (cs : List Command) (o : Outcome) → HasLast P o.tree → HasLast P (commands_done homes found cs o).tree
-  has_commands homes found [] o g = g
-  has_commands homes found (c ∷ cs) o g = has_commands homes found cs (command_done homes found c o) (has_course homes (course found c o.tree) c o.tree g)
+  has_commands : (env : Env) (found : Targets) (cs : List Command) (o : Outcome) → HasLast P o.tree → HasLast P (commands_done env found cs o).tree
+  has_commands env found [] o g = g
+  has_commands env found (c ∷ cs) o g = has_commands env found cs (command_done env found c o) (has_course env (course found c o.tree) c o.tree g)
 
-  has_groups : (homes : List (List ℕ × List ℕ)) (subject : Option ConId) (gs : List Group) (o : Outcome) → HasLast P o.tree → HasLast P (groups_done homes subject gs o).tree
-  has_groups homes subject [] o g = g
-  has_groups homes subject (x ∷ gs) o g = has_groups homes subject gs (group_done homes subject x o) (has_commands homes (targets x.criteria subject o.tree) x.commands o g)
+  has_groups : (env : Env) (subject : Option ConId) (gs : List Group) (o : Outcome) → HasLast P o.tree → HasLast P (groups_done env subject gs o).tree
+  has_groups env subject [] o g = g
+  has_groups env subject (x ∷ gs) o g = has_groups env subject gs (group_done env subject x o) (has_commands env (targets x.criteria subject o.tree) x.commands o g)
 
   -- what a text leaves of a sound tree that has the property has it
-  pub has_outcome : (homes : List (List ℕ × List ℕ)) (verdict : Verdict) (subject : Option ConId) (t : TreeValue) → HasLast P t → HasLast P (outcome homes verdict subject t).tree
-  has_outcome homes verdict subject t g = has_groups homes subject (groups_of verdict) (record { tree = t; replies = []; exit = false; kills = [] }) g
+  pub has_outcome : (env : Env) (verdict : Verdict) (subject : Option ConId) (t : TreeValue) → HasLast P t → HasLast P (outcome env verdict subject t).tree
+  has_outcome env verdict subject t g = has_groups env subject (groups_of verdict) (record { tree = t; replies = []; exit = false; kills = [] }) g
 
-  pub texts_last : (homes : List (List ℕ × List ℕ)) (verdict : Verdict) (subject : Option ConId) (t : TreeValue) → IsSound t → P t → P (outcome homes verdict subject t).tree
-  texts_last homes verdict subject t s p = (has_outcome homes verdict subject t (record { sound = s; held = p })).held
+  pub texts_last : (env : Env) (verdict : Verdict) (subject : Option ConId) (t : TreeValue) → IsSound t → P t → P (outcome env verdict subject t).tree
+  texts_last env verdict subject t s p = (has_outcome env verdict subject t (record { sound = s; held = p })).held

@@ -23,6 +23,7 @@ use Rattle.law_lasting.specs.Flags.{FlagsOnlyWindows, may_be_flagged}
 use Rattle.law_lasting.specs.Lasting.{Lasts}
 use Rattle.law_lasting.specs.Rows.{AreStowed, is_stowed}
 use Rattle.law_lasting.specs.Scratchpad.{AreHiddenWindows, HasScratchpad, is_hidden_window, scratchpad}
+use Rattle.wm_layouts.specs.declared.plan.Env.{Env}
 use Rattle.wm_spaces.specs.Coming.{output_added_tree, output_removed_tree}
 use Rattle.wm_forest.specs.declared.kind.KindEdit.TheVariants as edits
 use Rattle.wm_forest.specs.declared.part.NodeKind.{NodeKind}
@@ -74,8 +75,8 @@ back t g = record { flags = g.held.1; row = row_of t.nodes g.held.0 }
 
 -- ---- steps
 
-pub texts_keep : (homes : List (List ℕ × List ℕ)) (verdict : Verdict) (subject : Option ConId) (t : TreeValue) → IsSound t → HasScratchpad t → HasScratchpad (outcome homes verdict subject t).tree
-texts_keep homes verdict subject t s h = back (outcome homes verdict subject t).tree (has_outcome both_lasts homes verdict subject t (from t s h))
+pub texts_keep : (env : Env) (verdict : Verdict) (subject : Option ConId) (t : TreeValue) → IsSound t → HasScratchpad t → HasScratchpad (outcome env verdict subject t).tree
+texts_keep env verdict subject t s h = back (outcome env verdict subject t).tree (has_outcome both_lasts env verdict subject t (from t s h))
 
 pub openings_empty : (plans : List OutputPlan) (border : Border) (inner outer : ℕ) → (scratchpad (opening plans border inner outer) ≡ end) × HasScratchpad (opening plans border inner outer)
 openings_empty plans border inner outer = (refl, record { flags = flags_last.opened plans border inner outer; row = tt })

@@ -15,6 +15,7 @@ use Rattle.law_lasting.proofs.LastSteps.{has_added, has_closed, has_mapped, has_
 use Rattle.law_lasting.proofs.LastTexts.{HasLast, has_outcome, has_settled}
 use Rattle.law_lasting.specs.Changes.{is_plain}
 use Rattle.law_lasting.specs.Lasting.{Lasts}
+use Rattle.wm_layouts.specs.declared.plan.Env.{Env}
 use Rattle.wm_shared.proofs.ShowLemmas.{space_is}
 use Rattle.wm_spaces.specs.Coming.{output_added_tree, output_removed_tree}
 use Rattle.wm_forest.specs.declared.kind.KindEdit.{KindEdit}
@@ -67,8 +68,8 @@ from t s h = record { sound = s; held = single_of t s h }
 back : (t : TreeValue) → HasLast Single t → HasOne t
 back t g = has_of t g.sound g.held
 
-pub texts_keep : (homes : List (List ℕ × List ℕ)) (verdict : Verdict) (subject : Option ConId) (t : TreeValue) → IsSound t → HasOne t → HasOne (outcome homes verdict subject t).tree
-texts_keep homes verdict subject t s h = back (outcome homes verdict subject t).tree (has_outcome single_lasts homes verdict subject t (from t s h))
+pub texts_keep : (env : Env) (verdict : Verdict) (subject : Option ConId) (t : TreeValue) → IsSound t → HasOne t → HasOne (outcome env verdict subject t).tree
+texts_keep env verdict subject t s h = back (outcome env verdict subject t).tree (has_outcome single_lasts env verdict subject t (from t s h))
 
 pub mapping_keeps : (who : ℕ) (props : Props) (natural : Size) (raises : Bool) (c : ConId) (t : TreeValue) → IsSound t → HasOne t → passed_limit (newcomer_place t) t.nodes t.next_id ≡ None
     → HasOne (settled (cond raises (with_raised c (attached (newcomer_place t) (new.Window props who natural) t)) (attached (newcomer_place t) (new.Window props who natural) t)))

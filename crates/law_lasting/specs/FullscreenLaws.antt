@@ -8,6 +8,7 @@ use Rattle.wm_base.specs.declared.plan.OutputPlan.{OutputPlan}
 use Rattle.wm_base.specs.declared.properties.Props.{Props}
 use Rattle.wm_criteria.specs.declared.verdict.Verdict.{Verdict}
 use Rattle.law_fullscreen.specs.Fullscreen.{HasOne}
+use Rattle.wm_layouts.specs.declared.plan.Env.{Env}
 use Rattle.wm_spaces.specs.Coming.{output_added_tree, output_removed_tree}
 use Rattle.wm_forest.specs.declared.kind.KindEdit.TheVariants as edits
 use Rattle.wm_forest.specs.declared.place.NewCon.TheVariants as new
@@ -19,7 +20,7 @@ use Rattle.wm_tree.specs.Words.{attached, detached, edited, settled, with_raised
 
 -- a text keeps at most one fullscreen container in each workspace
 abbrev pub TextsKeepOneFullscreen : Type 0
-TextsKeepOneFullscreen = (homes : List (List ℕ × List ℕ)) (verdict : Verdict) (subject : Option ConId) (t : TreeValue) → IsSound t → HasOne t → HasOne (outcome homes verdict subject t).tree
+TextsKeepOneFullscreen = (env : Env) (verdict : Verdict) (subject : Option ConId) (t : TreeValue) → IsSound t → HasOne t → HasOne (outcome env verdict subject t).tree
 
 -- so does a window that is mapped, and then raised or not, and settling after it
 abbrev pub MappingKeepsOneFullscreen : Type 0

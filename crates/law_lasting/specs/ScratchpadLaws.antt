@@ -9,6 +9,7 @@ use Rattle.wm_base.specs.declared.plan.OutputPlan.{OutputPlan}
 use Rattle.wm_base.specs.declared.properties.Props.{Props}
 use Rattle.wm_criteria.specs.declared.verdict.Verdict.{Verdict}
 use Rattle.law_lasting.specs.Scratchpad.{AreHiddenWindows, HasScratchpad, scratchpad}
+use Rattle.wm_layouts.specs.declared.plan.Env.{Env}
 use Rattle.wm_spaces.specs.Coming.{output_added_tree, output_removed_tree}
 use Rattle.wm_forest.specs.declared.kind.KindEdit.TheVariants as edits
 use Rattle.wm_forest.specs.declared.place.NewCon.TheVariants as new
@@ -25,7 +26,7 @@ TheScratchpadHasWindows = (t : TreeValue) → HasScratchpad t → AreHiddenWindo
 
 -- a text keeps that
 abbrev pub TextsKeepTheScratchpad : Type 0
-TextsKeepTheScratchpad = (homes : List (List ℕ × List ℕ)) (verdict : Verdict) (subject : Option ConId) (t : TreeValue) → IsSound t → HasScratchpad t → HasScratchpad (outcome homes verdict subject t).tree
+TextsKeepTheScratchpad = (env : Env) (verdict : Verdict) (subject : Option ConId) (t : TreeValue) → IsSound t → HasScratchpad t → HasScratchpad (outcome env verdict subject t).tree
 
 -- the scratchpad of an opening tree is empty
 abbrev pub OpeningsHaveAnEmptyScratchpad : Type 0

@@ -12,16 +12,17 @@ use Rattle.wm_language.specs.declared.batch.Group.{Group}
 use Rattle.wm_language.specs.declared.command.Command.{Command}
 use Rattle.wm_apply.specs.declared.targets.Targets.{Targets}
 use Rattle.wm_apply.specs.Batches.{Outcome, commands_done, group_done, groups_done, groups_of, targets}
+use Rattle.wm_layouts.specs.declared.plan.Env.{Env}
 
 rest_is : (gs : List Group) → take (suc (length gs) - 1) gs ≡ gs
 rest_is gs = take_all (suc (length gs) - 1) gs (omega arith)
 
 -- what is done after the first group, and then after the others
-pub done_step : (homes : List (List ℕ × List ℕ)) (subject : Option ConId) (g d : Group) (gs all : List Group) (o u start : Outcome) → 1 ≤ length gs → g ≡ get_or gs 0 d → groups_done homes subject gs o ≡ groups_done homes subject all start → u ≡ group_done homes subject g o
-    → groups_done homes subject (take (length gs - 1) (drop 1 gs)) u ≡ groups_done homes subject all start
-done_step homes subject g d [] all o u start some first is e = absurd (omega arith)
-done_step homes subject g d (h ∷ gs) all o u start some first is e =
-    ap (λ later. groups_done homes subject later u) (rest_is gs) ∙ (ap (groups_done homes subject gs) (e ∙ ap (λ x. group_done homes subject x o) first) ∙ is)
+pub done_step : (env : Env) (subject : Option ConId) (g d : Group) (gs all : List Group) (o u start : Outcome) → 1 ≤ length gs → g ≡ get_or gs 0 d → groups_done env subject gs o ≡ groups_done env subject all start → u ≡ group_done env subject g o
+    → groups_done env subject (take (length gs - 1) (drop 1 gs)) u ≡ groups_done env subject all start
+done_step env subject g d [] all o u start some first is e = absurd (omega arith)
+done_step env subject g d (h ∷ gs) all o u start some first is e =
+    ap (λ later. groups_done env subject later u) (rest_is gs) ∙ (ap (groups_done env subject gs) (e ∙ ap (λ x. group_done env subject x o) first) ∙ is)
 
 zero_first : (n : ℕ) → n ≡ 0 + n
 zero_first n = omega arith
@@ -55,5 +56,5 @@ few_step [] number most some few = absurd (omega arith)
 few_step (h ∷ gs) number most some few = let same : length (take (suc (length gs) - 1) gs) ≡ length gs = ap length (rest_is gs) in omega (arith, same, few)
 
 -- what is done after one more group, whose targets are found first
-pub group_step : (homes : List (List ℕ × List ℕ)) (subject : Option ConId) (g : Group) (o u : Outcome) (found : Targets) (cs : List Command) → found ≡ targets g.criteria subject o.tree → cs ≡ g.commands → u ≡ commands_done homes found cs o → u ≡ group_done homes subject g o
-group_step homes subject g o u found cs is same e = e ∙ (ap (λ x. commands_done homes x cs o) is ∙ ap (λ x. commands_done homes (targets g.criteria subject o.tree) x o) same)
+pub group_step : (env : Env) (subject : Option ConId) (g : Group) (o u : Outcome) (found : Targets) (cs : List Command) → found ≡ targets g.criteria subject o.tree → cs ≡ g.commands → u ≡ commands_done env found cs o → u ≡ group_done env subject g o
+group_step env subject g o u found cs is same e = e ∙ (ap (λ x. commands_done env x cs o) is ∙ ap (λ x. commands_done env (targets g.criteria subject o.tree) x o) same)

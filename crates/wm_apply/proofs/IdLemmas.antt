@@ -24,6 +24,7 @@ use Rattle.wm_language.specs.declared.arguments.OnOff.{OnOff}
 use Rattle.wm_language.specs.declared.batch.Group.{Group}
 use Rattle.wm_language.specs.declared.command.Command.{Command}
 use Rattle.wm_language.specs.declared.command.Command.TheVariants as commands
+use Rattle.wm_layouts.specs.declared.plan.Env.{Env}
 use Rattle.wm_shared.proofs.RiseLemmas.{ids_focusing, ids_same as as_same, output_same, over_same}
 use Rattle.wm_shared.specs.Showing.{focusing, output_focused}
 use Rattle.wm_shared.specs.Subject.{is_hidden}
@@ -170,38 +171,38 @@ ids_focus c t = by_test (is_hidden t c)
     by_test true = ids_scratchpad (Some c) t
     by_test false = ids_focusing c t
 
-pub ids_row : (homes : List (List ℕ × List ℕ)) (how : How) (command : Command) (c : ConId) (t : TreeValue) → IdsRise t (row_tree homes how command c t)
-ids_row homes how (commands.Split arg) c t = ids_split c _ t
-ids_row homes how (commands.SetLayout arg) c t = ids_laid c _ t
-ids_row homes how (commands.CycleLayout cycle) c t = ids_laid c _ t
-ids_row homes how commands.Focus c t = ids_focus c t
-ids_row homes how (commands.FocusDir d) c t = ids_toward d c t
-ids_row homes how commands.FocusParent c t = ids_raised_some _ t
-ids_row homes how commands.FocusChild c t = ids_raised_some _ t
-ids_row homes how (commands.MoveDir d px) c t = ids_move d c px t
-ids_row homes how (commands.MoveToMark name) c t = ids_moved_after c _ t
-ids_row homes how (commands.Swap arg) c t = ids_exchanged c _ t
-ids_row homes how (commands.Mark add toggle name) c t = ids_mark c name add toggle t
-ids_row homes how (commands.Unmark name) c t = ids_unmark (matched_subject how c) name t
-ids_row homes how (commands.FocusOutput arg) c t = ids_output_some (output_at c arg t) t
-ids_row homes how (commands.MoveToOutput arg) c t = ids_to_output (output_at c arg t) c t
-ids_row homes how (commands.MoveToWorkspace target) c t = ids_goal_sent (goal_of target t) c homes t
-ids_row homes how (commands.MoveWorkspace arg) c t = ids_to_named (output_at c arg t) (workspace_of t c) t
-ids_row homes how (commands.FocusKind kind) c t = ids_kind _ t
-ids_row homes how (commands.Floating arg) c t = ids_floating c arg t
-ids_row homes how (commands.Fullscreen arg) c t = ids_fullscreen c _ t
-ids_row homes how (commands.Sticky arg) c t = ids_stuck _ c t
-ids_row homes how (commands.MovePosition x y) c t = ids_placed c x y t
-ids_row homes how commands.MoveCenter c t = ids_placed c _ _ t
-ids_row homes how commands.MoveToScratchpad c t = ids_hidden c t
-ids_row homes how commands.ScratchpadShow c t = ids_scratchpad (matched_subject how c) t
-ids_row homes how (commands.Resize grow side px ppt) c t = ids_resized c grow side px ppt t
-ids_row homes how (commands.ResizeSet w h) c t = ids_resize_set c w h t
-ids_row homes how (commands.SetBorder border) c t = ids_bordered c border t
-ids_row homes how commands.CycleBorder c t = ids_cycled c t
-ids_row homes how (commands.Gaps outer all op px) c t = ids_gapped c outer all op px t
-ids_row homes how (commands.TitleFormat format) c t = ids_formatted c format t
-ids_row homes how other c t = ids_refl t
+pub ids_row : (env : Env) (how : How) (command : Command) (c : ConId) (t : TreeValue) → IdsRise t (row_tree env how command c t)
+ids_row env how (commands.Split arg) c t = ids_split c _ t
+ids_row env how (commands.SetLayout arg) c t = ids_laid c _ t
+ids_row env how (commands.CycleLayout cycle) c t = ids_laid c _ t
+ids_row env how commands.Focus c t = ids_focus c t
+ids_row env how (commands.FocusDir d) c t = ids_toward d c t
+ids_row env how commands.FocusParent c t = ids_raised_some _ t
+ids_row env how commands.FocusChild c t = ids_raised_some _ t
+ids_row env how (commands.MoveDir d px) c t = ids_move d c px t
+ids_row env how (commands.MoveToMark name) c t = ids_moved_after c _ t
+ids_row env how (commands.Swap arg) c t = ids_exchanged c _ t
+ids_row env how (commands.Mark add toggle name) c t = ids_mark c name add toggle t
+ids_row env how (commands.Unmark name) c t = ids_unmark (matched_subject how c) name t
+ids_row env how (commands.FocusOutput arg) c t = ids_output_some (output_at c arg t) t
+ids_row env how (commands.MoveToOutput arg) c t = ids_to_output (output_at c arg t) c t
+ids_row env how (commands.MoveToWorkspace target) c t = ids_goal_sent (goal_of target t) c env.homes t
+ids_row env how (commands.MoveWorkspace arg) c t = ids_to_named (output_at c arg t) (workspace_of t c) t
+ids_row env how (commands.FocusKind kind) c t = ids_kind _ t
+ids_row env how (commands.Floating arg) c t = ids_floating c arg t
+ids_row env how (commands.Fullscreen arg) c t = ids_fullscreen c _ t
+ids_row env how (commands.Sticky arg) c t = ids_stuck _ c t
+ids_row env how (commands.MovePosition x y) c t = ids_placed c x y t
+ids_row env how commands.MoveCenter c t = ids_placed c _ _ t
+ids_row env how commands.MoveToScratchpad c t = ids_hidden c t
+ids_row env how commands.ScratchpadShow c t = ids_scratchpad (matched_subject how c) t
+ids_row env how (commands.Resize grow side px ppt) c t = ids_resized c grow side px ppt t
+ids_row env how (commands.ResizeSet w h) c t = ids_resize_set c w h t
+ids_row env how (commands.SetBorder border) c t = ids_bordered c border t
+ids_row env how commands.CycleBorder c t = ids_cycled c t
+ids_row env how (commands.Gaps outer all op px) c t = ids_gapped c outer all op px t
+ids_row env how (commands.TitleFormat format) c t = ids_formatted c format t
+ids_row env how other c t = ids_refl t
 
 -- ---- subjects, commands and groups
 
@@ -209,45 +210,45 @@ ids_unless : (r : Option Refusal) (t new : TreeValue) → IdsRise t new → IdsR
 ids_unless None t new h = h
 ids_unless (Some e) t new h = ids_refl t
 
-ids_one : (homes : List (List ℕ × List ℕ)) (how : How) (command : Command) (c : ConId) (t : TreeValue) → IdsRise t (one_tree homes how command c t)
-ids_one homes how command c t = step (is_there c t)
+ids_one : (env : Env) (how : How) (command : Command) (c : ConId) (t : TreeValue) → IdsRise t (one_tree env how command c t)
+ids_one env how command c t = step (is_there c t)
   where
     after : TreeValue
-    after = settled (row_tree homes how command c t)
+    after = settled (row_tree env how command c t)
 
-    step : (b : Bool) → IdsRise t (cond b (unless_refused (row_refusal homes how command c t) t after) t)
-    step true = ids_unless (row_refusal homes how command c t) t after (ids_trans t (row_tree homes how command c t) after (ids_row homes how command c t) (ids_settled (row_tree homes how command c t)))
+    step : (b : Bool) → IdsRise t (cond b (unless_refused (row_refusal env how command c t) t after) t)
+    step true = ids_unless (row_refusal env how command c t) t after (ids_trans t (row_tree env how command c t) after (ids_row env how command c t) (ids_settled (row_tree env how command c t)))
     step false = ids_refl t
 
-ids_each : (homes : List (List ℕ × List ℕ)) (how : How) (command : Command) (cs : List ConId) (t : TreeValue) → IdsRise t (each_tree homes how command cs t)
-ids_each homes how command [] t = ids_refl t
-ids_each homes how command (c ∷ cs) t = ids_trans t (one_tree homes how command c t) (each_tree homes how command (c ∷ cs) t) (ids_one homes how command c t) (ids_each homes how command cs (one_tree homes how command c t))
+ids_each : (env : Env) (how : How) (command : Command) (cs : List ConId) (t : TreeValue) → IdsRise t (each_tree env how command cs t)
+ids_each env how command [] t = ids_refl t
+ids_each env how command (c ∷ cs) t = ids_trans t (one_tree env how command c t) (each_tree env how command (c ∷ cs) t) (ids_one env how command c t) (ids_each env how command cs (one_tree env how command c t))
 
-ids_whole : (homes : List (List ℕ × List ℕ)) (command : Command) (t : TreeValue) → IdsRise t (whole_tree homes command t)
-ids_whole homes (commands.Workspace target) t = ids_shown (goal_of target t) homes t
-ids_whole homes (commands.Rename was name) t = ids_renamed (renamed_space was t) name t
-ids_whole homes other t = ids_refl t
+ids_whole : (env : Env) (command : Command) (t : TreeValue) → IdsRise t (whole_tree env command t)
+ids_whole env (commands.Workspace target) t = ids_shown (goal_of target t) env.homes t
+ids_whole env (commands.Rename was name) t = ids_renamed (renamed_space was t) name t
+ids_whole env other t = ids_refl t
 
-ids_course : (homes : List (List ℕ × List ℕ)) (c : Course) (command : Command) (t : TreeValue) → IdsRise t (course_tree homes c command t)
-ids_course homes (refused e) command t = ids_refl t
-ids_course homes (on how cs) command t = ids_each homes how command cs t
-ids_course homes whole command t =
-    let new : TreeValue = whole_tree homes command t in
-    ids_unless (whole_refusal command t) t (settled new) (ids_trans t new (settled new) (ids_whole homes command t) (ids_settled new))
+ids_course : (env : Env) (c : Course) (command : Command) (t : TreeValue) → IdsRise t (course_tree env c command t)
+ids_course env (refused e) command t = ids_refl t
+ids_course env (on how cs) command t = ids_each env how command cs t
+ids_course env whole command t =
+    let new : TreeValue = whole_tree env command t in
+    ids_unless (whole_refusal command t) t (settled new) (ids_trans t new (settled new) (ids_whole env command t) (ids_settled new))
 
-ids_commands : (homes : List (List ℕ × List ℕ)) (found : Targets) (cs : List Command) (o : Outcome) → IdsRise o.tree (commands_done homes found cs o).tree
-ids_commands homes found [] o = ids_refl o.tree
-ids_commands homes found (c ∷ cs) o =
-    ids_trans o.tree (command_done homes found c o).tree (commands_done homes found (c ∷ cs) o).tree (ids_course homes (course found c o.tree) c o.tree) (ids_commands homes found cs (command_done homes found c o))
+ids_commands : (env : Env) (found : Targets) (cs : List Command) (o : Outcome) → IdsRise o.tree (commands_done env found cs o).tree
+ids_commands env found [] o = ids_refl o.tree
+ids_commands env found (c ∷ cs) o =
+    ids_trans o.tree (command_done env found c o).tree (commands_done env found (c ∷ cs) o).tree (ids_course env (course found c o.tree) c o.tree) (ids_commands env found cs (command_done env found c o))
 
-ids_groups : (homes : List (List ℕ × List ℕ)) (subject : Option ConId) (gs : List Group) (o : Outcome) → IdsRise o.tree (groups_done homes subject gs o).tree
-ids_groups homes subject [] o = ids_refl o.tree
-ids_groups homes subject (g ∷ gs) o =
-    ids_trans o.tree (group_done homes subject g o).tree (groups_done homes subject (g ∷ gs) o).tree (ids_commands homes (targets g.criteria subject o.tree) g.commands o) (ids_groups homes subject gs (group_done homes subject g o))
+ids_groups : (env : Env) (subject : Option ConId) (gs : List Group) (o : Outcome) → IdsRise o.tree (groups_done env subject gs o).tree
+ids_groups env subject [] o = ids_refl o.tree
+ids_groups env subject (g ∷ gs) o =
+    ids_trans o.tree (group_done env subject g o).tree (groups_done env subject (g ∷ gs) o).tree (ids_commands env (targets g.criteria subject o.tree) g.commands o) (ids_groups env subject gs (group_done env subject g o))
 
-pub ids_outcome : (homes : List (List ℕ × List ℕ)) (verdict : Verdict) (subject : Option ConId) (t : TreeValue) → IdsRise t (outcome homes verdict subject t).tree
-ids_outcome homes verdict subject t = ids_groups homes subject (groups_of verdict) (record { tree = t; replies = []; exit = false; kills = [] })
+pub ids_outcome : (env : Env) (verdict : Verdict) (subject : Option ConId) (t : TreeValue) → IdsRise t (outcome env verdict subject t).tree
+ids_outcome env verdict subject t = ids_groups env subject (groups_of verdict) (record { tree = t; replies = []; exit = false; kills = [] })
 
 -- a tree that a text leaves
-pub ids_left : (homes : List (List ℕ × List ℕ)) (verdict : Verdict) (subject : Option ConId) (t new : TreeValue) → new ≡ (outcome homes verdict subject t).tree → IdsRise t new
-ids_left homes verdict subject t new e = subst (IdsRise t) (sym e) (ids_outcome homes verdict subject t)
+pub ids_left : (env : Env) (verdict : Verdict) (subject : Option ConId) (t new : TreeValue) → new ≡ (outcome env verdict subject t).tree → IdsRise t new
+ids_left env verdict subject t new e = subst (IdsRise t) (sym e) (ids_outcome env verdict subject t)

@@ -1,5 +1,5 @@
 -- What the groups of a text do to a tree, one after another, and what they are answered.
-use Rattle.std.specs.Prelude.{ℕ, Bool, false, ◌||◌, List, [], ◌∷◌, ◌++◌, Option, None, Some, refl}
+use Rattle.std.specs.Prelude.{Bool, false, ◌||◌, List, [], ◌∷◌, ◌++◌, Option, None, Some, refl}
 use Rattle.std.specs.Coded.{Coded, code_by, coded×, coded_list, coded_bool}
 use Rattle.wm_base.specs.contracts.ids.ConId as con_id
 use Rattle.wm_base.specs.declared.ids.ConId.{ConId}
@@ -9,6 +9,7 @@ use Rattle.wm_criteria.specs.Gathered.{matching}
 use Rattle.wm_language.specs.declared.batch.Criteria.{Criteria}
 use Rattle.wm_language.specs.declared.batch.Group.{Group}
 use Rattle.wm_language.specs.declared.command.Command.{Command}
+use Rattle.wm_layouts.specs.declared.plan.Env.{Env}
 use Rattle.wm_tree.specs.TreeValue.{TreeValue, tree_code}
 use Rattle.wm_apply.specs.contracts.applied.CommandReply as reply
 use Rattle.wm_apply.specs.declared.applied.CommandReply.{CommandReply}
@@ -34,24 +35,24 @@ abbrev pub targets : Option Criteria → Option ConId → TreeValue → Targets
 targets None subject t = alone subject
 targets (Some criteria) subject t = Matched (matching t criteria.keys)
 
-abbrev pub command_done : List (List ℕ × List ℕ) → Targets → Command → Outcome → Outcome
-command_done homes targets command o = record {
-  tree = command_tree homes targets command o.tree;
-  replies = o.replies ++ command_reply homes targets command o.tree ∷ [];
+abbrev pub command_done : Env → Targets → Command → Outcome → Outcome
+command_done env targets command o = record {
+  tree = command_tree env targets command o.tree;
+  replies = o.replies ++ command_reply env targets command o.tree ∷ [];
   exit = o.exit || is_exit command;
   kills = o.kills ++ command_kills targets command o.tree;
 }
 
-abbrev pub commands_done : List (List ℕ × List ℕ) → Targets → List Command → Outcome → Outcome
-commands_done homes targets [] o = o
-commands_done homes targets (c ∷ cs) o = commands_done homes targets cs (command_done homes targets c o)
+abbrev pub commands_done : Env → Targets → List Command → Outcome → Outcome
+commands_done env targets [] o = o
+commands_done env targets (c ∷ cs) o = commands_done env targets cs (command_done env targets c o)
 
-abbrev pub group_done : List (List ℕ × List ℕ) → Option ConId → Group → Outcome → Outcome
-group_done homes subject g o = commands_done homes (targets g.criteria subject o.tree) g.commands o
+abbrev pub group_done : Env → Option ConId → Group → Outcome → Outcome
+group_done env subject g o = commands_done env (targets g.criteria subject o.tree) g.commands o
 
-abbrev pub groups_done : List (List ℕ × List ℕ) → Option ConId → List Group → Outcome → Outcome
-groups_done homes subject [] o = o
-groups_done homes subject (g ∷ gs) o = groups_done homes subject gs (group_done homes subject g o)
+abbrev pub groups_done : Env → Option ConId → List Group → Outcome → Outcome
+groups_done env subject [] o = o
+groups_done env subject (g ∷ gs) o = groups_done env subject gs (group_done env subject g o)
 
 -- the groups of a text that reads
 abbrev pub groups_of : Verdict → List Group
@@ -60,8 +61,8 @@ groups_of (Bad at) = []
 groups_of (PatternRefused n) = []
 
 -- what a text that reads does to a tree
-abbrev pub outcome : List (List ℕ × List ℕ) → Verdict → Option ConId → TreeValue → Outcome
-outcome homes verdict subject t = groups_done homes subject (groups_of verdict) (record { tree = t; replies = []; exit = false; kills = [] })
+abbrev pub outcome : Env → Verdict → Option ConId → TreeValue → Outcome
+outcome env verdict subject t = groups_done env subject (groups_of verdict) (record { tree = t; replies = []; exit = false; kills = [] })
 
 -- ---- how the logic stores it
 

@@ -1,11 +1,12 @@
 -- What one command of a group does, and its reply.
-use Rattle.std.specs.Prelude.{ℕ, Bool, true, false, not, ◌&&◌, ◌==◌, if◌then◌else◌, nat_le, List, [], ◌∷◌, length, filter}
+use Rattle.std.specs.Prelude.{Bool, true, false, not, ◌&&◌, ◌==◌, if◌then◌else◌, nat_le, List, [], ◌∷◌, length, filter}
 use Rattle.std.specs.Option.{option_map}
 use Rattle.wm_base.specs.declared.errors.ErrorText.{ErrorText}
 use Rattle.wm_base.specs.declared.errors.ErrorText.TheVariants as errors
 use Rattle.wm_base.specs.declared.ids.ConId.{ConId}
 use Rattle.wm_language.specs.declared.command.Command.{Command}
 use Rattle.wm_language.specs.declared.command.Command.TheVariants as commands
+use Rattle.wm_layouts.specs.declared.plan.Env.{Env}
 use Rattle.wm_tree.specs.TreeValue.{TreeValue, focused}
 use Rattle.wm_apply.specs.declared.applied.CommandReply.{CommandReply}
 use Rattle.wm_apply.specs.declared.applied.CommandReply.TheVariants.{Error}
@@ -120,23 +121,23 @@ course targets command t =
     else if is_whole command then whole
     else targets_course targets command t
 
-abbrev pub course_tree : List (List ℕ × List ℕ) → Course → Command → TreeValue → TreeValue
-course_tree homes (refused e) command t = t
-course_tree homes (on how cs) command t = each_tree homes how command cs t
-course_tree homes whole command t = whole_done (whole_refusal command t) t (whole_tree homes command t)
+abbrev pub course_tree : Env → Course → Command → TreeValue → TreeValue
+course_tree env (refused e) command t = t
+course_tree env (on how cs) command t = each_tree env how command cs t
+course_tree env whole command t = whole_done (whole_refusal command t) t (whole_tree env command t)
 
-abbrev pub course_reply : List (List ℕ × List ℕ) → Course → Command → TreeValue → CommandReply
-course_reply homes (refused e) command t = Error e
-course_reply homes (on how cs) command t = reply_of (each_error homes how command cs t)
-course_reply homes whole command t = reply_of (option_map error_of (whole_refusal command t))
+abbrev pub course_reply : Env → Course → Command → TreeValue → CommandReply
+course_reply env (refused e) command t = Error e
+course_reply env (on how cs) command t = reply_of (each_error env how command cs t)
+course_reply env whole command t = reply_of (option_map error_of (whole_refusal command t))
 
 -- the tree that the command leaves
-abbrev pub command_tree : List (List ℕ × List ℕ) → Targets → Command → TreeValue → TreeValue
-command_tree homes targets command t = course_tree homes (course targets command t) command t
+abbrev pub command_tree : Env → Targets → Command → TreeValue → TreeValue
+command_tree env targets command t = course_tree env (course targets command t) command t
 
 -- the reply to the command
-abbrev pub command_reply : List (List ℕ × List ℕ) → Targets → Command → TreeValue → CommandReply
-command_reply homes targets command t = course_reply homes (course targets command t) command t
+abbrev pub command_reply : Env → Targets → Command → TreeValue → CommandReply
+command_reply env targets command t = course_reply env (course targets command t) command t
 
 abbrev pub kills_on : Targets → TreeValue → List ConId
 kills_on (Matched cs) t = asked_each cs t

@@ -1,6 +1,6 @@
 -- What each command does to one subject, or to the tree as a whole, and why it is refused: a case for each command that is
 -- built.
-use Rattle.std.specs.Prelude.{if◌then◌else◌, Bool, true, false, List, ℕ, Option, None, Some}
+use Rattle.std.specs.Prelude.{if◌then◌else◌, Bool, true, false, Option, None, Some}
 use Rattle.wm_base.specs.declared.errors.ErrorText.TheVariants as errors
 use Rattle.wm_base.specs.declared.errors.Refusal.{Refusal}
 use Rattle.wm_base.specs.declared.errors.Refusal.TheVariants.{NoTarget}
@@ -19,6 +19,7 @@ use Rattle.wm_focus.specs.Swaps.{move_to_mark_refusal, move_to_mark_tree, swap_r
 use Rattle.wm_apply.specs.FloatRows.{floating_refusal, floating_tree, focus_of_kind_refusal, focus_of_kind_tree, fullscreen_set, sticky_tree}
 use Rattle.wm_apply.specs.Kills.{kill_refusal}
 use Rattle.wm_apply.specs.OutputRows.{focus_output_refusal, focus_output_tree, move_space_refusal, move_space_tree, move_to_output_refusal, move_to_output_tree}
+use Rattle.wm_layouts.specs.declared.plan.Env.{Env}
 use Rattle.wm_sizes.specs.Borders.{cycle_border_refusal, cycle_border_tree, set_border_refusal, set_border_tree}
 use Rattle.wm_sizes.specs.Floating.{resize_set_refusal, resize_set_tree}
 use Rattle.wm_sizes.specs.Gaps.{set_gaps_refusal, set_gaps_tree}
@@ -60,14 +61,10 @@ whole_refusal (commands.Rename was name) t = rename_refusal was name t
 whole_refusal other t = Some (NoTarget errors.NotBuilt)
 
 -- the tree that such a command leaves, where it is not refused
-abbrev pub whole_tree : List (List ℕ × List ℕ) → Command → TreeValue → TreeValue
-whole_tree homes (commands.Workspace target) t = show_tree target homes t
-whole_tree homes (commands.Rename was name) t = rename_tree was name t
-whole_tree homes other t = t
-
--- the homes of workspaces: names, and the outputs on which workspaces of these names are made
-abbrev pub Homes : Type 0
-Homes = List (List ℕ × List ℕ)
+abbrev pub whole_tree : Env → Command → TreeValue → TreeValue
+whole_tree env (commands.Workspace target) t = show_tree target env.homes t
+whole_tree env (commands.Rename was name) t = rename_tree was name t
+whole_tree env other t = t
 
 -- the commands of layouts, of focus and moves in the tree, and of marks
 abbrev pub is_inner : Command → Bool
@@ -102,70 +99,70 @@ is_placing commands.ScratchpadShow = true
 is_placing other = false
 
 -- why the command is refused on the subject c
-abbrev pub row_refusal : List (List ℕ × List ℕ) → How → Command → ConId → TreeValue → Option Refusal
-row_refusal homes how (commands.Split arg) c t = split_refusal c arg t
-row_refusal homes how (commands.SetLayout arg) c t = set_layout_refusal c arg t
-row_refusal homes how (commands.CycleLayout cycle) c t = cycle_layout_refusal c cycle t
-row_refusal homes how commands.Focus c t = focus_refusal how c t
-row_refusal homes how (commands.FocusDir d) c t = focus_dir_refusal c d t
-row_refusal homes how commands.FocusParent c t = focus_parent_refusal c t
-row_refusal homes how commands.FocusChild c t = focus_child_refusal c t
-row_refusal homes how (commands.MoveDir d px) c t = move_dir_refusal c d px t
-row_refusal homes how (commands.MoveToMark name) c t = move_to_mark_refusal c name t
-row_refusal homes how (commands.Swap arg) c t = swap_refusal c arg t
-row_refusal homes how (commands.Mark add toggle name) c t = mark_refusal c name add toggle t
-row_refusal homes how (commands.Unmark name) c t = unmark_refusal (matched_subject how c) name t
-row_refusal homes how (commands.FocusOutput arg) c t = focus_output_refusal c arg t
-row_refusal homes how (commands.MoveToOutput arg) c t = move_to_output_refusal c arg t
-row_refusal homes how (commands.MoveToWorkspace target) c t = send_to_refusal c target homes t
-row_refusal homes how (commands.MoveWorkspace arg) c t = move_space_refusal c arg t
-row_refusal homes how (commands.FocusKind kind) c t = focus_of_kind_refusal c kind t
-row_refusal homes how (commands.Floating arg) c t = floating_refusal c arg t
-row_refusal homes how (commands.Fullscreen arg) c t = window_refusal c t
-row_refusal homes how (commands.Sticky arg) c t = window_refusal c t
-row_refusal homes how (commands.MovePosition x y) c t = place_at_refusal c x y t
-row_refusal homes how commands.MoveCenter c t = centre_refusal c t
-row_refusal homes how commands.MoveToScratchpad c t = to_scratchpad_refusal c t
-row_refusal homes how commands.ScratchpadShow c t = show_scratchpad_refusal (matched_subject how c) t
-row_refusal homes how (commands.Resize grow side px ppt) c t = resize_refusal c grow side px ppt t
-row_refusal homes how (commands.ResizeSet w h) c t = resize_set_refusal c w h t
-row_refusal homes how (commands.SetBorder border) c t = set_border_refusal c border t
-row_refusal homes how commands.CycleBorder c t = cycle_border_refusal c t
-row_refusal homes how (commands.Gaps outer all op px) c t = set_gaps_refusal c t
-row_refusal homes how (commands.TitleFormat format) c t = title_format_refusal c t
-row_refusal homes how commands.Kill c t = kill_refusal c t
-row_refusal homes how other c t = Some (NoTarget errors.NotBuilt)
+abbrev pub row_refusal : Env → How → Command → ConId → TreeValue → Option Refusal
+row_refusal env how (commands.Split arg) c t = split_refusal c arg t
+row_refusal env how (commands.SetLayout arg) c t = set_layout_refusal c arg t
+row_refusal env how (commands.CycleLayout cycle) c t = cycle_layout_refusal c cycle t
+row_refusal env how commands.Focus c t = focus_refusal how c t
+row_refusal env how (commands.FocusDir d) c t = focus_dir_refusal c d t
+row_refusal env how commands.FocusParent c t = focus_parent_refusal c t
+row_refusal env how commands.FocusChild c t = focus_child_refusal c t
+row_refusal env how (commands.MoveDir d px) c t = move_dir_refusal c d px t
+row_refusal env how (commands.MoveToMark name) c t = move_to_mark_refusal c name t
+row_refusal env how (commands.Swap arg) c t = swap_refusal c arg t
+row_refusal env how (commands.Mark add toggle name) c t = mark_refusal c name add toggle t
+row_refusal env how (commands.Unmark name) c t = unmark_refusal (matched_subject how c) name t
+row_refusal env how (commands.FocusOutput arg) c t = focus_output_refusal c arg t
+row_refusal env how (commands.MoveToOutput arg) c t = move_to_output_refusal c arg t
+row_refusal env how (commands.MoveToWorkspace target) c t = send_to_refusal c target env.homes t
+row_refusal env how (commands.MoveWorkspace arg) c t = move_space_refusal c arg t
+row_refusal env how (commands.FocusKind kind) c t = focus_of_kind_refusal c kind t
+row_refusal env how (commands.Floating arg) c t = floating_refusal c arg t
+row_refusal env how (commands.Fullscreen arg) c t = window_refusal c t
+row_refusal env how (commands.Sticky arg) c t = window_refusal c t
+row_refusal env how (commands.MovePosition x y) c t = place_at_refusal c x y t
+row_refusal env how commands.MoveCenter c t = centre_refusal c t
+row_refusal env how commands.MoveToScratchpad c t = to_scratchpad_refusal c t
+row_refusal env how commands.ScratchpadShow c t = show_scratchpad_refusal (matched_subject how c) t
+row_refusal env how (commands.Resize grow side px ppt) c t = resize_refusal c grow side px ppt t
+row_refusal env how (commands.ResizeSet w h) c t = resize_set_refusal c w h t
+row_refusal env how (commands.SetBorder border) c t = set_border_refusal c border t
+row_refusal env how commands.CycleBorder c t = cycle_border_refusal c t
+row_refusal env how (commands.Gaps outer all op px) c t = set_gaps_refusal c t
+row_refusal env how (commands.TitleFormat format) c t = title_format_refusal c t
+row_refusal env how commands.Kill c t = kill_refusal c t
+row_refusal env how other c t = Some (NoTarget errors.NotBuilt)
 
 -- the tree that the command leaves, where it is not refused on the subject c
-abbrev pub row_tree : List (List ℕ × List ℕ) → How → Command → ConId → TreeValue → TreeValue
-row_tree homes how (commands.Split arg) c t = split_tree c arg t
-row_tree homes how (commands.SetLayout arg) c t = set_layout_tree c arg t
-row_tree homes how (commands.CycleLayout cycle) c t = cycle_layout_tree c cycle t
-row_tree homes how commands.Focus c t = focus_tree c t
-row_tree homes how (commands.FocusDir d) c t = focus_dir_tree c d t
-row_tree homes how commands.FocusParent c t = focus_parent_tree c t
-row_tree homes how commands.FocusChild c t = focus_child_tree c t
-row_tree homes how (commands.MoveDir d px) c t = move_dir_tree c d px t
-row_tree homes how (commands.MoveToMark name) c t = move_to_mark_tree c name t
-row_tree homes how (commands.Swap arg) c t = swap_tree c arg t
-row_tree homes how (commands.Mark add toggle name) c t = mark_tree c name add toggle t
-row_tree homes how (commands.Unmark name) c t = unmark_tree (matched_subject how c) name t
-row_tree homes how (commands.FocusOutput arg) c t = focus_output_tree c arg t
-row_tree homes how (commands.MoveToOutput arg) c t = move_to_output_tree c arg t
-row_tree homes how (commands.MoveToWorkspace target) c t = send_to_tree c target homes t
-row_tree homes how (commands.MoveWorkspace arg) c t = move_space_tree c arg t
-row_tree homes how (commands.FocusKind kind) c t = focus_of_kind_tree c kind t
-row_tree homes how (commands.Floating arg) c t = floating_tree c arg t
-row_tree homes how (commands.Fullscreen arg) c t = fullscreen_set c arg t
-row_tree homes how (commands.Sticky arg) c t = sticky_tree c arg t
-row_tree homes how (commands.MovePosition x y) c t = place_at_tree c x y t
-row_tree homes how commands.MoveCenter c t = centre_tree c t
-row_tree homes how commands.MoveToScratchpad c t = to_scratchpad_tree c t
-row_tree homes how commands.ScratchpadShow c t = show_scratchpad_tree (matched_subject how c) t
-row_tree homes how (commands.Resize grow side px ppt) c t = resize_tree c grow side px ppt t
-row_tree homes how (commands.ResizeSet w h) c t = resize_set_tree c w h t
-row_tree homes how (commands.SetBorder border) c t = set_border_tree c border t
-row_tree homes how commands.CycleBorder c t = cycle_border_tree c t
-row_tree homes how (commands.Gaps outer all op px) c t = set_gaps_tree c outer all op px t
-row_tree homes how (commands.TitleFormat format) c t = title_format_tree c format t
-row_tree homes how other c t = t
+abbrev pub row_tree : Env → How → Command → ConId → TreeValue → TreeValue
+row_tree env how (commands.Split arg) c t = split_tree c arg t
+row_tree env how (commands.SetLayout arg) c t = set_layout_tree c arg t
+row_tree env how (commands.CycleLayout cycle) c t = cycle_layout_tree c cycle t
+row_tree env how commands.Focus c t = focus_tree c t
+row_tree env how (commands.FocusDir d) c t = focus_dir_tree c d t
+row_tree env how commands.FocusParent c t = focus_parent_tree c t
+row_tree env how commands.FocusChild c t = focus_child_tree c t
+row_tree env how (commands.MoveDir d px) c t = move_dir_tree c d px t
+row_tree env how (commands.MoveToMark name) c t = move_to_mark_tree c name t
+row_tree env how (commands.Swap arg) c t = swap_tree c arg t
+row_tree env how (commands.Mark add toggle name) c t = mark_tree c name add toggle t
+row_tree env how (commands.Unmark name) c t = unmark_tree (matched_subject how c) name t
+row_tree env how (commands.FocusOutput arg) c t = focus_output_tree c arg t
+row_tree env how (commands.MoveToOutput arg) c t = move_to_output_tree c arg t
+row_tree env how (commands.MoveToWorkspace target) c t = send_to_tree c target env.homes t
+row_tree env how (commands.MoveWorkspace arg) c t = move_space_tree c arg t
+row_tree env how (commands.FocusKind kind) c t = focus_of_kind_tree c kind t
+row_tree env how (commands.Floating arg) c t = floating_tree c arg t
+row_tree env how (commands.Fullscreen arg) c t = fullscreen_set c arg t
+row_tree env how (commands.Sticky arg) c t = sticky_tree c arg t
+row_tree env how (commands.MovePosition x y) c t = place_at_tree c x y t
+row_tree env how commands.MoveCenter c t = centre_tree c t
+row_tree env how commands.MoveToScratchpad c t = to_scratchpad_tree c t
+row_tree env how commands.ScratchpadShow c t = show_scratchpad_tree (matched_subject how c) t
+row_tree env how (commands.Resize grow side px ppt) c t = resize_tree c grow side px ppt t
+row_tree env how (commands.ResizeSet w h) c t = resize_set_tree c w h t
+row_tree env how (commands.SetBorder border) c t = set_border_tree c border t
+row_tree env how commands.CycleBorder c t = cycle_border_tree c t
+row_tree env how (commands.Gaps outer all op px) c t = set_gaps_tree c outer all op px t
+row_tree env how (commands.TitleFormat format) c t = title_format_tree c format t
+row_tree env how other c t = t

@@ -1,5 +1,5 @@
 -- On what a command runs, and what it leaves of all its subjects.
-use Rattle.std.specs.Prelude.{ℕ, Bool, if◌then◌else◌, List, [], ◌∷◌, Option, None, Some}
+use Rattle.std.specs.Prelude.{Bool, if◌then◌else◌, List, [], ◌∷◌, Option, None, Some}
 use Rattle.std.specs.Option.{option_map}
 use Rattle.wm_base.specs.declared.errors.ErrorText.{ErrorText}
 use Rattle.wm_base.specs.declared.errors.ErrorText.TheVariants as errors
@@ -9,6 +9,7 @@ use Rattle.wm_base.specs.declared.errors.Refusal.{Refusal}
 use Rattle.wm_base.specs.declared.errors.Refusal.TheVariants as refusals
 use Rattle.wm_base.specs.declared.ids.ConId.{ConId}
 use Rattle.wm_language.specs.declared.command.Command.{Command}
+use Rattle.wm_layouts.specs.declared.plan.Env.{Env}
 use Rattle.wm_shared.specs.Subject.{is_subject_kind}
 use Rattle.wm_forest.specs.Look.{con_kind, kind_of, space_kind}
 use Rattle.wm_tree.specs.TreeValue.{TreeValue}
@@ -48,13 +49,13 @@ unless_refused None old new = new
 unless_refused (Some e) old new = old
 
 -- the tree after the command on c, settled; as it was where the command is refused, or c is not there
-abbrev pub one_tree : List (List ℕ × List ℕ) → How → Command → ConId → TreeValue → TreeValue
-one_tree homes how command c t =
-    if is_there c t then unless_refused (row_refusal homes how command c t) t (settled (row_tree homes how command c t)) else t
+abbrev pub one_tree : Env → How → Command → ConId → TreeValue → TreeValue
+one_tree env how command c t =
+    if is_there c t then unless_refused (row_refusal env how command c t) t (settled (row_tree env how command c t)) else t
 
 -- why the command is refused on c; one that is gone refuses nothing
-abbrev pub one_error : List (List ℕ × List ℕ) → How → Command → ConId → TreeValue → Option ErrorText
-one_error homes how command c t = if is_there c t then option_map error_of (row_refusal homes how command c t) else None
+abbrev pub one_error : Env → How → Command → ConId → TreeValue → Option ErrorText
+one_error env how command c t = if is_there c t then option_map error_of (row_refusal env how command c t) else None
 
 -- the new tree, settled, of a command on the tree as a whole; as it was where the command is refused
 abbrev pub whole_done : Option Refusal → TreeValue → TreeValue → TreeValue
@@ -63,18 +64,18 @@ whole_done refusal old new = unless_refused refusal old (settled new)
 -- ---- subjects one after another
 
 -- the tree after the command on each of the subjects that is still there
-abbrev pub each_tree : List (List ℕ × List ℕ) → How → Command → List ConId → TreeValue → TreeValue
-each_tree homes how command [] t = t
-each_tree homes how command (c ∷ cs) t = each_tree homes how command cs (one_tree homes how command c t)
+abbrev pub each_tree : Env → How → Command → List ConId → TreeValue → TreeValue
+each_tree env how command [] t = t
+each_tree env how command (c ∷ cs) t = each_tree env how command cs (one_tree env how command c t)
 
 abbrev pub or_error : Option ErrorText → Option ErrorText → Option ErrorText
 or_error None later = later
 or_error (Some e) later = Some e
 
 -- the first error of the subjects
-abbrev pub each_error : List (List ℕ × List ℕ) → How → Command → List ConId → TreeValue → Option ErrorText
-each_error homes how command [] t = None
-each_error homes how command (c ∷ cs) t = or_error (one_error homes how command c t) (each_error homes how command cs (one_tree homes how command c t))
+abbrev pub each_error : Env → How → Command → List ConId → TreeValue → Option ErrorText
+each_error env how command [] t = None
+each_error env how command (c ∷ cs) t = or_error (one_error env how command c t) (each_error env how command cs (one_tree env how command c t))
 
 abbrev pub reply_of : Option ErrorText → CommandReply
 reply_of None = Done

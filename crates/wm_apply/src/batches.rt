@@ -12,7 +12,7 @@ use crate::commands::{gather_kills, is_exit, run_command};
 use crate::targets::Targets;
 use std::alloc::Global;
 use std::marker::Model;
-use wm_base::{ConId, List, NoMemory, Text};
+use wm_base::{ConId, List, NoMemory};
 use wm_criteria::{Prepared, Verdict, matching};
 use wm_language::{Command, Group};
 use wm_layouts::Env;
@@ -43,16 +43,16 @@ impl Running {
     fn command(
         &mut self,
         alloc: Global,
-        homes: &[(Text, Text)],
+        env: &Env,
         targets: &Targets,
         command: &Command,
     ) -> Result<(), NoMemory>
         requires { IsSound self.old.tree }
-        ensures done { OnOk result (self.new ≡ command_done homes.now targets.now command.now self.old) }
+        ensures done { OnOk result (self.new ≡ command_done env.now targets.now command.now self.old) }
         ensures sound { OnOk result (IsSound self.new.tree) }
     {
         gather_kills(&self.tree, targets, command, &mut self.kills)?;
-        let reply = run_command(alloc, &mut self.tree, homes, targets, command)?;
+        let reply = run_command(alloc, &mut self.tree, env, targets, command)?;
         self.replies.push(reply)?;
         self.exit = self.exit || is_exit(command);
         Ok(())
@@ -62,17 +62,17 @@ impl Running {
     fn commands(
         &mut self,
         alloc: Global,
-        homes: &[(Text, Text)],
+        env: &Env,
         targets: &Targets,
         commands: &[Command],
     ) -> Result<(), NoMemory>
         requires { IsSound self.old.tree }
-        ensures done { OnOk result (self.new ≡ commands_done homes.now targets.now commands.now self.old) }
+        ensures done { OnOk result (self.new ≡ commands_done env.now targets.now commands.now self.old) }
         ensures sound { OnOk result (IsSound self.new.tree) }
     {
         let mut rest = commands;
         while let [command, after @ ..] = rest {
-            self.command(alloc, homes, targets, command)?;
+            self.command(alloc, env, targets, command)?;
             rest = after;
         }
         Ok(())
@@ -105,7 +105,7 @@ impl Running {
     fn groups(
         &mut self,
         alloc: Global,
-        homes: &[(Text, Text)],
+        env: &Env,
         p: &Prepared,
         groups: &[Group],
         subject: Option<ConId>,
@@ -113,14 +113,14 @@ impl Running {
         requires built { IsTrue (is_built p.now) }
         requires sound { IsSound self.old.tree }
         requires groups { groups_of p.now.verdict ≡ groups.now }
-        ensures done { OnOk result (self.new ≡ groups_done homes.now subject groups.now self.old) }
+        ensures done { OnOk result (self.new ≡ groups_done env.now subject groups.now self.old) }
         ensures sound { OnOk result (IsSound self.new.tree) }
     {
         let mut number = 0;
         let mut rest = groups;
         while let [group, after @ ..] = rest {
             let targets = self.targets(alloc, p, number, group, subject)?;
-            self.commands(alloc, homes, &targets, group.commands.items())?;
+            self.commands(alloc, env, &targets, group.commands.items())?;
             number += 1;
             rest = after;
         }
@@ -141,15 +141,15 @@ pub fn run(
 ) -> Result<(Tree, Applied), NoMemory>
     requires built { IsTrue (is_built p.now) }
     requires sound { IsSound t.now }
-    ensures tree { IfOk result (λ r. r.0 ≡ (outcome env.now.homes p.now.verdict subject t.now).tree) }
-    ensures replies { IfOk result (λ r. r.1.replies ≡ (outcome env.now.homes p.now.verdict subject t.now).replies) }
-    ensures exit { IfOk result (λ r. r.1.exit ≡ (outcome env.now.homes p.now.verdict subject t.now).exit) }
-    ensures kills { IfOk result (λ r. r.1.kills ≡ (outcome env.now.homes p.now.verdict subject t.now).kills) }
+    ensures tree { IfOk result (λ r. r.0 ≡ (outcome env.now p.now.verdict subject t.now).tree) }
+    ensures replies { IfOk result (λ r. r.1.replies ≡ (outcome env.now p.now.verdict subject t.now).replies) }
+    ensures exit { IfOk result (λ r. r.1.exit ≡ (outcome env.now p.now.verdict subject t.now).exit) }
+    ensures kills { IfOk result (λ r. r.1.kills ≡ (outcome env.now p.now.verdict subject t.now).kills) }
     ensures mode { IfOk result (λ r. r.1.mode ≡ None) }
     ensures sound { IfOk result (λ r. IsSound r.0) }
     ensures ids { IfOk result (λ r. IdsRise t.now r.0) }
 {
-    let ran = run_groups(alloc, t, env.homes.items(), p, subject)?;
+    let ran = run_groups(alloc, t, env, p, subject)?;
     let applied = Applied {
         replies: List::of(ran.replies),
         mode: None,
@@ -163,13 +163,13 @@ pub fn run(
 fn run_groups(
     alloc: Global,
     t: &Tree,
-    homes: &[(Text, Text)],
+    env: &Env,
     p: &Prepared,
     subject: Option<ConId>,
 ) -> Result<Running, NoMemory>
     requires built { IsTrue (is_built p.now) }
     requires sound { IsSound t.now }
-    ensures done { IfOk result (λ ran. ran ≡ outcome homes.now p.now.verdict subject t.now) }
+    ensures done { IfOk result (λ ran. ran ≡ outcome env.now p.now.verdict subject t.now) }
     ensures sound { IfOk result (λ ran. IsSound ran.tree) }
 {
     let mut ran = Running {
@@ -179,7 +179,7 @@ fn run_groups(
         kills: Vec::new(alloc),
     };
     if let Verdict::Ready(batch) = &p.verdict {
-        ran.groups(alloc, homes, p, batch.groups.items(), subject)?;
+        ran.groups(alloc, env, p, batch.groups.items(), subject)?;
     }
     Ok(ran)
 }
@@ -194,10 +194,10 @@ pub fn apply(
 ) -> Result<Applied, NoMemory>
     requires built { IsTrue (is_built p.now) }
     requires sound { IsSound t.old }
-    ensures tree { OnOk result (t.new ≡ (outcome env.now.homes p.now.verdict subject t.old).tree) }
-    ensures replies { IfOk result (λ a. a.replies ≡ (outcome env.now.homes p.now.verdict subject t.old).replies) }
-    ensures exit { IfOk result (λ a. a.exit ≡ (outcome env.now.homes p.now.verdict subject t.old).exit) }
-    ensures kills { IfOk result (λ a. a.kills ≡ (outcome env.now.homes p.now.verdict subject t.old).kills) }
+    ensures tree { OnOk result (t.new ≡ (outcome env.now p.now.verdict subject t.old).tree) }
+    ensures replies { IfOk result (λ a. a.replies ≡ (outcome env.now p.now.verdict subject t.old).replies) }
+    ensures exit { IfOk result (λ a. a.exit ≡ (outcome env.now p.now.verdict subject t.old).exit) }
+    ensures kills { IfOk result (λ a. a.kills ≡ (outcome env.now p.now.verdict subject t.old).kills) }
     ensures mode { IfOk result (λ a. a.mode ≡ None) }
     ensures err { OnErr result (t.new ≡ t.old) }
     ensures sound { IsSound t.new }

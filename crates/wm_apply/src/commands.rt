@@ -10,8 +10,9 @@ use crate::rows::{How, run_whole};
 use crate::subjects::{run_each, text_of};
 use crate::targets::Targets;
 use std::alloc::{AllocError, Global};
-use wm_base::{ConId, ErrorText, NoMemory, Text};
+use wm_base::{ConId, ErrorText, NoMemory};
 use wm_language::Command;
+use wm_layouts::Env;
 use wm_shared::is_subject;
 use wm_tree::Tree;
 
@@ -90,13 +91,13 @@ fn subject(t: &Tree, con: ConId) -> ConId
 pub fn run_command(
     alloc: Global,
     t: &mut Tree,
-    homes: &[(Text, Text)],
+    env: &Env,
     targets: &Targets,
     command: &Command,
 ) -> Result<CommandReply, NoMemory>
     requires { IsSound t.old }
-    ensures tree { OnOk result (t.new ≡ command_tree homes.now targets.now command.now t.old) }
-    ensures reply { IfOk result (λ r. r ≡ command_reply homes.now targets.now command.now t.old) }
+    ensures tree { OnOk result (t.new ≡ command_tree env.now targets.now command.now t.old) }
+    ensures reply { IfOk result (λ r. r ≡ command_reply env.now targets.now command.now t.old) }
     ensures sound { IsSound t.new }
 {
     if !is_built(command) {
@@ -106,27 +107,23 @@ pub fn run_command(
         return Ok(CommandReply::Done);
     }
     if is_whole(command) {
-        return run_all(t, homes, command);
+        return run_all(t, env, command);
     }
     match targets {
-        Targets::Matched(cons) => run_matched(alloc, t, homes, command, cons.items()),
-        Targets::Handed(con) => run_handed(alloc, t, homes, command, *con),
-        Targets::Focused => run_focused(alloc, t, homes, command),
+        Targets::Matched(cons) => run_matched(alloc, t, env, command, cons.items()),
+        Targets::Handed(con) => run_handed(alloc, t, env, command, *con),
+        Targets::Focused => run_focused(alloc, t, env, command),
     }
 }
 
 /// Runs a command on the tree as a whole, and settles it.
-fn run_all(
-    t: &mut Tree,
-    homes: &[(Text, Text)],
-    command: &Command,
-) -> Result<CommandReply, NoMemory>
+fn run_all(t: &mut Tree, env: &Env, command: &Command) -> Result<CommandReply, NoMemory>
     requires { IsSound t.old }
-    ensures tree { OnOk result (t.new ≡ course_tree homes.now whole command.now t.old) }
-    ensures reply { IfOk result (λ r. r ≡ course_reply homes.now whole command.now t.old) }
+    ensures tree { OnOk result (t.new ≡ course_tree env.now whole command.now t.old) }
+    ensures reply { IfOk result (λ r. r ≡ course_reply env.now whole command.now t.old) }
     ensures sound { IsSound t.new }
 {
-    match run_whole(t, homes, command) {
+    match run_whole(t, env, command) {
         Ok(()) => {
             t.settle();
             Ok(CommandReply::Done)
@@ -139,13 +136,13 @@ fn run_all(
 fn run_matched(
     alloc: Global,
     t: &mut Tree,
-    homes: &[(Text, Text)],
+    env: &Env,
     command: &Command,
     cons: &[ConId],
 ) -> Result<CommandReply, NoMemory>
     requires { IsSound t.old }
-    ensures tree { OnOk result (t.new ≡ course_tree homes.now (matched_course command.now cons.now t.old) command.now t.old) }
-    ensures reply { IfOk result (λ r. r ≡ course_reply homes.now (matched_course command.now cons.now t.old) command.now t.old) }
+    ensures tree { OnOk result (t.new ≡ course_tree env.now (matched_course command.now cons.now t.old) command.now t.old) }
+    ensures reply { IfOk result (λ r. r ≡ course_reply env.now (matched_course command.now cons.now t.old) command.now t.old) }
     ensures sound { IsSound t.new }
 {
     if cons.is_empty() {
@@ -154,40 +151,40 @@ fn run_matched(
     if is_mark(command) && count_there(t, cons) >= 2 {
         return Ok(CommandReply::Error(ErrorText::ManyMatch));
     }
-    run_each(alloc, t, homes, How::Matched, command, cons)
+    run_each(alloc, t, env, How::Matched, command, cons)
 }
 
 /// Runs a command on the subject that was handed in.
 fn run_handed(
     alloc: Global,
     t: &mut Tree,
-    homes: &[(Text, Text)],
+    env: &Env,
     command: &Command,
     con: ConId,
 ) -> Result<CommandReply, NoMemory>
     requires { IsSound t.old }
-    ensures tree { OnOk result (t.new ≡ course_tree homes.now (targets_course (targets.Handed con) command.now t.old) command.now t.old) }
-    ensures reply { IfOk result (λ r. r ≡ course_reply homes.now (targets_course (targets.Handed con) command.now t.old) command.now t.old) }
+    ensures tree { OnOk result (t.new ≡ course_tree env.now (targets_course (targets.Handed con) command.now t.old) command.now t.old) }
+    ensures reply { IfOk result (λ r. r ≡ course_reply env.now (targets_course (targets.Handed con) command.now t.old) command.now t.old) }
     ensures sound { IsSound t.new }
 {
     let con = subject(t, con);
-    run_each(alloc, t, homes, How::Handed, command, &[con])
+    run_each(alloc, t, env, How::Handed, command, &[con])
 }
 
 /// Runs a command on the focused container.
 fn run_focused(
     alloc: Global,
     t: &mut Tree,
-    homes: &[(Text, Text)],
+    env: &Env,
     command: &Command,
 ) -> Result<CommandReply, NoMemory>
     requires { IsSound t.old }
-    ensures tree { OnOk result (t.new ≡ course_tree homes.now (targets_course targets.Focused command.now t.old) command.now t.old) }
-    ensures reply { IfOk result (λ r. r ≡ course_reply homes.now (targets_course targets.Focused command.now t.old) command.now t.old) }
+    ensures tree { OnOk result (t.new ≡ course_tree env.now (targets_course targets.Focused command.now t.old) command.now t.old) }
+    ensures reply { IfOk result (λ r. r ≡ course_reply env.now (targets_course targets.Focused command.now t.old) command.now t.old) }
     ensures sound { IsSound t.new }
 {
     let con = t.focused();
-    run_each(alloc, t, homes, How::Focused, command, &[con])
+    run_each(alloc, t, env, How::Focused, command, &[con])
 }
 
 /// Adds the windows that the command asks to close.

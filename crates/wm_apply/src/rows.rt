@@ -1,6 +1,7 @@
 //! One command on one subject, or on the tree as a whole: a case for each command that is built.
 ghost use Rattle.std.specs.Prelude.{◌≡◌, false, None, OnOk, OnErr, IfErr};
-ghost use Rattle.wm_apply.specs.Rows.{Homes, come_refusal, focus_refusal, focus_tree, is_inner, is_placing, row_refusal, row_tree, matched_subject, whole_refusal, whole_tree};
+ghost use Rattle.wm_layouts.specs.declared.plan.Env.{Env};
+ghost use Rattle.wm_apply.specs.Rows.{come_refusal, focus_refusal, focus_tree, is_inner, is_placing, row_refusal, row_tree, matched_subject, whole_refusal, whole_tree};
 ghost use Rattle.wm_apply.specs.declared.rows.How.{How};
 ghost use Rattle.wm_shared.specs.Refusing.{IsCause};
 ghost use Rattle.wm_shared.specs.Subject.{IsSubject};
@@ -10,13 +11,14 @@ use crate::floats::{focus_of_kind, set_floating, set_fullscreen, set_sticky};
 use crate::kills::kill;
 use crate::outputs::{focus_named, move_space_to_named, send_to_named};
 use std::alloc::Global;
-use wm_base::{ConId, ErrorText, NoMemory, Refusal, Text};
+use wm_base::{ConId, ErrorText, NoMemory, Refusal};
 use wm_floats::{centre, place_at, show_scratchpad, to_scratchpad};
 use wm_focus::{
     cycle_layout, focus_child, focus_dir, focus_parent, mark, move_dir, move_to_mark, set_layout,
     split, swap, unmark,
 };
 use wm_language::Command;
+use wm_layouts::Env;
 use wm_shared::is_hidden;
 use wm_sizes::{cycle_border, resize, resize_set, set_border, set_gaps, title_format};
 use wm_spaces::{rename, send_to, show};
@@ -34,16 +36,16 @@ pub enum How {
 pub fn run_row(
     alloc: Global,
     t: &mut Tree,
-    homes: &[(Text, Text)],
+    env: &Env,
     how: How,
     command: &Command,
     con: ConId,
 ) -> Result<(), Refusal>
     requires { IsSubject t.old con }
-    ensures tree { OnOk result (t.new ≡ row_tree homes.now how command.now con t.old) }
-    ensures fine { OnOk result (row_refusal homes.now how command.now con t.old ≡ None) }
+    ensures tree { OnOk result (t.new ≡ row_tree env.now how command.now con t.old) }
+    ensures fine { OnOk result (row_refusal env.now how command.now con t.old ≡ None) }
     ensures err { OnErr result (t.new ≡ t.old) }
-    ensures cause { IfErr result (IsCause (row_refusal homes.now how command.now con t.old)) }
+    ensures cause { IfErr result (IsCause (row_refusal env.now how command.now con t.old)) }
     ensures sound { IsSound t.new }
 {
     match command {
@@ -59,7 +61,7 @@ pub fn run_row(
         Command::Swap(arg) => swap(t, con, arg),
         Command::Mark { add, toggle, name } => mark(t, con, name, *add, *toggle),
         Command::Unmark(name) => unmark(t, how.matched_subject(con), name.as_ref()),
-        _ => run_placing(alloc, t, homes, how, command, con),
+        _ => run_placing(alloc, t, env, how, command, con),
     }
 }
 
@@ -67,23 +69,23 @@ pub fn run_row(
 fn run_placing(
     alloc: Global,
     t: &mut Tree,
-    homes: &[(Text, Text)],
+    env: &Env,
     how: How,
     command: &Command,
     con: ConId,
 ) -> Result<(), Refusal>
     requires subject { IsSubject t.old con }
     requires other { is_inner command.now ≡ false }
-    ensures tree { OnOk result (t.new ≡ row_tree homes.now how command.now con t.old) }
-    ensures fine { OnOk result (row_refusal homes.now how command.now con t.old ≡ None) }
+    ensures tree { OnOk result (t.new ≡ row_tree env.now how command.now con t.old) }
+    ensures fine { OnOk result (row_refusal env.now how command.now con t.old ≡ None) }
     ensures err { OnErr result (t.new ≡ t.old) }
-    ensures cause { IfErr result (IsCause (row_refusal homes.now how command.now con t.old)) }
+    ensures cause { IfErr result (IsCause (row_refusal env.now how command.now con t.old)) }
     ensures sound { IsSound t.new }
 {
     match command {
         Command::FocusOutput(arg) => focus_named(t, con, arg),
         Command::MoveToOutput(arg) => send_to_named(t, con, arg),
-        Command::MoveToWorkspace(target) => send_to(t, con, target, homes),
+        Command::MoveToWorkspace(target) => send_to(t, con, target, env.homes.items()),
         Command::MoveWorkspace(arg) => move_space_to_named(alloc, t, con, arg),
         Command::FocusKind(kind) => focus_of_kind(t, con, *kind),
         Command::Floating(arg) => set_floating(t, con, *arg),
@@ -102,10 +104,10 @@ fn run_sizing(t: &mut Tree, command: &Command, con: ConId) -> Result<(), Refusal
     requires subject { IsSubject t.old con }
     requires other { is_inner command.now ≡ false }
     requires unplaced { is_placing command.now ≡ false }
-    ensures tree { (homes : Homes) (how : How) → OnOk result (t.new ≡ row_tree homes how command.now con t.old) }
-    ensures fine { (homes : Homes) (how : How) → OnOk result (row_refusal homes how command.now con t.old ≡ None) }
+    ensures tree { (env : Env) (how : How) → OnOk result (t.new ≡ row_tree env how command.now con t.old) }
+    ensures fine { (env : Env) (how : How) → OnOk result (row_refusal env how command.now con t.old ≡ None) }
     ensures err { OnErr result (t.new ≡ t.old) }
-    ensures cause { (homes : Homes) (how : How) → IfErr result (IsCause (row_refusal homes how command.now con t.old)) }
+    ensures cause { (env : Env) (how : How) → IfErr result (IsCause (row_refusal env how command.now con t.old)) }
     ensures sound { IsSound t.new }
 {
     match command {
@@ -126,16 +128,16 @@ fn run_sizing(t: &mut Tree, command: &Command, con: ConId) -> Result<(), Refusal
 }
 
 /// Does a command to the tree as a whole. The tree is not settled.
-pub fn run_whole(t: &mut Tree, homes: &[(Text, Text)], command: &Command) -> Result<(), Refusal>
+pub fn run_whole(t: &mut Tree, env: &Env, command: &Command) -> Result<(), Refusal>
     requires { IsSound t.old }
-    ensures tree { OnOk result (t.new ≡ whole_tree homes.now command.now t.old) }
+    ensures tree { OnOk result (t.new ≡ whole_tree env.now command.now t.old) }
     ensures fine { OnOk result (whole_refusal command.now t.old ≡ None) }
     ensures err { OnErr result (t.new ≡ t.old) }
     ensures cause { IfErr result (IsCause (whole_refusal command.now t.old)) }
     ensures sound { IsSound t.new }
 {
     match command {
-        Command::Workspace(target) => show(t, target, homes),
+        Command::Workspace(target) => show(t, target, env.homes.items()),
         Command::Rename(was, name) => rename(t, was.as_ref(), name),
         _ => Err(Refusal::NoTarget(ErrorText::NotBuilt)),
     }

@@ -8,8 +8,9 @@ ghost use Rattle.wm_tree.specs.Sound.{IsSound};
 use crate::applied::CommandReply;
 use crate::rows::{How, run_row};
 use std::alloc::Global;
-use wm_base::{ConId, ErrorText, Limit, NoMemory, Refusal, Text};
+use wm_base::{ConId, ErrorText, Limit, NoMemory, Refusal};
 use wm_language::Command;
+use wm_layouts::Env;
 use wm_shared::is_subject;
 use wm_tree::Tree;
 
@@ -45,20 +46,20 @@ pub fn text_of(refusal: Refusal) -> Result<ErrorText, NoMemory>
 fn run_one(
     alloc: Global,
     t: &mut Tree,
-    homes: &[(Text, Text)],
+    env: &Env,
     how: How,
     command: &Command,
     con: ConId,
 ) -> Result<Option<ErrorText>, NoMemory>
     requires { IsSound t.old }
-    ensures tree { OnOk result (t.new ≡ one_tree homes.now how command.now con t.old) }
-    ensures error { IfOk result (λ e. e ≡ one_error homes.now how command.now con t.old) }
+    ensures tree { OnOk result (t.new ≡ one_tree env.now how command.now con t.old) }
+    ensures error { IfOk result (λ e. e ≡ one_error env.now how command.now con t.old) }
     ensures sound { IsSound t.new }
 {
     if !is_subject(t, con) {
         return Ok(None);
     }
-    match run_row(alloc, t, homes, how, command, con) {
+    match run_row(alloc, t, env, how, command, con) {
         Ok(()) => {
             t.settle();
             Ok(None)
@@ -71,20 +72,20 @@ fn run_one(
 pub fn run_each(
     alloc: Global,
     t: &mut Tree,
-    homes: &[(Text, Text)],
+    env: &Env,
     how: How,
     command: &Command,
     cons: &[ConId],
 ) -> Result<CommandReply, NoMemory>
     requires { IsSound t.old }
-    ensures tree { OnOk result (t.new ≡ each_tree homes.now how command.now cons.now t.old) }
-    ensures reply { IfOk result (λ r. r ≡ reply_of (each_error homes.now how command.now cons.now t.old)) }
+    ensures tree { OnOk result (t.new ≡ each_tree env.now how command.now cons.now t.old) }
+    ensures reply { IfOk result (λ r. r ≡ reply_of (each_error env.now how command.now cons.now t.old)) }
     ensures sound { IsSound t.new }
 {
     let mut first = None;
     let mut rest = cons;
     while let [con, after @ ..] = rest {
-        first = first.or(run_one(alloc, t, homes, how, command, *con)?);
+        first = first.or(run_one(alloc, t, env, how, command, *con)?);
         rest = after;
     }
     Ok(match first {

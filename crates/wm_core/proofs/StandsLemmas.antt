@@ -19,7 +19,7 @@ use Rattle.wm_txn.specs.Stands as transactions
 use Rattle.wm_txn.proofs.AcceptedLemmas.{open_was}
 use Rattle.wm_txn.proofs.StandingLemmas.{still_stands}
 use Rattle.wm_opens.specs.Opens.{is_window_of, window_at, windows_at}
-use Rattle.wm_core.specs.DeskValue.{DeskValue, Follows, Stands, StandsFrom, kill_after, kill_in, may_come}
+use Rattle.wm_core.specs.DeskValue.{DeskValue, Follows, Stands, StandsFrom, judge_of, kill_after, kill_in, may_come}
 use Rattle.wm_core.specs.Frame.{quad_of, quads, what_of}
 use Rattle.wm_core.specs.Effect.{Effect, Judge, changing, closed, rearranged, refused, telling}
 use Rattle.wm_core.specs.History.{Entry, Start, answer, done_by, effect_after, entries, first, judged, kill_of, opening_of, tree}
@@ -238,3 +238,7 @@ stands_start plan t txn kills opened sound none stands = record {
 pub quads_same : (f g : ConId → Option Buffer) (parts : List Placed) → ((v : ConId) → f v ≡ g v) → quads f parts ≡ quads g parts
 quads_same f g [] h = refl
 quads_same f g (p ∷ parts) h = ap₂ (λ x y. quad_of p (what_of p.part x) ++ y) (h p.con) (quads_same f g parts h)
+
+-- what an effect is answered, where it is what the entry does
+pub there_by : (d : DeskValue) (entry : Entry) (e : Effect) → done_by d.plan.env d.tree entry ≡ e → e.answer (judge_of d.txn) ≡ (done_by d.plan.env d.tree entry).answer (judge_of d.txn)
+there_by d entry e is = ap (λ (e : Effect). e.answer (judge_of d.txn)) (sym is)

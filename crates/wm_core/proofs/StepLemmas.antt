@@ -13,7 +13,7 @@ use Rattle.wm_base.specs.declared.errors.NoMemory.{NoMemory}
 use Rattle.wm_core.specs.DeskValue.{DeskValue, Stands, StandsFrom}
 use Rattle.wm_core.specs.Effect.{done_or_refused, leaving, refused}
 use Rattle.wm_core.specs.History.{Entry, opening_of}
-use Rattle.wm_core.specs.Steps.{Answers, Commits, GoesOn, IsAnswer, Takes}
+use Rattle.wm_core.specs.Steps.{Answers, Commits, GoesOn, IsAnswer, IsThere, Takes}
 use Rattle.wm_core.specs.Outputs.{add_answer, added, remove_answer, removed, unless_full}
 use Rattle.wm_core.specs.declared.step.Answer.{Answer}
 use Rattle.wm_core.specs.declared.step.Answer.TheVariants as answers
@@ -75,16 +75,16 @@ is_removed name t h = rw h refl
 
 -- one that takes no memory promises no less than one that may
 pub taken : (old new : DeskValue) (said : Answer) (entry : Entry) → Answers old new said entry → Takes old new (Ok said) entry
-taken old new said entry a = record { answer = a.answer; stands = a.stands; plan = a.plan; count = a.count; err = tt }
+taken old new said entry a = record { there = a.there; answer = a.answer; stands = a.stands; plan = a.plan; count = a.count; err = tt }
 
 -- what is answered after the rest was done
-pub answered_after : (old new : DeskValue) (said : Answer) (entry : Entry) → IsAnswer old entry said → Commits old new (Ok tt) entry → Takes old new (Ok said) entry
-answered_after old new said entry a c = record { answer = a; stands = c.stands; plan = c.plan; count = c.count; err = tt }
+pub answered_after : (old new : DeskValue) (said : Answer) (entry : Entry) → IsThere old entry said → IsAnswer old entry said → Commits old new (Ok tt) entry → Takes old new (Ok said) entry
+answered_after old new said entry t a c = record { there = t; answer = a; stands = c.stands; plan = c.plan; count = c.count; err = tt }
 
 -- after want of memory nothing is answered
 pub none_answered : (old new : DeskValue) (entry : Entry) (r : Result Answer NoMemory) (e f : NoMemory) → IsErrAnd r (λ x. x ≡ f) → Commits old new (Err e) entry → Takes old new r entry
 none_answered old new entry (Ok said) e f is c = absurd is
-none_answered old new entry (Err x) e f is c = record { answer = tt; stands = tt; plan = c.plan; count = tt; err = c.err }
+none_answered old new entry (Err x) e f is c = record { there = tt; answer = tt; stands = tt; plan = c.plan; count = tt; err = c.err }
 
 -- a desk that goes on stands for the entry from the opening of its plan
 pub goes_on : (old new : DeskValue) (entry : Entry) → GoesOn old new entry → new.plan ≡ old.plan → (history : List Entry) → Stands old history → Stands new (entry ∷ history)

@@ -95,7 +95,7 @@ ran old o = changing (Replies (map reply_to o.replies)) old o.tree None o.exit o
 
 -- a text with this verdict: its commands run, or a reply says why they do not
 abbrev pub run_effect : Env → Verdict → TreeValue → Effect
-run_effect env (Ready batch) t = ran t (outcome env.homes (Ready batch) None t)
+run_effect env (Ready batch) t = ran t (outcome env (Ready batch) None t)
 run_effect env (Bad at) t = refused (Replies (reply.Parse at ∷ [])) t
 run_effect env (PatternRefused pattern) t = refused (Replies (reply.Pattern pattern ∷ [])) t
 

@@ -1,8 +1,8 @@
 -- What a step of a desk promises.
 use Rattle.std.specs.Prelude.{◌≡◌, ℕ, ◌+◌, List, ◌∷◌, Result, IfOk, OnErr, OnOk}
 use Rattle.wm_base.specs.declared.errors.NoMemory.{NoMemory}
-use Rattle.wm_core.specs.DeskValue.{DeskValue, StandsFrom}
-use Rattle.wm_core.specs.History.{Entry, Start, answer}
+use Rattle.wm_core.specs.DeskValue.{DeskValue, StandsFrom, judge_of}
+use Rattle.wm_core.specs.History.{Entry, Start, answer, done_by}
 use Rattle.wm_core.specs.declared.step.Answer.{Answer}
 
 -- the desk stands for the entry too, from each opening and after each history for which it stood
@@ -13,8 +13,13 @@ GoesOn old new entry = (start : Start) (history : List Entry) → StandsFrom sta
 abbrev pub IsAnswer : DeskValue → Entry → Answer → Type 0
 IsAnswer old entry said = (start : Start) (history : List Entry) → StandsFrom start old history → said ≡ answer start history entry
 
--- a step that takes no memory: it is answered as the history says, and counts in it
+-- this is the answer to the entry by what the desk has, whatever its history
+abbrev pub IsThere : DeskValue → Entry → Answer → Type 0
+IsThere old entry said = said ≡ (done_by old.plan.env old.tree entry).answer (judge_of old.txn)
+
+-- a step that takes no memory: it is answered as the history says, by what the desk has, and counts in it
 pub record Answers (old new : DeskValue) (said : Answer) (entry : Entry) : Type 0 where
+  pub there : IsThere old entry said
   pub answer : IsAnswer old entry said
   pub stands : GoesOn old new entry
   pub plan : new.plan ≡ old.plan
@@ -22,6 +27,7 @@ pub record Answers (old new : DeskValue) (said : Answer) (entry : Entry) : Type 
 
 -- a step: the same, and after want of memory the desk is as it was
 pub record Takes (old new : DeskValue) (result : Result Answer NoMemory) (entry : Entry) : Type 0 where
+  pub there : IfOk result (IsThere old entry)
   pub answer : IfOk result (IsAnswer old entry)
   pub stands : OnOk result (GoesOn old new entry)
   pub plan : new.plan ≡ old.plan

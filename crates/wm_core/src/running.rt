@@ -37,7 +37,7 @@ impl Desk {
     fn apply(&mut self, text: &Prepared) -> Result<Answer, NoMemory>
         requires built { IsTrue (is_built text.now) }
         requires few { self.old.steps < 2 ^ 48 }
-        ensures { (entry : Entry) → done_by self.old.plan.env self.old.tree entry ≡ ran self.old.tree (outcome self.old.plan.env.homes text.now.verdict None self.old.tree) → Takes self.old self.new result entry }
+        ensures { (entry : Entry) → done_by self.old.plan.env self.old.tree entry ≡ ran self.old.tree (outcome self.old.plan.env text.now.verdict None self.old.tree) → Takes self.old self.new result entry }
     {
         let (tree, applied) = run(self.alloc, &self.tree, &self.plan.env, text, None)?;
         let answer = self.take(tree, &applied);

@@ -29,6 +29,7 @@ use Rattle.wm_language.specs.declared.arguments.OnOff.{OnOff}
 use Rattle.wm_language.specs.declared.batch.Group.{Group}
 use Rattle.wm_language.specs.declared.command.Command.{Command}
 use Rattle.wm_language.specs.declared.command.Command.TheVariants as commands
+use Rattle.wm_layouts.specs.declared.plan.Env.{Env}
 use Rattle.wm_opens.proofs.FloatLemmas.{kept_floated, kept_fullscreen, kept_hidden, kept_kind, kept_placed, kept_scratchpad, kept_stuck, kept_sunk}
 use Rattle.wm_opens.proofs.KeptLemmas.{Kept, kept_count, kept_edited, kept_exchanged, kept_moved, kept_raised, kept_refl, kept_settled, kept_trans, kept_unmarked, kept_with_marks, kept_wrapped}
 use Rattle.wm_opens.proofs.ShowingLemmas.{kept_entered, kept_focusing, kept_output_focused, kept_remembering}
@@ -189,38 +190,38 @@ kept_focus c t = by_test (is_hidden t c)
     by_test false = kept_focusing c t
 
 -- a command on a subject that is there
-pub kept_row : (homes : List (List ℕ × List ℕ)) (how : How) (command : Command) (c : ConId) (t : TreeValue) → has c t.nodes ≡ true → Kept t (row_tree homes how command c t)
-kept_row homes how (commands.Split arg) c t h = kept_split c _ t
-kept_row homes how (commands.SetLayout arg) c t h = kept_laid c _ t
-kept_row homes how (commands.CycleLayout cycle) c t h = kept_laid c _ t
-kept_row homes how commands.Focus c t h = kept_focus c t
-kept_row homes how (commands.FocusDir d) c t h = kept_dir d c t
-kept_row homes how commands.FocusParent c t h = kept_raised_some _ t
-kept_row homes how commands.FocusChild c t h = kept_raised_some _ t
-kept_row homes how (commands.MoveDir d px) c t h = kept_shifted d px c t h
-kept_row homes how (commands.MoveToMark name) c t h = kept_moved_after c _ t
-kept_row homes how (commands.Swap arg) c t h = kept_exchanged_with c _ t h
-kept_row homes how (commands.Mark add toggle name) c t h = kept_mark c name add toggle t
-kept_row homes how (commands.Unmark name) c t h = kept_unmark (matched_subject how c) name t
-kept_row homes how (commands.FocusOutput arg) c t h = kept_output_some (output_at c arg t) t
-kept_row homes how (commands.MoveToOutput arg) c t h = kept_to_output (output_at c arg t) c t
-kept_row homes how (commands.MoveToWorkspace target) c t h = kept_goal_sent (goal_of target t) c homes t
-kept_row homes how (commands.MoveWorkspace arg) c t h = kept_to_named (output_at c arg t) (workspace_of t c) t
-kept_row homes how (commands.FocusKind kind) c t h = kept_kind _ t
-kept_row homes how (commands.Floating arg) c t h = kept_floating c arg t
-kept_row homes how (commands.Fullscreen arg) c t h = kept_fullscreen c _ t
-kept_row homes how (commands.Sticky arg) c t h = kept_stuck _ c t
-kept_row homes how (commands.MovePosition x y) c t h = kept_placed c x y t
-kept_row homes how commands.MoveCenter c t h = kept_placed c _ _ t
-kept_row homes how commands.MoveToScratchpad c t h = kept_hidden c t
-kept_row homes how commands.ScratchpadShow c t h = kept_scratchpad (matched_subject how c) t
-kept_row homes how (commands.Resize grow side px ppt) c t h = kept_resized c grow side px ppt t
-kept_row homes how (commands.ResizeSet w high) c t h = kept_rect _ c t
-kept_row homes how (commands.SetBorder border) c t h = kept_border border c t
-kept_row homes how commands.CycleBorder c t h = kept_cycled c t
-kept_row homes how (commands.Gaps outer all op px) c t h = kept_gaps c outer all op px t
-kept_row homes how (commands.TitleFormat format) c t h = kept_edited c (edits.TitleFormat format) t refl
-kept_row homes how other c t h = kept_refl t
+pub kept_row : (env : Env) (how : How) (command : Command) (c : ConId) (t : TreeValue) → has c t.nodes ≡ true → Kept t (row_tree env how command c t)
+kept_row env how (commands.Split arg) c t h = kept_split c _ t
+kept_row env how (commands.SetLayout arg) c t h = kept_laid c _ t
+kept_row env how (commands.CycleLayout cycle) c t h = kept_laid c _ t
+kept_row env how commands.Focus c t h = kept_focus c t
+kept_row env how (commands.FocusDir d) c t h = kept_dir d c t
+kept_row env how commands.FocusParent c t h = kept_raised_some _ t
+kept_row env how commands.FocusChild c t h = kept_raised_some _ t
+kept_row env how (commands.MoveDir d px) c t h = kept_shifted d px c t h
+kept_row env how (commands.MoveToMark name) c t h = kept_moved_after c _ t
+kept_row env how (commands.Swap arg) c t h = kept_exchanged_with c _ t h
+kept_row env how (commands.Mark add toggle name) c t h = kept_mark c name add toggle t
+kept_row env how (commands.Unmark name) c t h = kept_unmark (matched_subject how c) name t
+kept_row env how (commands.FocusOutput arg) c t h = kept_output_some (output_at c arg t) t
+kept_row env how (commands.MoveToOutput arg) c t h = kept_to_output (output_at c arg t) c t
+kept_row env how (commands.MoveToWorkspace target) c t h = kept_goal_sent (goal_of target t) c env.homes t
+kept_row env how (commands.MoveWorkspace arg) c t h = kept_to_named (output_at c arg t) (workspace_of t c) t
+kept_row env how (commands.FocusKind kind) c t h = kept_kind _ t
+kept_row env how (commands.Floating arg) c t h = kept_floating c arg t
+kept_row env how (commands.Fullscreen arg) c t h = kept_fullscreen c _ t
+kept_row env how (commands.Sticky arg) c t h = kept_stuck _ c t
+kept_row env how (commands.MovePosition x y) c t h = kept_placed c x y t
+kept_row env how commands.MoveCenter c t h = kept_placed c _ _ t
+kept_row env how commands.MoveToScratchpad c t h = kept_hidden c t
+kept_row env how commands.ScratchpadShow c t h = kept_scratchpad (matched_subject how c) t
+kept_row env how (commands.Resize grow side px ppt) c t h = kept_resized c grow side px ppt t
+kept_row env how (commands.ResizeSet w high) c t h = kept_rect _ c t
+kept_row env how (commands.SetBorder border) c t h = kept_border border c t
+kept_row env how commands.CycleBorder c t h = kept_cycled c t
+kept_row env how (commands.Gaps outer all op px) c t h = kept_gaps c outer all op px t
+kept_row env how (commands.TitleFormat format) c t h = kept_edited c (edits.TitleFormat format) t refl
+kept_row env how other c t h = kept_refl t
 
 -- ---- subjects, commands and groups
 
@@ -241,42 +242,42 @@ subject_there c t e = by_test (has c t.nodes) refl
         let bad : true ≡ false = sym e ∙ ap (λ (f : Forest). is_subject_kind (kind_by space_kind (first_part f)) (kind_by con_kind (first_part f))) (only_absent c t.nodes h) in
         cc
 
-kept_one : (homes : List (List ℕ × List ℕ)) (how : How) (command : Command) (c : ConId) (t : TreeValue) → Kept t (one_tree homes how command c t)
-kept_one homes how command c t = step (is_there c t) refl
+kept_one : (env : Env) (how : How) (command : Command) (c : ConId) (t : TreeValue) → Kept t (one_tree env how command c t)
+kept_one env how command c t = step (is_there c t) refl
   where
     after : TreeValue
-    after = row_tree homes how command c t
+    after = row_tree env how command c t
 
-    step : (b : Bool) → is_there c t ≡ b → Kept t (cond b (unless_refused (row_refusal homes how command c t) t (settled after)) t)
-    step true e = kept_unless (row_refusal homes how command c t) t (settled after) (then_settled t after (kept_row homes how command c t (subject_there c t e)))
+    step : (b : Bool) → is_there c t ≡ b → Kept t (cond b (unless_refused (row_refusal env how command c t) t (settled after)) t)
+    step true e = kept_unless (row_refusal env how command c t) t (settled after) (then_settled t after (kept_row env how command c t (subject_there c t e)))
     step false e = kept_refl t
 
-kept_each : (homes : List (List ℕ × List ℕ)) (how : How) (command : Command) (cs : List ConId) (t : TreeValue) → Kept t (each_tree homes how command cs t)
-kept_each homes how command [] t = kept_refl t
-kept_each homes how command (c ∷ cs) t =
-    kept_trans t (one_tree homes how command c t) (each_tree homes how command (c ∷ cs) t) (kept_one homes how command c t) (kept_each homes how command cs (one_tree homes how command c t))
+kept_each : (env : Env) (how : How) (command : Command) (cs : List ConId) (t : TreeValue) → Kept t (each_tree env how command cs t)
+kept_each env how command [] t = kept_refl t
+kept_each env how command (c ∷ cs) t =
+    kept_trans t (one_tree env how command c t) (each_tree env how command (c ∷ cs) t) (kept_one env how command c t) (kept_each env how command cs (one_tree env how command c t))
 
-kept_whole : (homes : List (List ℕ × List ℕ)) (command : Command) (t : TreeValue) → Kept t (whole_tree homes command t)
-kept_whole homes (commands.Workspace target) t = kept_goal_shown (goal_of target t) homes t
-kept_whole homes (commands.Rename was name) t = kept_renamed (renamed_space was t) name t
-kept_whole homes other t = kept_refl t
+kept_whole : (env : Env) (command : Command) (t : TreeValue) → Kept t (whole_tree env command t)
+kept_whole env (commands.Workspace target) t = kept_goal_shown (goal_of target t) env.homes t
+kept_whole env (commands.Rename was name) t = kept_renamed (renamed_space was t) name t
+kept_whole env other t = kept_refl t
 
-kept_course : (homes : List (List ℕ × List ℕ)) (c : Course) (command : Command) (t : TreeValue) → Kept t (course_tree homes c command t)
-kept_course homes (refused e) command t = kept_refl t
-kept_course homes (on how cs) command t = kept_each homes how command cs t
-kept_course homes whole command t =
-    let new : TreeValue = whole_tree homes command t in
-    kept_unless (whole_refusal command t) t (settled new) (then_settled t new (kept_whole homes command t))
+kept_course : (env : Env) (c : Course) (command : Command) (t : TreeValue) → Kept t (course_tree env c command t)
+kept_course env (refused e) command t = kept_refl t
+kept_course env (on how cs) command t = kept_each env how command cs t
+kept_course env whole command t =
+    let new : TreeValue = whole_tree env command t in
+    kept_unless (whole_refusal command t) t (settled new) (then_settled t new (kept_whole env command t))
 
-kept_commands : (homes : List (List ℕ × List ℕ)) (found : Targets) (cs : List Command) (o : Outcome) → Kept o.tree (commands_done homes found cs o).tree
-kept_commands homes found [] o = kept_refl o.tree
-kept_commands homes found (c ∷ cs) o =
-    kept_trans o.tree (command_done homes found c o).tree (commands_done homes found (c ∷ cs) o).tree (kept_course homes (course found c o.tree) c o.tree) (kept_commands homes found cs (command_done homes found c o))
+kept_commands : (env : Env) (found : Targets) (cs : List Command) (o : Outcome) → Kept o.tree (commands_done env found cs o).tree
+kept_commands env found [] o = kept_refl o.tree
+kept_commands env found (c ∷ cs) o =
+    kept_trans o.tree (command_done env found c o).tree (commands_done env found (c ∷ cs) o).tree (kept_course env (course found c o.tree) c o.tree) (kept_commands env found cs (command_done env found c o))
 
-kept_groups : (homes : List (List ℕ × List ℕ)) (subject : Option ConId) (gs : List Group) (o : Outcome) → Kept o.tree (groups_done homes subject gs o).tree
-kept_groups homes subject [] o = kept_refl o.tree
-kept_groups homes subject (g ∷ gs) o =
-    kept_trans o.tree (group_done homes subject g o).tree (groups_done homes subject (g ∷ gs) o).tree (kept_commands homes (targets g.criteria subject o.tree) g.commands o) (kept_groups homes subject gs (group_done homes subject g o))
+kept_groups : (env : Env) (subject : Option ConId) (gs : List Group) (o : Outcome) → Kept o.tree (groups_done env subject gs o).tree
+kept_groups env subject [] o = kept_refl o.tree
+kept_groups env subject (g ∷ gs) o =
+    kept_trans o.tree (group_done env subject g o).tree (groups_done env subject (g ∷ gs) o).tree (kept_commands env (targets g.criteria subject o.tree) g.commands o) (kept_groups env subject gs (group_done env subject g o))
 
-pub kept_outcome : (homes : List (List ℕ × List ℕ)) (verdict : Verdict) (subject : Option ConId) (t : TreeValue) → Kept t (outcome homes verdict subject t).tree
-kept_outcome homes verdict subject t = kept_groups homes subject (groups_of verdict) (record { tree = t; replies = []; exit = false; kills = [] })
+pub kept_outcome : (env : Env) (verdict : Verdict) (subject : Option ConId) (t : TreeValue) → Kept t (outcome env verdict subject t).tree
+kept_outcome env verdict subject t = kept_groups env subject (groups_of verdict) (record { tree = t; replies = []; exit = false; kills = [] })

@@ -7,6 +7,7 @@ use Rattle.wm_base.specs.declared.plan.OutputPlan.{OutputPlan}
 use Rattle.wm_base.specs.declared.properties.Props.{Props}
 use Rattle.wm_criteria.specs.declared.verdict.Verdict.{Verdict}
 use Rattle.wm_focus.specs.Swaps.{is_window_kind}
+use Rattle.wm_layouts.specs.declared.plan.Env.{Env}
 use Rattle.wm_opens.proofs.CommandLemmas.{kept_outcome}
 use Rattle.wm_opens.proofs.KeptLemmas.{Kept, kept_detached, kept_settled}
 use Rattle.wm_opens.proofs.MeasureLemmas.{windows_fresh, windows_measured}
@@ -43,8 +44,8 @@ use Rattle.wm_tree.specs.Words.{attached, detached, edited, settled, with_raised
 pub no_more : (v : ConId) (t new : TreeValue) → Kept t new → windows_at v new ≤ windows_at v t
 no_more v t now k = (k.fewer (window_at v) (windows_measured v)).fewer (windows_fresh v t.next_id)
 
-pub texts_open_none : (homes : List (List ℕ × List ℕ)) (verdict : Verdict) (subject : Option ConId) (t : TreeValue) (v : ConId) → windows_at v (outcome homes verdict subject t).tree ≤ windows_at v t
-texts_open_none homes verdict subject t v = no_more v t (outcome homes verdict subject t).tree (kept_outcome homes verdict subject t)
+pub texts_open_none : (env : Env) (verdict : Verdict) (subject : Option ConId) (t : TreeValue) (v : ConId) → windows_at v (outcome env verdict subject t).tree ≤ windows_at v t
+texts_open_none env verdict subject t v = no_more v t (outcome env verdict subject t).tree (kept_outcome env verdict subject t)
 
 pub settling_opens_none : (t : TreeValue) (v : ConId) → windows_at v (settled t) ≤ windows_at v t
 settling_opens_none t v = no_more v t (settled t) (kept_settled t)

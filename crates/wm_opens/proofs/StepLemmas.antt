@@ -1,27 +1,21 @@
 -- The steps that are no texts: which windows they leave of a good tree, and that what they leave is good.
-use Rattle.std.proofs.Common.{◌≡◌, ◌≢◌, ℕ, ◌+◌, Bool, true, false, cond, List, Option, None, Some, refl, ap, ◌∙◌, arith, subst, sym, Result, Ok, Err, OnOk, ◌==◌}
-use Rattle.std.proofs.lemmas.Bool.Decides.{nat_tests}
-use Rattle.wm_opens.proofs.OwnerLemmas.{owned_found, owned_told, owners_kept, owned_window}
+use Rattle.std.proofs.Common.{◌≡◌, ◌≢◌, ℕ, Bool, true, false, cond, List, None, refl, ap, ◌∙◌, arith}
 use Rattle.wm_base.specs.declared.geometry.Edges.{Edges}
 use Rattle.wm_base.specs.declared.geometry.Size.{Size}
-use Rattle.wm_forest.specs.declared.part.ConPart.{ConPart}
 use Rattle.wm_base.specs.declared.ids.ConId.{ConId}
 use Rattle.wm_base.specs.declared.properties.Props.{Props}
 use Rattle.wm_focus.specs.Swaps.{is_window_kind}
-use Rattle.wm_opens.proofs.KeptLemmas.{kept_detached}
-use Rattle.wm_opens.proofs.MeasureLemmas.{kinds_at}
-use Rattle.wm_opens.proofs.OpenLemmas.{IsAt, closing_takes, found_at, mapping_opens_one, closing_closes, seen_same, windows_seen, one_at}
+use Rattle.wm_opens.proofs.OpenLemmas.{IsAt, closing_takes, found_at}
 use Rattle.wm_opens.proofs.SureLemmas.{sure_edited, sure_raised}
 use Rattle.wm_opens.proofs.SureSpaces.{fits_all}
-use Rattle.wm_opens.proofs.TextLemmas.{holds_settled, holds_sure}
+use Rattle.wm_opens.proofs.TextLemmas.{holds_sure}
 use Rattle.wm_opens.proofs.TidyLemmas.{IsFreeAt, tidy_put, tidy_without}
-use Rattle.wm_opens.specs.Opens.{ClosesOne, Holds, HoldsNone, IsGood, IsTidy, MapsOne, is_window_of, is_window_part, window_at, windows, windows_at, is_owned_of, owned}
+use Rattle.wm_opens.specs.Opens.{Holds, HoldsNone, IsGood, IsTidy, is_window_of, is_window_part, window_at, windows, windows_at}
 use Rattle.wm_tree.proofs.AttachLemmas.{sound-attached}
 use Rattle.wm_forest.proofs.ChangeLemmas.{by_change}
-use Rattle.wm_forest.proofs.CountLemmas.{count-put}
 use Rattle.wm_forest.proofs.ForestLemmas.{only_absent}
 use Rattle.wm_tree.proofs.PlaceLemmas.{place_fits}
-use Rattle.wm_forest.proofs.RecencyLemmas.{same_is, same_self}
+use Rattle.wm_forest.proofs.RecencyLemmas.{same_is}
 use Rattle.wm_tree.proofs.SoundLemmas.{sound-detached, sound-edited}
 use Rattle.wm_forest.specs.Change.{at}
 use Rattle.wm_forest.specs.Counts.{count}
@@ -41,7 +35,7 @@ use Rattle.wm_forest.specs.SoundRow.{HasKids, IsNode, IsSoundRow, Level, below, 
 use Rattle.wm_forest.specs.Spot.{room_below, spot_in, top}
 use Rattle.wm_tree.specs.TreeValue.{TreeValue, focused, is_tiled_con, leaf, newcomer_place, or_id, shown}
 use Rattle.wm_forest.specs.RootId.{id}
-use Rattle.wm_tree.specs.Words.{attached, detached, edited, settled, with_raised}
+use Rattle.wm_tree.specs.Words.{attached, detached, edited, with_raised}
 
 -- ---- changes that keep all windows
 
@@ -150,104 +144,3 @@ closing_keeps_others c v t g w other = by_test (has c t.nodes) refl
     by_test false e =
         let none : count (window_at v) (only c t.nodes) ≡ 0 = ap (count (window_at v)) (only_absent c t.nodes e) in
         omega (arith, none, closing_takes c t v)
-
--- ---- such steps, and what follows them
-
-pub maps_one : (who : ℕ) (props : Props) (natural : Size) (t : TreeValue) → IsGood t → passed_limit (newcomer_place t) t.nodes t.next_id ≡ None → MapsOne who (id t.next_id) t (attached (newcomer_place t) (new.Window props who natural) t)
-maps_one who props natural t g fits = record { good = good; more = λ v. mapping_opens_one who props natural t v g.sound; owner = owner; owners = owners }
-  where
-    p : Place
-    p = newcomer_place t
-
-    part : Part
-    part = new_part (id t.next_id) (share_at p t.nodes) t.border (rect_at p) (new.Window props who natural)
-
-    good : IsGood (attached p (new.Window props who natural) t)
-    good = good_mapped who props natural t g fits
-
-    counts : (m : Part → ℕ) → count m (attached p (new.Window props who natural) t).nodes ≡ count m t.nodes + m part
-    counts m = omega (arith, count-put m p (con part end end end) t.nodes (place_fits t g.sound).0)
-
-    owner : is_owned_of (attached p (new.Window props who natural) t) who (id t.next_id) ≡ true
-    owner =
-        let own : same (id t.next_id) (id t.next_id) ≡ true = same_self (id t.next_id) (id t.next_id) refl in
-        let mine : (who == who) ≡ true = grind (arith, nat_tests) in
-        let here : kinds_at (owned who) (id t.next_id) part ≡ 1 = rw (own, mine) refl in
-        owned_found who (id t.next_id) (attached p (new.Window props who natural) t) good.sound (omega (arith, here, counts (kinds_at (owned who) (id t.next_id))))
-
-    owners : (other : ℕ) (v : ConId) → same (id t.next_id) v ≡ false → is_owned_of (attached p (new.Window props who natural) t) other v ≡ is_owned_of t other v
-    owners other v e =
-        let none : kinds_at (owned other) v part ≡ 0 = rw e refl in
-        owned_told other v t (attached p (new.Window props who natural) t) g.sound good.sound (omega (arith, none, counts (kinds_at (owned other) v)))
-
--- a step that keeps windows after the one that maps one
-pub maps_then : (who : ℕ) (i : ConId) (t mid now : TreeValue) → MapsOne who i t mid → Holds mid now → MapsOne who i t now
-maps_then who i t mid now p q = record {
-  good = q.good;
-  more = λ v. q.keeps v ∙ p.more v;
-  owner = q.owners who i ∙ p.owner;
-  owners = λ other v e. q.owners other v ∙ p.owners other v e;
-}
-
-pub maps_by : (who : ℕ) (props : Props) (natural : Size) (p : Place) (t now : TreeValue) → p ≡ newcomer_place t → now ≡ attached p (new.Window props who natural) t → passed_limit p t.nodes t.next_id ≡ None → IsGood t → MapsOne who (id t.next_id) t now
-maps_by who props natural p t now at e fits g =
-    let Fits : Place → Type 0 = λ q. passed_limit q t.nodes t.next_id ≡ None in
-    let same_tree : now ≡ attached (newcomer_place t) (new.Window props who natural) t = e ∙ ap (λ q. attached q (new.Window props who natural) t) at in
-    subst (MapsOne who (id t.next_id) t) (sym same_tree) (maps_one who props natural t g (subst Fits at fits))
-
-pub maps_ok : {A E : Type 0} (r : Result A E) (who : ℕ) (props : Props) (natural : Size) (p : Place) (t now : TreeValue) → p ≡ newcomer_place t → OnOk r (now ≡ attached p (new.Window props who natural) t) → OnOk r (passed_limit p t.nodes t.next_id ≡ None) → IsGood t
-    → OnOk r (MapsOne who (id t.next_id) t now)
-maps_ok (Ok x) who props natural p t now at e fits g = maps_by who props natural p t now at e fits g
-maps_ok (Err x) who props natural p t now at e fits g = tt
-
-a_con : (c : ConId) (t : TreeValue) → is_window_of t c ≡ true → kind_of con_kind c t.nodes ≢ None
-a_con c t w = by (kind_of con_kind c t.nodes) w
-  where
-    by : (o : Option ConPart) → is_window_part o ≡ true → o ≢ None
-    by None h = cc
-    by (Some p) h = λ e. cc
-
-pub closes_one : (c : ConId) (t : TreeValue) → IsGood t → is_window_of t c ≡ true → ClosesOne c t (detached c t)
-closes_one c t g w = record {
-  good = good_closed c t g (a_con c t w);
-  gone = closing_closes c t g.sound;
-  others = λ v other. closing_keeps_others c v t g w other;
-  owners = λ who v other. let good : IsGood (detached c t) = good_closed c t g (a_con c t w) in owners_kept who v t (detached c t) g.sound good.sound (kept_detached c t) (closing_keeps_others c v t g w other);
-}
-
--- a step that keeps windows after the one that closes one
-pub closes_then : (c : ConId) (t mid now : TreeValue) → ClosesOne c t mid → Holds mid now → ClosesOne c t now
-closes_then c t mid now p q = record {
-  good = q.good;
-  gone = q.keeps c ∙ p.gone;
-  others = λ v other. q.keeps v ∙ p.others v other;
-  owners = λ who v other. q.owners who v ∙ p.owners who v other;
-}
-
-pub closes_by : (c : ConId) (t mid now : TreeValue) → mid ≡ detached c t → now ≡ settled mid → IsGood t → is_window_of t c ≡ true → ClosesOne c t now
-closes_by c t mid now e d g w =
-    let first : ClosesOne c t mid = subst (ClosesOne c t) (sym e) (closes_one c t g w) in
-    subst (ClosesOne c t) (sym d) (closes_then c t mid (settled mid) first (holds_settled mid first.good))
-
--- ---- the same as looked up
-
-pub holds_seen : (v : ConId) (t now : TreeValue) → IsGood t → Holds t now → is_window_of now v ≡ is_window_of t v
-holds_seen v t now g h = seen_same t now v g.sound h.good.sound (h.keeps v)
-
--- the new window is one, and each other id is a window where it was one
-pub maps_here : (who : ℕ) (i : ConId) (t now : TreeValue) → MapsOne who i t now → is_window_of now i ≡ true
-maps_here who i t now h = owned_window who (kind_of con_kind i now.nodes) h.owner
-
-pub maps_seen : (who : ℕ) (i v : ConId) (t now : TreeValue) → IsGood t → MapsOne who i t now → same i v ≡ false → is_window_of now v ≡ is_window_of t v
-maps_seen who i v t now g h other = seen_same t now v g.sound h.good.sound (let one : one_at v i ≡ 0 = ap (λ b. cond {A = ℕ} b 1 0) other in omega (arith, one, h.more v))
-
--- the closed window is none, and each other id is a window where it was one
-pub closes_here : (c : ConId) (t now : TreeValue) → ClosesOne c t now → is_window_of now c ≡ false
-closes_here c t now h = none (is_window_of now c) (sym (windows_seen now c h.good.sound) ∙ h.gone)
-  where
-    none : (b : Bool) → cond {A = ℕ} b 1 0 ≡ 0 → b ≡ false
-    none true e = absurd (omega (arith, e))
-    none false e = refl
-
-pub closes_seen : (c v : ConId) (t now : TreeValue) → IsGood t → ClosesOne c t now → same c v ≡ false → is_window_of now v ≡ is_window_of t v
-closes_seen c v t now g h other = seen_same t now v g.sound h.good.sound (h.others v other)

@@ -1,5 +1,5 @@
 -- Texts keep each window, where no container has floating windows, and leave none that has.
-use Rattle.std.proofs.Common.{◌≡◌, ◌≢◌, ℕ, Bool, true, false, cond, not, List, [], ◌∷◌, Option, None, Some, refl, subst, sym, ◌∙◌, Result, Ok, Err, OnOk}
+use Rattle.std.proofs.Common.{◌≡◌, ◌≢◌, ℕ, Bool, true, false, cond, not, List, [], ◌∷◌, Option, None, Some, refl, subst, ◌∙◌}
 use Rattle.std.specs.Prelude.{is_some}
 use Rattle.wm_apply.specs.Batches.{Outcome, command_done, commands_done, group_done, groups_done, groups_of, outcome, targets}
 use Rattle.wm_apply.specs.Commands.{Course, course, course_tree, on, refused, whole}
@@ -15,10 +15,11 @@ use Rattle.wm_base.specs.declared.ids.ConId.{ConId}
 use Rattle.wm_criteria.specs.declared.verdict.Verdict.{Verdict}
 use Rattle.wm_floats.specs.Scratchpad.{show_scratchpad_refusal, show_scratchpad_tree}
 use Rattle.wm_focus.proofs.SubjectLemmas.{subject_there}
-use Rattle.wm_focus.specs.Marks.{give_refusal, is_mark, mark_tree}
+use Rattle.wm_focus.specs.Marks.{give_refusal, is_mark, mark_refusal, mark_tree}
 use Rattle.wm_language.specs.declared.batch.Group.{Group}
 use Rattle.wm_language.specs.declared.command.Command.{Command}
 use Rattle.wm_language.specs.declared.command.Command.TheVariants as commands
+use Rattle.wm_layouts.specs.declared.plan.Env.{Env}
 use Rattle.wm_opens.proofs.KeptLemmas.{kept_settled}
 use Rattle.wm_opens.proofs.OwnerLemmas.{owners_kept}
 use Rattle.wm_opens.proofs.OpenLemmas.{seen_same}
@@ -54,7 +55,7 @@ a_con c t sub h = by (kind_of con_kind c t.nodes) (subject_con c t sub h)
     by None ok = absurd (ok refl)
     by (Some p) ok = refl
 
-sure_mark_row : (c : ConId) (n : List ℕ) (add toggle : Bool) (t : TreeValue) → IsSubject t c → row_refusal [] Handed (commands.Mark add toggle n) c t ≡ None → Sure t (mark_tree c n add toggle t)
+sure_mark_row : (c : ConId) (n : List ℕ) (add toggle : Bool) (t : TreeValue) → IsSubject t c → mark_refusal c n add toggle t ≡ None → Sure t (mark_tree c n add toggle t)
 sure_mark_row c n add toggle t sub fits =
     let a = unless (is_space t c) texts.AtWorkspace _ fits in
     let b = unless (not (is_mark n)) texts.OutOfRange (give_refusal c n add t) a.1 in
@@ -78,47 +79,47 @@ sure_focus how c t sub h = by_test (is_hidden t c) (come_fits how c t h)
     by_test false fits = sure_focusing c t sub.sound
 
 -- a command on a subject, where it is not refused
-pub sure_row : (homes : List (List ℕ × List ℕ)) (how : How) (command : Command) (c : ConId) (t : TreeValue) → IsSubject t c → row_refusal homes how command c t ≡ None → Sure t (row_tree homes how command c t)
-sure_row homes how (commands.Split arg) c t sub h = sure_split c _ t sub.sound h
-sure_row homes how (commands.SetLayout arg) c t sub h = sure_laid c _ t sub.sound
-sure_row homes how (commands.CycleLayout cycle) c t sub h = sure_laid c _ t sub.sound
-sure_row homes how commands.Focus c t sub h = sure_focus how c t sub h
-sure_row homes how (commands.FocusDir d) c t sub h = sure_focus_dir d c t sub.sound
-sure_row homes how commands.FocusParent c t sub h = sure_raised_some _ t sub.sound
-sure_row homes how commands.FocusChild c t sub h = sure_raised_some _ t sub.sound
-sure_row homes how (commands.MoveDir d px) c t sub h = sure_dir c d px t sub.sound h
-sure_row homes how (commands.MoveToMark name) c t sub h = sure_to_mark c _ t sub h
-sure_row homes how (commands.Swap arg) c t sub h = sure_swap c _ _ t sub.sound h
-sure_row homes how (commands.Mark add toggle name) c t sub h = sure_mark_row c name add toggle t sub h
-sure_row homes how (commands.Unmark name) c t sub h = sure_unmark (matched_subject how c) name t sub.sound
-sure_row homes how (commands.FocusOutput arg) c t sub h = sure_output_some c arg (output_at c arg t) t refl sub.sound
-sure_row homes how (commands.MoveToOutput arg) c t sub h = sure_to_output c arg (output_at c arg t) t refl sub h
-sure_row homes how (commands.MoveToWorkspace target) c t sub h =
-    let a = unless (is_space t c) texts.AtWorkspace (goal_sent_refusal (goal_of target t) c homes t) h in
-    sure_goal_sent (goal_of target t) c homes t sub.sound (subject_con c t sub a.0) (goal_by target t (goal_of target t) refl sub.sound) a.1
-sure_row homes how (commands.MoveWorkspace arg) c t sub h =
+pub sure_row : (env : Env) (how : How) (command : Command) (c : ConId) (t : TreeValue) → IsSubject t c → row_refusal env how command c t ≡ None → Sure t (row_tree env how command c t)
+sure_row env how (commands.Split arg) c t sub h = sure_split c _ t sub.sound h
+sure_row env how (commands.SetLayout arg) c t sub h = sure_laid c _ t sub.sound
+sure_row env how (commands.CycleLayout cycle) c t sub h = sure_laid c _ t sub.sound
+sure_row env how commands.Focus c t sub h = sure_focus how c t sub h
+sure_row env how (commands.FocusDir d) c t sub h = sure_focus_dir d c t sub.sound
+sure_row env how commands.FocusParent c t sub h = sure_raised_some _ t sub.sound
+sure_row env how commands.FocusChild c t sub h = sure_raised_some _ t sub.sound
+sure_row env how (commands.MoveDir d px) c t sub h = sure_dir c d px t sub.sound h
+sure_row env how (commands.MoveToMark name) c t sub h = sure_to_mark c _ t sub h
+sure_row env how (commands.Swap arg) c t sub h = sure_swap c _ _ t sub.sound h
+sure_row env how (commands.Mark add toggle name) c t sub h = sure_mark_row c name add toggle t sub h
+sure_row env how (commands.Unmark name) c t sub h = sure_unmark (matched_subject how c) name t sub.sound
+sure_row env how (commands.FocusOutput arg) c t sub h = sure_output_some c arg (output_at c arg t) t refl sub.sound
+sure_row env how (commands.MoveToOutput arg) c t sub h = sure_to_output c arg (output_at c arg t) t refl sub h
+sure_row env how (commands.MoveToWorkspace target) c t sub h =
+    let a = unless (is_space t c) texts.AtWorkspace (goal_sent_refusal (goal_of target t) c env.homes t) h in
+    sure_goal_sent (goal_of target t) c env.homes t sub.sound (subject_con c t sub a.0) (goal_by target t (goal_of target t) refl sub.sound) a.1
+sure_row env how (commands.MoveWorkspace arg) c t sub h =
     let a = unless (is_hidden t c) texts.NoWorkspace (to_named_refusal (output_at c arg t) (workspace_of t c) t) h in
     sure_to_named c arg (output_at c arg t) (workspace_of t c) t refl refl sub.sound a.1
-sure_row homes how (commands.FocusKind kind) c t sub h = sure_kind _ t sub.sound
-sure_row homes how (commands.Floating arg) c t sub h = sure_floating c arg t sub.sound h
-sure_row homes how (commands.Fullscreen arg) c t sub h = sure_fullscreen c _ t sub.sound
-sure_row homes how (commands.Sticky arg) c t sub h = sure_stuck _ c t sub.sound
-sure_row homes how (commands.MovePosition x y) c t sub h = sure_placed c x y t sub.sound
-sure_row homes how commands.MoveCenter c t sub h = sure_placed c _ _ t sub.sound
-sure_row homes how commands.MoveToScratchpad c t sub h = sure_hidden c t sub.sound h
-sure_row homes how commands.ScratchpadShow c t sub h = sure_scratchpad (matched_subject how c) t (λ x e. subst (IsSubject t) (matched_is how c x e) sub) sub.sound h
-sure_row homes how (commands.Resize grow side px ppt) c t sub h = sure_resized c grow side px ppt t sub.sound h
-sure_row homes how (commands.ResizeSet w high) c t sub h = sure_rect _ c t sub.sound
-sure_row homes how (commands.SetBorder border) c t sub h = sure_border border c t sub.sound
-sure_row homes how commands.CycleBorder c t sub h = sure_cycled c t sub.sound
-sure_row homes how (commands.Gaps outer all op px) c t sub h = sure_gaps c outer all op px t sub.sound
-sure_row homes how (commands.TitleFormat format) c t sub h = sure_format c format t sub.sound
-sure_row homes how other c t sub h = sure_refl t sub.sound
+sure_row env how (commands.FocusKind kind) c t sub h = sure_kind _ t sub.sound
+sure_row env how (commands.Floating arg) c t sub h = sure_floating c arg t sub.sound h
+sure_row env how (commands.Fullscreen arg) c t sub h = sure_fullscreen c _ t sub.sound
+sure_row env how (commands.Sticky arg) c t sub h = sure_stuck _ c t sub.sound
+sure_row env how (commands.MovePosition x y) c t sub h = sure_placed c x y t sub.sound
+sure_row env how commands.MoveCenter c t sub h = sure_placed c _ _ t sub.sound
+sure_row env how commands.MoveToScratchpad c t sub h = sure_hidden c t sub.sound h
+sure_row env how commands.ScratchpadShow c t sub h = sure_scratchpad (matched_subject how c) t (λ x e. subst (IsSubject t) (matched_is how c x e) sub) sub.sound h
+sure_row env how (commands.Resize grow side px ppt) c t sub h = sure_resized c grow side px ppt t sub.sound h
+sure_row env how (commands.ResizeSet w high) c t sub h = sure_rect _ c t sub.sound
+sure_row env how (commands.SetBorder border) c t sub h = sure_border border c t sub.sound
+sure_row env how commands.CycleBorder c t sub h = sure_cycled c t sub.sound
+sure_row env how (commands.Gaps outer all op px) c t sub h = sure_gaps c outer all op px t sub.sound
+sure_row env how (commands.TitleFormat format) c t sub h = sure_format c format t sub.sound
+sure_row env how other c t sub h = sure_refl t sub.sound
 
-pub sure_whole : (homes : List (List ℕ × List ℕ)) (command : Command) (t : TreeValue) → IsSound t → whole_refusal command t ≡ None → Sure t (whole_tree homes command t)
-sure_whole homes (commands.Workspace target) t s h = sure_goal_shown (goal_of target t) homes t s (goal_by target t (goal_of target t) refl s) h
-sure_whole homes (commands.Rename was name) t s h = sure_renamed (renamed_space was t) name t s
-sure_whole homes other t s h = sure_refl t s
+pub sure_whole : (env : Env) (command : Command) (t : TreeValue) → IsSound t → whole_refusal command t ≡ None → Sure t (whole_tree env command t)
+sure_whole env (commands.Workspace target) t s h = sure_goal_shown (goal_of target t) env.homes t s (goal_by target t (goal_of target t) refl s) h
+sure_whole env (commands.Rename was name) t s h = sure_renamed (renamed_space was t) name t s
+sure_whole env other t s h = sure_refl t s
 
 -- ---- settled steps
 
@@ -155,58 +156,50 @@ holds_unless : (r : Option Refusal) (t new : TreeValue) → IsGood t → (r ≡ 
 holds_unless None t new g h = h refl
 holds_unless (Some e) t new g h = holds_refl t g
 
-holds_one : (homes : List (List ℕ × List ℕ)) (how : How) (command : Command) (c : ConId) (t : TreeValue) → IsGood t → Holds t (one_tree homes how command c t)
-holds_one homes how command c t g = step (is_there c t) refl
+holds_one : (env : Env) (how : How) (command : Command) (c : ConId) (t : TreeValue) → IsGood t → Holds t (one_tree env how command c t)
+holds_one env how command c t g = step (is_there c t) refl
   where
     after : TreeValue
-    after = row_tree homes how command c t
+    after = row_tree env how command c t
 
-    step : (b : Bool) → is_there c t ≡ b → Holds t (cond b (unless_refused (row_refusal homes how command c t) t (settled (row_tree homes how command c t))) t)
-    step true e = holds_unless (row_refusal homes how command c t) t (settled (row_tree homes how command c t)) g (λ h. then_settled t (row_tree homes how command c t) g (sure_row homes how command c t (record { sound = g.sound; kind = e }) h))
+    step : (b : Bool) → is_there c t ≡ b → Holds t (cond b (unless_refused (row_refusal env how command c t) t (settled (row_tree env how command c t))) t)
+    step true e = holds_unless (row_refusal env how command c t) t (settled (row_tree env how command c t)) g (λ h. then_settled t (row_tree env how command c t) g (sure_row env how command c t (record { sound = g.sound; kind = e }) h))
     step false e = holds_refl t g
 
-holds_each : (homes : List (List ℕ × List ℕ)) (how : How) (command : Command) (cs : List ConId) (t : TreeValue) → IsGood t → Holds t (each_tree homes how command cs t)
-holds_each homes how command [] t g = holds_refl t g
-holds_each homes how command (c ∷ cs) t g =
-    let first : Holds t (one_tree homes how command c t) = holds_one homes how command c t g in
-    holds_trans t (one_tree homes how command c t) (each_tree homes how command (c ∷ cs) t) first (holds_each homes how command cs (one_tree homes how command c t) first.good)
+holds_each : (env : Env) (how : How) (command : Command) (cs : List ConId) (t : TreeValue) → IsGood t → Holds t (each_tree env how command cs t)
+holds_each env how command [] t g = holds_refl t g
+holds_each env how command (c ∷ cs) t g =
+    let first : Holds t (one_tree env how command c t) = holds_one env how command c t g in
+    holds_trans t (one_tree env how command c t) (each_tree env how command (c ∷ cs) t) first (holds_each env how command cs (one_tree env how command c t) first.good)
 
-holds_course : (homes : List (List ℕ × List ℕ)) (c : Course) (command : Command) (t : TreeValue) → IsGood t → Holds t (course_tree homes c command t)
-holds_course homes (refused e) command t g = holds_refl t g
-holds_course homes (on how cs) command t g = holds_each homes how command cs t g
-holds_course homes whole command t g =
-    holds_unless (whole_refusal command t) t (settled (whole_tree homes command t)) g (λ h. then_settled t (whole_tree homes command t) g (sure_whole homes command t g.sound h))
+holds_course : (env : Env) (c : Course) (command : Command) (t : TreeValue) → IsGood t → Holds t (course_tree env c command t)
+holds_course env (refused e) command t g = holds_refl t g
+holds_course env (on how cs) command t g = holds_each env how command cs t g
+holds_course env whole command t g =
+    holds_unless (whole_refusal command t) t (settled (whole_tree env command t)) g (λ h. then_settled t (whole_tree env command t) g (sure_whole env command t g.sound h))
 
-holds_commands : (homes : List (List ℕ × List ℕ)) (found : Targets) (cs : List Command) (o : Outcome) → IsGood o.tree → Holds o.tree (commands_done homes found cs o).tree
-holds_commands homes found [] o g = holds_refl o.tree g
-holds_commands homes found (c ∷ cs) o g =
-    let first : Holds o.tree (command_done homes found c o).tree = holds_course homes (course found c o.tree) c o.tree g in
-    holds_trans o.tree (command_done homes found c o).tree (commands_done homes found (c ∷ cs) o).tree first (holds_commands homes found cs (command_done homes found c o) first.good)
+holds_commands : (env : Env) (found : Targets) (cs : List Command) (o : Outcome) → IsGood o.tree → Holds o.tree (commands_done env found cs o).tree
+holds_commands env found [] o g = holds_refl o.tree g
+holds_commands env found (c ∷ cs) o g =
+    let first : Holds o.tree (command_done env found c o).tree = holds_course env (course found c o.tree) c o.tree g in
+    holds_trans o.tree (command_done env found c o).tree (commands_done env found (c ∷ cs) o).tree first (holds_commands env found cs (command_done env found c o) first.good)
 
-holds_groups : (homes : List (List ℕ × List ℕ)) (subject : Option ConId) (gs : List Group) (o : Outcome) → IsGood o.tree → Holds o.tree (groups_done homes subject gs o).tree
-holds_groups homes subject [] o g = holds_refl o.tree g
-holds_groups homes subject (x ∷ gs) o g =
-    let first : Holds o.tree (group_done homes subject x o).tree = holds_commands homes (targets x.criteria subject o.tree) x.commands o g in
-    holds_trans o.tree (group_done homes subject x o).tree (groups_done homes subject (x ∷ gs) o).tree first (holds_groups homes subject gs (group_done homes subject x o) first.good)
+holds_groups : (env : Env) (subject : Option ConId) (gs : List Group) (o : Outcome) → IsGood o.tree → Holds o.tree (groups_done env subject gs o).tree
+holds_groups env subject [] o g = holds_refl o.tree g
+holds_groups env subject (x ∷ gs) o g =
+    let first : Holds o.tree (group_done env subject x o).tree = holds_commands env (targets x.criteria subject o.tree) x.commands o g in
+    holds_trans o.tree (group_done env subject x o).tree (groups_done env subject (x ∷ gs) o).tree first (holds_groups env subject gs (group_done env subject x o) first.good)
 
 -- what a text leaves of a good tree is good, and has its windows
-pub holds_outcome : (homes : List (List ℕ × List ℕ)) (verdict : Verdict) (subject : Option ConId) (t : TreeValue) → IsGood t → Holds t (outcome homes verdict subject t).tree
-holds_outcome homes verdict subject t g = holds_groups homes subject (groups_of verdict) (record { tree = t; replies = []; exit = false; kills = [] }) g
+pub holds_outcome : (env : Env) (verdict : Verdict) (subject : Option ConId) (t : TreeValue) → IsGood t → Holds t (outcome env verdict subject t).tree
+holds_outcome env verdict subject t g = holds_groups env subject (groups_of verdict) (record { tree = t; replies = []; exit = false; kills = [] }) g
 
 -- what is a window before a text is one after it, and no other is
-pub texts_leave : (homes : List (List ℕ × List ℕ)) (verdict : Verdict) (subject : Option ConId) (t : TreeValue) (v : ConId) → IsGood t → is_window_of (outcome homes verdict subject t).tree v ≡ is_window_of t v
-texts_leave homes verdict subject t v g =
-    let h : Holds t (outcome homes verdict subject t).tree = holds_outcome homes verdict subject t g in
-    seen_same t (outcome homes verdict subject t).tree v g.sound h.good.sound (h.keeps v)
-
--- the same of a tree that a text left
-pub holds_by : (homes : List (List ℕ × List ℕ)) (verdict : Verdict) (subject : Option ConId) (t new : TreeValue) → new ≡ (outcome homes verdict subject t).tree → IsGood t → Holds t new
-holds_by homes verdict subject t new e g = subst (Holds t) (sym e) (holds_outcome homes verdict subject t g)
-
-pub holds_ok : {A E : Type 0} (r : Result A E) (homes : List (List ℕ × List ℕ)) (verdict : Verdict) (subject : Option ConId) (t new : TreeValue) → OnOk r (new ≡ (outcome homes verdict subject t).tree) → IsGood t → OnOk r (Holds t new)
-holds_ok (Ok x) homes verdict subject t new e g = holds_by homes verdict subject t new e g
-holds_ok (Err x) homes verdict subject t new e g = tt
+pub texts_leave : (env : Env) (verdict : Verdict) (subject : Option ConId) (t : TreeValue) (v : ConId) → IsGood t → is_window_of (outcome env verdict subject t).tree v ≡ is_window_of t v
+texts_leave env verdict subject t v g =
+    let h : Holds t (outcome env verdict subject t).tree = holds_outcome env verdict subject t g in
+    seen_same t (outcome env verdict subject t).tree v g.sound h.good.sound (h.keeps v)
 
 -- after a text each window is the same caller's
-pub texts_keep_owners : (homes : List (List ℕ × List ℕ)) (verdict : Verdict) (subject : Option ConId) (t : TreeValue) (who : ℕ) (v : ConId) → IsGood t → is_owned_of (outcome homes verdict subject t).tree who v ≡ is_owned_of t who v
-texts_keep_owners homes verdict subject t who v g = let h : Holds t (outcome homes verdict subject t).tree = holds_outcome homes verdict subject t g in h.owners who v
+pub texts_keep_owners : (env : Env) (verdict : Verdict) (subject : Option ConId) (t : TreeValue) (who : ℕ) (v : ConId) → IsGood t → is_owned_of (outcome env verdict subject t).tree who v ≡ is_owned_of t who v
+texts_keep_owners env verdict subject t who v g = let h : Holds t (outcome env verdict subject t).tree = holds_outcome env verdict subject t g in h.owners who v

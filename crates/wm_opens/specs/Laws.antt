@@ -7,6 +7,7 @@ use Rattle.wm_base.specs.declared.plan.Border.{Border}
 use Rattle.wm_base.specs.declared.plan.OutputPlan.{OutputPlan}
 use Rattle.wm_base.specs.declared.properties.Props.{Props}
 use Rattle.wm_criteria.specs.declared.verdict.Verdict.{Verdict}
+use Rattle.wm_layouts.specs.declared.plan.Env.{Env}
 use Rattle.wm_opens.specs.Opens.{Holds, IsGood, IsTidy, is_fill, is_owned_of, is_window_of, window_at, windows_at}
 use Rattle.wm_spaces.specs.Coming.{output_added_tree, output_removed_tree}
 use Rattle.wm_forest.specs.Counts.{count}
@@ -21,22 +22,22 @@ use Rattle.wm_tree.specs.Words.{attached, detached, edited, settled, with_raised
 
 -- no command of a text makes a window
 abbrev pub TextsOpenNone : Type 0
-TextsOpenNone = (homes : List (List ℕ × List ℕ)) (verdict : Verdict) (subject : Option ConId) (t : TreeValue) (v : ConId) → windows_at v (outcome homes verdict subject t).tree ≤ windows_at v t
+TextsOpenNone = (env : Env) (verdict : Verdict) (subject : Option ConId) (t : TreeValue) (v : ConId) → windows_at v (outcome env verdict subject t).tree ≤ windows_at v t
 
 -- a text keeps each window of a good tree, and leaves a good one
 abbrev pub TextsKeepWindows : Type 0
-TextsKeepWindows = (homes : List (List ℕ × List ℕ)) (verdict : Verdict) (subject : Option ConId) (t : TreeValue) → IsGood t → Holds t (outcome homes verdict subject t).tree
+TextsKeepWindows = (env : Env) (verdict : Verdict) (subject : Option ConId) (t : TreeValue) → IsGood t → Holds t (outcome env verdict subject t).tree
 
 -- what is a window before a text is one after it, and no other is
 abbrev pub TextsLeaveWindows : Type 0
 TextsLeaveWindows =
-    (homes : List (List ℕ × List ℕ)) (verdict : Verdict) (subject : Option ConId) (t : TreeValue) (v : ConId) → IsGood t → is_window_of (outcome homes verdict subject t).tree v ≡ is_window_of t v
+    (env : Env) (verdict : Verdict) (subject : Option ConId) (t : TreeValue) (v : ConId) → IsGood t → is_window_of (outcome env verdict subject t).tree v ≡ is_window_of t v
 
 -- after a text each window is the same caller's, and no other one is
 abbrev pub TextsKeepOwners : Type 0
 TextsKeepOwners =
-    (homes : List (List ℕ × List ℕ)) (verdict : Verdict) (subject : Option ConId) (t : TreeValue) (who : ℕ) (v : ConId) → IsGood t
-    → is_owned_of (outcome homes verdict subject t).tree who v ≡ is_owned_of t who v
+    (env : Env) (verdict : Verdict) (subject : Option ConId) (t : TreeValue) (who : ℕ) (v : ConId) → IsGood t
+    → is_owned_of (outcome env verdict subject t).tree who v ≡ is_owned_of t who v
 
 -- settling makes no window
 abbrev pub SettlingOpensNone : Type 0

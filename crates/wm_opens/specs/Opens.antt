@@ -1,5 +1,5 @@
 -- Which ids stand in a tree as windows.
-use Rattle.std.specs.Prelude.{◌≡◌, ℕ, ◌+◌, ◌==◌, Bool, true, false, if◌then◌else◌, Option, None, Some}
+use Rattle.std.specs.Prelude.{◌≡◌, ℕ, ◌==◌, Bool, true, false, if◌then◌else◌, Option, None, Some}
 use Rattle.wm_base.specs.declared.ids.ConId.{ConId}
 use Rattle.wm_focus.specs.Swaps.{is_window_kind}
 use Rattle.wm_forest.specs.declared.kind.KindEdit.{KindEdit}
@@ -94,17 +94,3 @@ pub record Holds (t new : TreeValue) : Type 0 where
   pub good : IsGood new
   pub keeps : (v : ConId) → windows_at v new ≡ windows_at v t
   pub owners : (who : ℕ) (v : ConId) → is_owned_of new who v ≡ is_owned_of t who v
-
--- the new tree is good, and has one window more than the old one: the caller's, under the id i
-pub record MapsOne (who : ℕ) (i : ConId) (t new : TreeValue) : Type 0 where
-  pub good : IsGood new
-  pub more : (v : ConId) → windows_at v new ≡ windows_at v t + (if same i v then 1 else 0)
-  pub owner : is_owned_of new who i ≡ true
-  pub owners : (other : ℕ) (v : ConId) → same i v ≡ false → is_owned_of new other v ≡ is_owned_of t other v
-
--- the new tree is good, and has the windows of the old one but for c
-pub record ClosesOne (c : ConId) (t new : TreeValue) : Type 0 where
-  pub good : IsGood new
-  pub gone : windows_at c new ≡ 0
-  pub others : (v : ConId) → same c v ≡ false → windows_at v new ≡ windows_at v t
-  pub owners : (who : ℕ) (v : ConId) → same c v ≡ false → is_owned_of new who v ≡ is_owned_of t who v

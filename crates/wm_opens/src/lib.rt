@@ -1,11 +1,9 @@
 //! Laws of windows: which stand in a tree before and after each step, said over the definitions alone.
 #![tactic(auto)]
 
-mod running;
 mod steps;
 mod texts;
 
-pub use running::{closing_closes_one, mapping_opens_one, running_keeps_windows};
 pub use steps::{
     a_change_keeps_windows, a_closed_window_is_gone, a_closed_window_takes_no_other,
     a_mapped_window_is_one_more, a_node_that_goes_takes_its_own,

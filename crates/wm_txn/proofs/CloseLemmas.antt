@@ -23,7 +23,7 @@ use Rattle.wm_txn.proofs.WindowLemmas.{one_id, find_put, find_insert, count_put,
 
 -- ---- windows that close
 
-abbrev close_if : Bool → Held → Held
+abbrev pub close_if : Bool → Held → Held
 close_if true w = closed_held w
 close_if false w = w
 
@@ -52,7 +52,7 @@ close_step c v windows (Some w) false at other =
     find_put c v (closed_held w) w windows at ∙ rw test (sym (unclosed (find v windows)))
 
 -- each window that is gone is closed, and no other
-find_closed : (v : ConId) (gone : List ConId) (windows : Windows) → find v (close_all gone windows) ≡ option_map (close_if (list_any (same v) gone)) (find v windows)
+pub find_closed : (v : ConId) (gone : List ConId) (windows : Windows) → find v (close_all gone windows) ≡ option_map (close_if (list_any (same v) gone)) (find v windows)
 find_closed v [] windows = sym (unclosed (find v windows))
 find_closed v (c ∷ gone) windows =
     find_closed v gone (close_found c (find c windows) windows)

@@ -14,6 +14,7 @@ pub mod LastingLemmas
 pub mod LeastLemmas
 pub mod NumberLemmas
 pub mod OpeningLemmas
+pub mod QueueLemmas
 pub mod ReadingLemmas
 pub mod ScheduleLemmas
 pub mod SettleLemmas

@@ -3,6 +3,7 @@ pub mod Accepted
 pub mod History
 pub mod Lasting
 pub mod Machine
+pub mod Queue
 pub mod Schedule
 pub mod Shown
 pub mod Standing

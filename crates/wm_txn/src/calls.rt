@@ -32,6 +32,8 @@ impl Txn {
             waiting: None,
             newest: None,
             left: 0,
+            awaited: None,
+            room: Vec::new(alloc),
             late: Vec::new(alloc),
             spent: None,
             older: None,

@@ -2,6 +2,7 @@
 ghost use Rattle.std.specs.Prelude.{◌≡◌, ◌<◌, ◌≤◌, ◌^◌, IfOk, IfSome};
 
 use crate::held::{Held, Pending};
+use crate::queue::queue_again;
 use crate::txn::Txn;
 use std::collections::BTreeMap;
 use wm_arrange::Arrangement;
@@ -15,20 +16,25 @@ impl Txn {
     {
         let (windows, gone, late) = self.copy_windows()?;
         match self.copy_arrangements() {
-            Ok((current, waiting, newest)) => Ok(Txn {
-                alloc: self.alloc,
-                windows,
-                gone,
-                number: self.number,
-                prefix: self.prefix,
-                current,
-                waiting,
-                newest,
-                left: self.left,
-                late,
-                spent: None,
-                older: None,
-            }),
+            Ok((current, waiting, newest)) => {
+                let awaited = queue_again(self.alloc, &windows, &waiting, self.number + 1);
+                Ok(Txn {
+                    alloc: self.alloc,
+                    windows,
+                    gone,
+                    number: self.number,
+                    prefix: self.prefix,
+                    current,
+                    waiting,
+                    newest,
+                    left: self.left,
+                    awaited,
+                    room: Vec::new(self.alloc),
+                    late,
+                    spent: None,
+                    older: None,
+                })
+            }
             Err(error) => {
                 drop(windows);
                 Err(error)

@@ -6,6 +6,7 @@ mod calls;
 mod copying;
 mod held;
 mod laws;
+mod queue;
 mod readings;
 mod sweeping;
 mod txn;

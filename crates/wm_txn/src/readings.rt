@@ -1,15 +1,16 @@
 //! What the transactions tell: what is done, what each window shows and was configured with, and what waits.
-ghost use Rattle.std.specs.Prelude.{◌≡◌, ◌+◌, List};
+ghost use Rattle.std.specs.Prelude.{◌≡◌, ◌+◌, List, Some};
 ghost use Rattle.wm_txn.specs.Commits.{configured, current, done, prefix, shown, waiting};
 ghost use Rattle.wm_txn.specs.Accepted.{accepted};
 ghost use Rattle.wm_txn.specs.History.{arrangement, Opening, Entry};
 ghost use Rattle.wm_txn.specs.Stands.{Stands};
 ghost use Rattle.wm_txn.specs.Machine.{configured_of, newest_of, shown_of, waiting_in};
-ghost use Rattle.wm_txn.specs.Windows.{find, has_acked};
+ghost use Rattle.wm_txn.specs.Windows.{find, has_acked, least_left};
 
 use crate::answers::Waiting;
+use crate::held::Pending;
 use crate::txn::Txn;
-use crate::windows::least_left;
+use crate::windows::{is_left, least_left};
 use wm_arrange::Arrangement;
 use wm_base::{Buffer, ConId, Size};
 
@@ -109,12 +110,28 @@ impl Txn {
     {
         let number = self.number + 1;
         let pending = self.waiting.as_ref()?;
-        let least = least_left(&self.windows, pending.arrangement.parts.items(), number)?;
+        let least = self.least_left(pending, number)?;
         Some(Waiting {
             number,
             least,
             acked: self.has_acked(least, number),
         })
+    }
+
+    /// The least window that the waiting transaction awaits and that has not answered: the first one of the queue, or, where
+    /// that is not there, what a look at all parts gives.
+    fn least_left(&self, pending: &Pending, number: u64) -> Option<ConId>
+        requires waits { self.now.waiting ≡ Some pending.now }
+        requires next { number ≡ self.now.number + 1 }
+        ensures { result ≡ least_left number self.now.windows pending.now.arrangement.parts }
+    {
+        if let Some(queue) = &self.awaited
+            && let Some(con) = queue.front()
+            && is_left(&self.windows, *con, number)
+        {
+            return Some(*con);
+        }
+        least_left(&self.windows, pending.arrangement.parts.items(), number)
     }
 
     fn has_acked(&self, view: ConId, number: u64) -> bool

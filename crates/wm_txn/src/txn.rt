@@ -1,13 +1,14 @@
 //! The machine of transactions: what has ended, what waits, and what came since.
-ghost use Rattle.std.specs.Prelude.{◌≡◌, ◌+◌, ◌<◌, ◌≤◌, ◌^◌, IfOk, OnOk, OnErr};
+ghost use Rattle.std.specs.Prelude.{◌≡◌, ◌+◌, ◌<◌, ◌≤◌, ◌^◌, true, Some, IfOk, OnOk, OnErr};
 ghost use Rattle.wm_txn.specs.Machine.{ack_step, arranged, began, buffer_step, buffered, committed, finished, followed, is_over, judge_ack, judge_buffer, judge_size, last_prefix, opened, settled, timed_out};
 ghost use Rattle.wm_txn.specs.Windows.{AreSorted, find};
 
 use crate::answers::{AckRefusal, BufferRefusal};
 use crate::held::{Held, Pending};
+use crate::queue::{queue, trimmed};
 use crate::windows::{close_all, configure_all, one_if};
 use std::alloc::Global;
-use std::collections::BTreeMap;
+use std::collections::{BTreeMap, VecDeque};
 use std::marker::Model;
 use std::mem;
 use wm_arrange::Arrangement;
@@ -27,6 +28,10 @@ pub struct Txn {
     pub(crate) waiting: Option<Pending>,
     pub(crate) newest: Option<Arrangement>,
     pub(crate) left: u64,
+    /// Whom the waiting transaction awaits, by rising id. Where it is not there, the parts tell.
+    pub(crate) awaited: Option<VecDeque<ConId>>,
+    /// Room for those whom the next one awaits, so that it begins without memory.
+    pub(crate) room: Vec<ConId>,
     /// Closed windows of which the newest buffer was not shown yet.
     pub(crate) late: Vec<ConId>,
     /// The last arrangements that were current: what ends a transaction has no time to drop them, and the next arrangement
@@ -36,8 +41,10 @@ pub struct Txn {
 }
 
 impl Model for Txn {
-    ghost use Rattle.std.specs.Prelude.{◌<◌, ◌≤◌, ◌^◌, IfSome};
+    ghost use Rattle.std.specs.Prelude.{◌+◌, ◌<◌, ◌≤◌, ◌^◌, IfSome};
+    ghost use Rattle.std.specs.Option.{option_map};
     ghost use Rattle.wm_txn.specs.Machine.{TxnValue, txn_code};
+    ghost use Rattle.wm_txn.specs.Queue.{IsQueued};
 
     ghost Value = { TxnValue };
 
@@ -45,7 +52,7 @@ impl Model for Txn {
 
     ghost view = { λ d. record { windows = d.windows; gone = d.gone.entries; number = d.number; prefix = d.prefix; current = d.current; waiting = d.waiting; newest = d.newest; left = d.left } };
 
-    ghost invariant = { λ d. (d.number ≤ d.prefix) × (d.prefix ≤ 2 ^ 48) × IfSome d.waiting (λ p. (d.number < p.prefix) × (p.prefix ≤ 2 ^ 48)) };
+    ghost invariant = { λ d. (d.number ≤ d.prefix) × (d.prefix ≤ 2 ^ 48) × IfSome d.waiting (λ p. (d.number < p.prefix) × (p.prefix ≤ 2 ^ 48)) × IsQueued (d.number + 1) d.windows d.waiting (option_map (λ q. q.items) d.awaited) };
 }
 
 impl Txn {
@@ -60,6 +67,7 @@ impl Txn {
                 arrangement,
             } = pending;
             self.number += 1;
+            self.awaited = None;
             self.prefix = prefix;
             self.older = self.spent.take();
             self.spent = Some(mem::replace(&mut self.current, arrangement));
@@ -74,7 +82,10 @@ impl Txn {
         ensures prefix { last_prefix self.new ≡ steps }
     {
         let number = self.number + 1;
-        self.left = configure_all(&mut self.windows, newest.parts.items(), number);
+        let parts = newest.parts.items();
+        self.left = configure_all(&mut self.windows, parts, number);
+        let room = mem::replace(&mut self.room, Vec::new(self.alloc));
+        self.awaited = queue(&self.windows, parts, number, room);
         self.waiting = Some(Pending {
             prefix: steps,
             arrangement: newest,
@@ -137,8 +148,11 @@ impl Txn {
         ensures value { self.new ≡ arranged newest gone.now self.old }
         ensures same { last_prefix self.new ≡ last_prefix self.old }
     {
-        let closed = close_all(&mut self.windows, gone, self.number + 1);
+        let number = self.number + 1;
+        let closed = close_all(&mut self.windows, gone, number);
         self.left = self.left.saturating_sub(closed);
+        self.awaited = trimmed(self.awaited.take(), true, &self.windows, number);
+        let _ = self.room.reserve(newest.parts.items().len());
         self.newest = Some(newest);
     }
 
@@ -150,53 +164,34 @@ impl Txn {
         self.older = None;
     }
 
-    /// Why an acknowledgement is refused, if it is.
-    fn judge_ack(&self, view: ConId, serial: u64) -> Result<(), AckRefusal>
-        ensures { result ≡ judge_ack self.now.number serial (find view self.now.windows) }
-    {
-        match self.windows.get(view.0) {
-            Some(held) if held.live => held.judge_ack(self.number, serial),
-            _ => Err(AckRefusal::NoView),
-        }
-    }
-
     /// The window acknowledges the serial, unless that is refused.
     pub(crate) fn take_ack(&mut self, view: ConId, serial: u64) -> Result<(), AckRefusal>
         ensures value { self.new ≡ ack_step view serial self.old }
         ensures answer { result ≡ judge_ack self.old.number serial (find view self.old.windows) }
         ensures same { last_prefix self.new ≡ last_prefix self.old }
     {
-        self.judge_ack(view, serial)?;
-        if let Some(held) = self.windows.get(view.0) {
-            let after = held.acked_with(serial);
-            self.windows.set(view.0, after);
+        let held = self.windows.get(view.0).copied();
+        judge_ack(held, self.number, serial)?;
+        if let Some(held) = held {
+            self.windows.set(view.0, held.acked_with(serial));
         }
         Ok(())
     }
 
-    /// Why a buffer is refused, if it is.
-    fn judge_buffer(&self, view: ConId, buffer: Buffer) -> Result<(), BufferRefusal>
-        ensures { result ≡ judge_buffer buffer (find view self.now.windows) }
-    {
-        match self.windows.get(view.0) {
-            Some(held) if held.live => judge_size(buffer.size),
-            _ => Err(BufferRefusal::NoView),
-        }
-    }
-
-    /// The window gives a buffer.
-    fn hold(&mut self, view: ConId, buffer: Buffer)
+    /// The window, of which this is kept, gives a buffer.
+    fn hold(&mut self, view: ConId, before: Held, buffer: Buffer)
+        requires there { find view self.old.windows ≡ Some before }
         ensures value { self.new ≡ buffered view buffer self.old }
         ensures same { last_prefix self.new ≡ last_prefix self.old }
     {
         let next = self.number + 1;
-        if let Some(held) = self.windows.get(view.0) {
-            let before = *held;
-            let after = before.buffered_with(self.number, buffer);
-            self.windows.set(view.0, after);
-            let answered = before.is_unanswered(next) && !after.is_unanswered(next);
-            self.left = self.left.saturating_sub(one_if(answered));
-        }
+        let after = before.buffered_with(self.number, buffer);
+        self.windows.set(view.0, after);
+        let awaited = before.is_unanswered(next);
+        let awaits = after.is_unanswered(next);
+        self.left = self.left.saturating_sub(one_if(awaited && !awaits));
+        let known = is_known(awaited, awaits);
+        self.awaited = trimmed(self.awaited.take(), known, &self.windows, next);
     }
 
     /// The window gives a buffer, unless that is refused, and the transactions that it ends do.
@@ -212,9 +207,12 @@ impl Txn {
         ensures answer { result ≡ judge_buffer buffer (find view self.old.windows) }
         ensures prefix { last_prefix self.new ≤ steps }
     {
-        self.judge_buffer(view, buffer)?;
-        self.hold(view, buffer);
-        self.settle(steps);
+        let held = self.windows.get(view.0).copied();
+        judge_buffer(held, buffer)?;
+        if let Some(before) = held {
+            self.hold(view, before, buffer);
+            self.settle(steps);
+        }
         Ok(())
     }
 
@@ -239,6 +237,34 @@ impl Txn {
             self.left = 0;
             self.settle(place + 1);
         }
+    }
+}
+
+/// Whether a window that is awaited now was so before.
+fn is_known(awaited: bool, awaits: bool) -> bool
+    ensures { result ≡ true → awaits ≡ true → awaited ≡ true }
+{
+    awaited || !awaits
+}
+
+/// Why an acknowledgement of the window of which this is kept is refused, if it is, where the transactions up to `done`
+/// have ended.
+fn judge_ack(held: Option<Held>, done: u64, serial: u64) -> Result<(), AckRefusal>
+    ensures { result ≡ judge_ack done serial held }
+{
+    match held {
+        Some(held) if held.live => held.judge_ack(done, serial),
+        _ => Err(AckRefusal::NoView),
+    }
+}
+
+/// Why a buffer of the window of which this is kept is refused, if it is.
+fn judge_buffer(held: Option<Held>, buffer: Buffer) -> Result<(), BufferRefusal>
+    ensures { result ≡ judge_buffer buffer held }
+{
+    match held {
+        Some(held) if held.live => judge_size(buffer.size),
+        _ => Err(BufferRefusal::NoView),
     }
 }
 

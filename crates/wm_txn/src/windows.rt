@@ -93,7 +93,7 @@ fn lesser(con: ConId, other: Option<ConId>) -> ConId
     }
 }
 
-fn is_left(windows: &IdMap<Held>, con: ConId, number: u64) -> bool
+pub(crate) fn is_left(windows: &IdMap<Held>, con: ConId, number: u64) -> bool
     ensures { result ≡ is_left number (find con windows.now) }
 {
     match windows.get(con.0) {
@@ -119,7 +119,7 @@ fn size_of(placed: &Placed) -> Size
     }
 }
 
-fn is_content(part: &PlacedPart) -> bool
+pub(crate) fn is_content(part: &PlacedPart) -> bool
     ensures { result ≡ is_content part.now }
 {
     matches!(part, PlacedPart::Content)

@@ -6,8 +6,8 @@ use Rattle.wm_apply.proofs.subjects.run_each.Given as goal
 -- what the subjects so far did, and what the others will do, is what all do
 abbrev pub invariant-loop-rest : goal.invariant-loop-rest
 invariant-loop-rest l = record {
-  tree : each_tree l.homes l.how l.command l.rest l.t ≡ each_tree l.homes l.how l.command l.cons l.initial.t;
-  error : or_error l.first (each_error l.homes l.how l.command l.rest l.t) ≡ each_error l.homes l.how l.command l.cons l.initial.t;
+  tree : each_tree l.env l.how l.command l.rest l.t ≡ each_tree l.env l.how l.command l.cons l.initial.t;
+  error : or_error l.first (each_error l.env l.how l.command l.rest l.t) ≡ each_error l.env l.how l.command l.cons l.initial.t;
   sound : IsSound l.t;
 }
 

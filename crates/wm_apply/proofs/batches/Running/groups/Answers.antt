@@ -10,8 +10,8 @@ loop-rest-preserved c =
     let kept = c.loop-rest.invariant in
     let gs = c.loop-rest.rest.now in
     record {
-      done = done_step c.args.homes.now c.args.subject c.group-item.result _ gs c.args.groups.now c.loop-rest.self c.commands.new.self c.args.self.now c.in-len1-up.len_at_least c.group-item.is kept.done
-          (group_step c.args.homes.now c.args.subject c.group-item.result c.loop-rest.self c.commands.new.self _ c.items.result.now c.in_ok-targets.ensures c.items.ensures c.in_ok-commands.ensures.done);
+      done = done_step c.args.env.now c.args.subject c.group-item.result _ gs c.args.groups.now c.loop-rest.self c.commands.new.self c.args.self.now c.in-len1-up.len_at_least c.group-item.is kept.done
+          (group_step c.args.env.now c.args.subject c.group-item.result c.loop-rest.self c.commands.new.self _ c.items.result.now c.in_ok-targets.ensures c.items.ensures c.in_ok-commands.ensures.done);
       numbered = numbered_step gs c.args.groups.now c.loop-rest.number c.in-len1-up.len_at_least kept.numbered;
       few = few_step gs c.loop-rest.number (length c.args.groups.now) c.in-len1-up.len_at_least kept.few;
       sound = c.in_ok-commands.ensures.sound;
@@ -22,8 +22,8 @@ loop-rest-preserved-in_ok-commands c =
     let kept = c.loop-rest.invariant in
     let gs = c.loop-rest.rest.now in
     record {
-      done = done_step c.args.homes.now c.args.subject c.group-item.result _ gs c.args.groups.now c.loop-rest.self c.commands.new.self c.args.self.now c.in-len1-up.len_at_least c.group-item.is kept.done
-          (group_step c.args.homes.now c.args.subject c.group-item.result c.loop-rest.self c.commands.new.self _ c.items.result.now c.in_ok-targets.ensures c.items.ensures c.in_ok-commands.ensures.done);
+      done = done_step c.args.env.now c.args.subject c.group-item.result _ gs c.args.groups.now c.loop-rest.self c.commands.new.self c.args.self.now c.in-len1-up.len_at_least c.group-item.is kept.done
+          (group_step c.args.env.now c.args.subject c.group-item.result c.loop-rest.self c.commands.new.self _ c.items.result.now c.in_ok-targets.ensures c.items.ensures c.in_ok-commands.ensures.done);
       numbered = numbered_step gs c.args.groups.now c.loop-rest.number c.in-len1-up.len_at_least kept.numbered;
       few = few_step gs c.loop-rest.number (length c.args.groups.now) c.in-len1-up.len_at_least kept.few;
       sound = c.in_ok-commands.ensures.sound;

@@ -6,7 +6,7 @@ use Rattle.wm_core.specs.Effect.{Judge, ack_said, telling}
 use Rattle.wm_core.specs.History.{Entry, done_by}
 use Rattle.wm_core.specs.Windows.{is_window}
 use Rattle.wm_core.specs.declared.step.Answer.{Answer}
-use Rattle.wm_core.proofs.StandsLemmas.{answered, stands_told}
+use Rattle.wm_core.proofs.StandsLemmas.{answered, stands_told, there_by}
 use Rattle.wm_core.proofs.desk.Desk.ack.Goals as goal
 
 -- no window of the caller, so nothing changes
@@ -25,6 +25,7 @@ returns c =
     let its : is_window d.tree c.args.who c.args.con ≡ true = rw (← c.self.view_is) at (sym c.is_window.ensures.value ∙ c.if-not-is_window.false) in
     let here : done_by d.plan.env d.tree entry ≡ telling (commits.Acked c.args.con c.args.serial) said d.tree = rw its refl in
     record {
+      there = rw (← c.self.view_is) (c.ack_said.ensures ∙ (ap ack_said c.ack-acked.ensures.there ∙ there_by d entry (telling (commits.Acked c.args.con c.args.serial) said d.tree) here));
       answer = λ start history s.
           let stood : StandsFrom start d history = rw (← c.self.view_is) at s in
           c.ack_said.ensures ∙ (ap ack_said (c.ack-acked.ensures.answer _ _ stood.commits) ∙ answered d start history stood entry (telling (commits.Acked c.args.con c.args.serial) said d.tree) here);

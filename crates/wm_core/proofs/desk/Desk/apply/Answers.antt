@@ -12,12 +12,12 @@ pub returns : goal.returns
 returns c = λ entry is.
     let d = c.args.self.now in
     let verdict = c.args.text.now.verdict in
-    let left : outcome c.self.inside.plan.env.homes verdict None c.self.inside.tree ≡ outcome d.plan.env.homes verdict None d.tree = ap (λ (d : DeskValue). outcome d.plan.env.homes verdict None d.tree) c.self.view_is in
+    let left : outcome c.self.inside.plan.env verdict None c.self.inside.tree ≡ outcome d.plan.env verdict None d.tree = ap (λ (d : DeskValue). outcome d.plan.env verdict None d.tree) c.self.view_is in
     let made = c.in_ok-tree.ensures.tree ∙ ap (λ (z : Outcome). z.tree) left in
     let exits = c.in_ok-tree.ensures.exit ∙ ap (λ (z : Outcome). z.exit) left in
     let kills = c.in_ok-tree.ensures.kills ∙ ap (λ (z : Outcome). z.kills) left in
     let replies = c.in_ok-tree.ensures.replies ∙ ap (λ (z : Outcome). z.replies) left in
-    let o = outcome d.plan.env.homes verdict None d.tree in
+    let o = outcome d.plan.env verdict None d.tree in
     let here : done_by d.plan.env d.tree entry ≡ changing (Replies (map reply_to c.in_ok-tree.applied.replies)) d.tree c.in_ok-tree.tree None c.in_ok-tree.applied.exit c.in_ok-tree.applied.kills =
     is ∙ (ap₂ (λ rs t. changing (Replies (map reply_to rs)) d.tree t None o.exit o.kills) (sym replies) (sym made)
     ∙ ap₂ (λ b ids. changing (Replies (map reply_to c.in_ok-tree.applied.replies)) d.tree c.in_ok-tree.tree None b ids) (sym exits) (sym kills)) in
@@ -28,5 +28,5 @@ pub take-answer-requires-clause-follows : goal.take-answer-requires-clause-follo
 take-answer-requires-clause-follows c =
     let d = c.args.self.now in
     let verdict = c.args.text.now.verdict in
-    let left : outcome c.self.inside.plan.env.homes verdict None c.self.inside.tree ≡ outcome d.plan.env.homes verdict None d.tree = ap (λ (d : DeskValue). outcome d.plan.env.homes verdict None d.tree) c.self.view_is in
-    follows_made d.tree (outcome d.plan.env.homes verdict None d.tree).tree c.in_ok-tree.tree (c.in_ok-tree.ensures.tree ∙ ap (λ (z : Outcome). z.tree) left) (kept_outcome d.plan.env.homes verdict None d.tree)
+    let left : outcome c.self.inside.plan.env verdict None c.self.inside.tree ≡ outcome d.plan.env verdict None d.tree = ap (λ (d : DeskValue). outcome d.plan.env verdict None d.tree) c.self.view_is in
+    follows_made d.tree (outcome d.plan.env verdict None d.tree).tree c.in_ok-tree.tree (c.in_ok-tree.ensures.tree ∙ ap (λ (z : Outcome). z.tree) left) (kept_outcome d.plan.env verdict None d.tree)

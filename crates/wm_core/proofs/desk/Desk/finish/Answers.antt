@@ -5,7 +5,7 @@ use Rattle.wm_core.specs.DeskValue.{Follows}
 use Rattle.wm_core.specs.Effect.{leaving}
 use Rattle.wm_core.specs.declared.step.Answer.TheVariants.{Done}
 use Rattle.wm_core.proofs.FollowLemmas.{follows_then}
-use Rattle.wm_core.proofs.StandsLemmas.{answered}
+use Rattle.wm_core.proofs.StandsLemmas.{answered, there_by}
 use Rattle.wm_core.proofs.StepLemmas.{answered_after, none_answered}
 use Rattle.wm_core.proofs.desk.Desk.finish.Goals as goal
 
@@ -19,7 +19,7 @@ pub returns : goal.returns
 returns c = λ entry is.
     let d = c.args.self.now in
     let here = is ∙ ap (λ z. leaving Done d.tree z None) (sym c.settle.ensures.tree) in
-    answered_after d c.commit.new.self Done entry (λ start history s. answered d start history s entry _ is) (c.in_ok-commit.ensures entry Done here)
+    answered_after d c.commit.new.self Done entry (there_by d entry _ is) (λ start history s. answered d start history s entry _ is) (c.in_ok-commit.ensures entry Done here)
 
 pub returns-in_err-commit : goal.returns-in_err-commit
 returns-in_err-commit c = λ entry is.

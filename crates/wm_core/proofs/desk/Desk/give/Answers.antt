@@ -6,7 +6,7 @@ use Rattle.wm_core.specs.Effect.{has_no_pixels, telling}
 use Rattle.wm_core.specs.History.{Entry, done_by}
 use Rattle.wm_core.specs.Windows.{is_window}
 use Rattle.wm_core.specs.declared.step.Answer.TheVariants.{Done}
-use Rattle.wm_core.proofs.StandsLemmas.{answered, place, stands_told}
+use Rattle.wm_core.proofs.StandsLemmas.{answered, place, stands_told, there_by}
 use Rattle.wm_core.proofs.desk.Desk.give.Goals as goal
 
 -- no window of the caller, so nothing changes
@@ -33,6 +33,7 @@ returns c =
     let pixels : has_no_pixels c.args.buffer.size ≡ false = sym c.has_no_pixels.ensures ∙ c.if-has_no_pixels.false in
     let here : done_by d.plan.env d.tree entry ≡ telling told (λ judge. Done) d.tree = rw (its, pixels) refl in
     record {
+      there = rw (← c.self.view_is) (there_by d entry (telling told (λ judge. Done) d.tree) here);
       answer = λ start history s. answered d start history (rw (← c.self.view_is) at s) entry (telling told (λ judge. Done) d.tree) here;
       stands = λ start history s.
           let stood : StandsFrom start d history = rw (← c.self.view_is) at s in

@@ -14,7 +14,7 @@ use Rattle.wm_core.specs.Effect.{changing, has_no_pixels, leaving, limit_of, map
 use Rattle.wm_core.specs.History.{Entry, done_by}
 use Rattle.wm_core.specs.declared.step.Answer.TheVariants.{Full, Mapped}
 use Rattle.wm_core.proofs.FollowLemmas.{follows_mapped}
-use Rattle.wm_core.proofs.StandsLemmas.{answered}
+use Rattle.wm_core.proofs.StandsLemmas.{answered, there_by}
 use Rattle.wm_core.proofs.StepLemmas.{answered_after, none_answered, taken}
 use Rattle.wm_core.proofs.desk.Desk.map.Goals as goal
 
@@ -59,7 +59,7 @@ returns-in_ok-commit-in-Ok c = λ then.
     let is : done_by d.plan.env t entry ≡ leaving (Mapped (id t.next_id)) t (mapped t c.args.who c.args.props.now c.args.buffer.size) (Some (id t.next_id, c.args.buffer)) = rw (pixels, room) refl in
     let here : done_by d.plan.env t entry ≡ leaving (Mapped c.in-Ok.id) t c.open.new.tree (Some (c.in-Ok.id, c.args.buffer)) =
     is ∙ ap₂ (λ i z. leaving (Mapped i) t z (Some (i, c.args.buffer))) (sym number) (sym made) in
-    answered_after d c.commit.new.self (Mapped c.in-Ok.id) entry (λ start history s. answered d start history s entry _ here) (c.in_ok-commit-in-Ok.ensures entry (Mapped c.in-Ok.id) here)
+    answered_after d c.commit.new.self (Mapped c.in-Ok.id) entry (there_by d entry _ here) (λ start history s. answered d start history s entry _ here) (c.in_ok-commit-in-Ok.ensures entry (Mapped c.in-Ok.id) here)
 
 pub returns-in_err-commit-in-Ok : goal.returns-in_err-commit-in-Ok
 returns-in_err-commit-in-Ok c = λ then.

@@ -16,6 +16,7 @@ returns c =
     let entry : Entry = record { who = c.args.who; act = Deadline c.args.number } in
     let told = commits.Deadline c.args.number in
     record {
+      there = refl;
       answer = λ start history s. answered d start history (rw (← c.self.view_is) at s) entry (telling told (λ judge. Done) d.tree) refl;
       stands = λ start history s.
           let stood : StandsFrom start d history = rw (← c.self.view_is) at s in
