@@ -3,7 +3,7 @@ use Rattle.std.specs.Prelude.{◌≡◌, ◌<◌, ℕ, ◌^◌, Bool, List, ◌�
 use Rattle.wm_base.specs.declared.errors.NoMemory.{NoMemory}
 use Rattle.wm_layouts.specs.declared.plan.Plan.{Plan}
 use Rattle.wm_core.specs.Act.{Act}
-use Rattle.wm_core.specs.History.{Entry, History, Start, answer, opening_of}
+use Rattle.wm_core.specs.History.{History, Start, answer, opening_of}
 use Rattle.wm_core.specs.declared.asked.Asked.{Asked}
 use Rattle.wm_core.specs.declared.refusals.ActRefusal.{ActRefusal}
 use Rattle.wm_core.specs.declared.refusals.ActRefusal.TheVariants as refusal

@@ -1,9 +1,20 @@
 -- What a step of a desk promises.
-use Rattle.std.specs.Prelude.{◌≡◌, ℕ, ◌+◌, List, ◌∷◌, Result, IfOk, OnErr, OnOk}
+use Rattle.std.specs.Prelude.{◌≡◌, ◌<◌, ◌^◌, ◌+◌, List, ◌∷◌, Option, Result, IfOk, OnErr, OnOk}
 use Rattle.wm_base.specs.declared.errors.NoMemory.{NoMemory}
-use Rattle.wm_core.specs.DeskValue.{DeskValue, StandsFrom, judge_of}
+use Rattle.wm_base.specs.declared.ids.Buffer.{Buffer}
+use Rattle.wm_base.specs.declared.ids.ConId.{ConId}
+use Rattle.wm_tree.specs.Sound.{IsSound}
+use Rattle.wm_tree.specs.TreeValue.{TreeValue}
+use Rattle.wm_core.specs.DeskValue.{DeskValue, Follows, StandsFrom, judge_of}
 use Rattle.wm_core.specs.History.{Entry, Start, answer, done_by}
 use Rattle.wm_core.specs.declared.step.Answer.{Answer}
+
+-- what is asked of a tree that a step leaves: it is counted, the tree is sound, and it has no window that the old one had not
+-- but the one that was opened
+pub record MayCome (old : DeskValue) (tree : TreeValue) (opened : Option (ConId × Buffer)) : Type 0 where
+  pub few : old.steps < 2 ^ 48
+  pub sound : IsSound tree
+  pub follows : Follows old.tree tree opened
 
 -- the desk stands for the entry too, from each opening and after each history for which it stood
 abbrev pub GoesOn : DeskValue → DeskValue → Entry → Type 0

@@ -7,7 +7,7 @@ ghost use Rattle.wm_core.specs.ByWindow.{left_of, new_or};
 ghost use Rattle.wm_core.specs.DeskValue.{Follows, kill_after, kill_in};
 ghost use Rattle.wm_core.specs.Effect.{changing, closed, leaving, refused};
 ghost use Rattle.wm_core.specs.History.{done_by, Entry};
-ghost use Rattle.wm_core.specs.Steps.{Answers, Commits, Takes};
+ghost use Rattle.wm_core.specs.Steps.{Answers, Commits, MayCome, Takes};
 ghost use Rattle.wm_core.specs.Windows.{window_count};
 ghost use Rattle.wm_core.specs.declared.step.Answer.{Answer};
 ghost use Rattle.wm_core.specs.declared.step.Answer.TheVariants.{Done};
@@ -58,9 +58,7 @@ impl Desk {
         stops: bool,
         closes: &[ConId],
     ) -> Result<(), NoMemory>
-        requires few { self.old.steps < 2 ^ 48 }
-        requires sound { trees.IsSound tree }
-        requires follows { Follows self.old.tree tree opened }
+        requires { MayCome self.old tree opened }
         ensures { (entry : Entry) (answer : Answer) → done_by self.old.plan.env self.old.tree entry ≡ changing answer self.old.tree tree opened stops closes.now → Commits self.old self.new result entry }
     {
         let mut tree = tree;
@@ -77,9 +75,7 @@ impl Desk {
         stops: bool,
         closes: &[ConId],
     ) -> Result<(), NoMemory>
-        requires few { self.old.steps < 2 ^ 48 }
-        requires sound { trees.IsSound tree.old }
-        requires follows { Follows self.old.tree tree.old opened }
+        requires { MayCome self.old tree.old opened }
         ensures { (entry : Entry) (answer : Answer) → done_by self.old.plan.env self.old.tree entry ≡ changing answer self.old.tree tree.old opened stops closes.now → Commits self.old self.new result entry }
     {
         let change = self.change_to(tree, opened, closes)?;

@@ -73,10 +73,8 @@ pub fn closed(
     after: u32,
     opened: Option<(ConId, Buffer)>,
 ) -> Result<Vec<ConId>, AllocError>
-    requires old { IsSound old.now }
-    requires before { before ≡ window_count old.now }
-    requires new { IsSound new.now }
-    requires after { after ≡ window_count new.now }
+    requires sound { IsSound old.now × IsSound new.now }
+    requires counted { (before ≡ window_count old.now) × (after ≡ window_count new.now) }
     requires few { before ≤ 4096 }
     ensures { Follows old.now new.now opened → IfOk result (λ gone. gone.items ≡ closed old.now new.now opened) }
 {
@@ -104,8 +102,7 @@ fn missing(
     new: &Tree,
     opened: Option<(ConId, Buffer)>,
 ) -> Result<Vec<ConId>, AllocError>
-    requires old { IsSound old.now }
-    requires new { IsSound new.now }
+    requires { IsSound old.now × IsSound new.now }
     ensures { IfOk result (λ gone. gone.items ≡ closed old.now new.now opened) }
 {
     let before = windows_of(alloc, old)?;

@@ -5,10 +5,8 @@ ghost use Rattle.wm_criteria.specs.Prepared.{is_built};
 ghost use Rattle.std.specs.Prelude.{◌≡◌, ◌<◌, ◌^◌, [], ◌∷◌, map, None, IsTrue};
 ghost use Rattle.wm_core.specs.Act.{Run, text_of};
 ghost use Rattle.wm_core.specs.Effect.{changing, ran, refused, reply_to};
-ghost use Rattle.wm_core.specs.DeskValue.{Follows};
 ghost use Rattle.wm_core.specs.History.{Entry, done_by};
-ghost use Rattle.wm_core.specs.Steps.{Takes};
-ghost use Rattle.wm_tree.specs.Sound as trees;
+ghost use Rattle.wm_core.specs.Steps.{MayCome, Takes};
 
 use crate::desk::Desk;
 use crate::replies::replies_to;
@@ -47,9 +45,7 @@ impl Desk {
 
     /// Takes the tree that the commands of a text left, with what they did beside.
     fn take(&mut self, tree: Tree, applied: &Applied) -> Result<Answer, NoMemory>
-        requires few { self.old.steps < 2 ^ 48 }
-        requires sound { trees.IsSound tree }
-        requires follows { Follows self.old.tree tree None }
+        requires { MayCome self.old tree None }
         ensures { (entry : Entry) → done_by self.old.plan.env self.old.tree entry ≡ changing (Replies (map reply_to applied.now.replies)) self.old.tree tree None applied.now.exit applied.now.kills → Takes self.old self.new result entry }
     {
         match replies_to(self.alloc, applied.replies.items()) {

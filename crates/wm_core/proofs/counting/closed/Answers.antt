@@ -7,5 +7,5 @@ use Rattle.wm_core.proofs.counting.closed.Goals as goal
 pub returns-then-after-most : goal.returns-then-after-most
 returns-then-after-most c = λ follows.
     let most : window_count c.args.new.now ≡ window_count c.args.old.now + one_if_some c.args.opened =
-    sym c.requires.after ∙ (c.if-after-most.true ∙ ap₂ (λ a b. a + b) c.requires.before c.one_if_some.ensures.value) in
-    c.new.ensures.items ∙ sym (none_closed c.args.old.now c.args.new.now c.args.opened c.requires.old c.requires.new follows most)
+    sym c.requires.counted.1 ∙ (c.if-after-most.true ∙ ap₂ (λ a b. a + b) c.requires.counted.0 c.one_if_some.ensures.value) in
+    c.new.ensures.items ∙ sym (none_closed c.args.old.now c.args.new.now c.args.opened c.requires.sound.0 c.requires.sound.1 follows most)

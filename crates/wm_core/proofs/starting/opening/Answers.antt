@@ -1,4 +1,3 @@
-use Rattle.std.proofs.Common.{◌≡◌, ap, subst, sym, ◌∙◌}
 use Rattle.wm_arrange.specs.Arranged.{arranged}
 use Rattle.wm_core.proofs.OpeningLemmas.{fit_plans}
 use Rattle.wm_core.proofs.StandsLemmas.{no_content}

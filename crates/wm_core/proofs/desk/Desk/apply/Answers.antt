@@ -1,8 +1,8 @@
-use Rattle.std.proofs.Common.{◌≡◌, map, None, ap, ap₂, sym, ◌∙◌}
+use Rattle.std.proofs.Common.{rules, ◌≡◌, map, None, ap, ap₂, sym, ◌∙◌}
 use Rattle.wm_apply.specs.Batches.{Outcome, outcome}
 use Rattle.wm_opens.proofs.CommandLemmas.{kept_outcome}
 use Rattle.wm_core.specs.DeskValue.{DeskValue}
-use Rattle.wm_core.specs.Effect.{changing, ran, reply_to}
+use Rattle.wm_core.specs.Effect.{changing, reply_to}
 use Rattle.wm_core.specs.History.{done_by}
 use Rattle.wm_core.specs.declared.step.Answer.TheVariants.{Replies}
 use Rattle.wm_core.proofs.FollowLemmas.{follows_made}
@@ -24,9 +24,10 @@ returns c = λ entry is.
     c.take-answer.ensures entry here
 
 -- a text opens no window
-pub take-answer-requires-clause-follows : goal.take-answer-requires-clause-follows
-take-answer-requires-clause-follows c =
+pub take-answer-requires : goal.take-answer-requires
+take-answer-requires c =
     let d = c.args.self.now in
     let verdict = c.args.text.now.verdict in
     let left : outcome c.self.inside.plan.env verdict None c.self.inside.tree ≡ outcome d.plan.env verdict None d.tree = ap (λ (d : DeskValue). outcome d.plan.env verdict None d.tree) c.self.view_is in
-    follows_made d.tree (outcome d.plan.env verdict None d.tree).tree c.in_ok-tree.tree (c.in_ok-tree.ensures.tree ∙ ap (λ (z : Outcome). z.tree) left) (kept_outcome d.plan.env verdict None d.tree)
+    let follows = follows_made d.tree (outcome d.plan.env verdict None d.tree).tree c.in_ok-tree.tree (c.in_ok-tree.ensures.tree ∙ ap (λ (z : Outcome). z.tree) left) (kept_outcome d.plan.env verdict None d.tree) in
+    record { few = c.requires.few; sound = search rules; follows = follows }

@@ -1,4 +1,4 @@
-use Rattle.std.proofs.Common.{◌+◌, arith}
+use Rattle.std.proofs.Common.{arith}
 use Rattle.wm_core.proofs.OpenLemmas.{window_con}
 use Rattle.wm_core.proofs.desk.Desk.change_to.Goals as goal
 

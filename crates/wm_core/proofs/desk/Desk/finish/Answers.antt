@@ -1,4 +1,4 @@
-use Rattle.std.proofs.Common.{None, ap, subst, sym, ◌∙◌}
+use Rattle.std.proofs.Common.{rules, None, ap, subst, sym, ◌∙◌}
 use Rattle.wm_opens.proofs.KeptLemmas.{kept_settled}
 use Rattle.wm_tree.specs.Words.{settled}
 use Rattle.wm_core.specs.DeskValue.{Follows}
@@ -10,10 +10,11 @@ use Rattle.wm_core.proofs.StepLemmas.{answered_after, none_answered}
 use Rattle.wm_core.proofs.desk.Desk.finish.Goals as goal
 
 -- settling opens no window
-pub commit-requires-clause-follows : goal.commit-requires-clause-follows
-commit-requires-clause-follows c =
+pub commit-requires : goal.commit-requires
+commit-requires c =
     let t = c.args.self.now.tree in
-    subst (λ z. Follows t z None) (sym c.settle.ensures.tree) (follows_then t c.args.tree (settled c.args.tree) None c.requires.follows (kept_settled c.args.tree))
+    let follows = subst (λ z. Follows t z None) (sym c.settle.ensures.tree) (follows_then t c.args.tree (settled c.args.tree) None c.requires.follows (kept_settled c.args.tree)) in
+    record { few = c.requires.few; sound = search rules; follows = follows }
 
 pub returns : goal.returns
 returns c = λ entry is.

@@ -1,4 +1,4 @@
-use Rattle.std.proofs.Common.{◌≡◌, refl, ap, subst, sym, ◌∙◌}
+use Rattle.std.proofs.Common.{refl, ap, subst, sym, ◌∙◌}
 use Rattle.wm_txn.proofs.ReadingLemmas.{current_is, shown_is}
 use Rattle.wm_txn.specs.Accepted.{accepted}
 use Rattle.wm_txn.specs.Machine.{shown_of}

@@ -1,4 +1,4 @@
-use Rattle.std.proofs.Common.{None, ap, refl, subst, sym, ◌∙◌}
+use Rattle.std.proofs.Common.{None, ap, subst, sym, ◌∙◌}
 use Rattle.wm_tree.specs.Words.{settled}
 use Rattle.wm_core.specs.Act.{Gone}
 use Rattle.wm_core.specs.DeskValue.{DeskValue}

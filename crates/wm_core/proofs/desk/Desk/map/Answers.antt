@@ -1,4 +1,4 @@
-use Rattle.std.proofs.Common.{◌≡◌, ℕ, Bool, cond, true, false, Option, Some, None, ap, ap₂, ◌∙◌, refl, sym, subst}
+use Rattle.std.proofs.Common.{rules, ◌≡◌, ℕ, Bool, cond, true, false, Some, None, ap, ap₂, ◌∙◌, refl, sym, subst}
 use Rattle.wm_base.specs.declared.ids.Buffer.{Buffer}
 use Rattle.wm_base.specs.declared.ids.ConId.{ConId}
 use Rattle.wm_base.specs.declared.properties.Props.{Props}
@@ -10,7 +10,7 @@ use Rattle.wm_forest.specs.declared.place.NewCon.TheVariants.{Window}
 use Rattle.wm_opens.proofs.KeptLemmas.{Kept, kept_raised, kept_refl, kept_settled, kept_trans}
 use Rattle.wm_core.specs.Act.{Map}
 use Rattle.wm_core.specs.DeskValue.{DeskValue, Follows}
-use Rattle.wm_core.specs.Effect.{changing, has_no_pixels, leaving, limit_of, mapped, refused, raised_unless_full}
+use Rattle.wm_core.specs.Effect.{has_no_pixels, leaving, limit_of, mapped, refused, raised_unless_full}
 use Rattle.wm_core.specs.History.{Entry, done_by}
 use Rattle.wm_core.specs.declared.step.Answer.TheVariants.{Full, Mapped}
 use Rattle.wm_core.proofs.FollowLemmas.{follows_mapped}
@@ -77,11 +77,11 @@ returns-in_err-commit-in-Ok c = λ then.
     none_answered d c.commit.new.self entry c.from_residual-in_err-commit-in-Ok.result _ _ c.from_residual-in_err-commit-in-Ok.ensures.1 (c.in_err-commit-in-Ok.ensures entry (Mapped c.in-Ok.id) here)
 
 -- no other window comes
-pub commit-requires-clause-follows : goal.commit-requires-clause-follows
-commit-requires-clause-follows c =
+pub commit-requires : goal.commit-requires
+commit-requires c =
     let t = c.args.self.now.tree in
     let same : c.in_ok-tree.tree ≡ t = c.in_ok-tree.ensures ∙ ap (λ (d : DeskValue). d.tree) c.self.view_is in
     let number : c.in-Ok.id ≡ id t.next_id = c.in-Ok.ensures.id ∙ ap (λ (z : TreeValue). id z.next_id) same in
     let made : c.open.new.tree ≡ mapped t c.args.who c.args.props.now c.args.buffer.size = c.in-Ok.ensures.tree ∙ ap (λ z. mapped z c.args.who c.args.props.now c.args.buffer.size) same in
-    subst (λ z. Follows t c.open.new.tree z) (ap (λ i. Some (i, c.args.buffer)) (sym number))
-    (subst (λ z. Follows t z (Some (id t.next_id, c.args.buffer))) (sym made) (follows_window t c.args.who c.args.props.now c.args.buffer))
+    let follows = subst (λ z. Follows t c.open.new.tree z) (ap (λ i. Some (i, c.args.buffer)) (sym number)) (subst (λ z. Follows t z (Some (id t.next_id, c.args.buffer))) (sym made) (follows_window t c.args.who c.args.props.now c.args.buffer)) in
+    record { few = c.requires.few; sound = search rules; follows = follows }

@@ -1,4 +1,4 @@
-use Rattle.std.proofs.Common.{◌≡◌, None, ap, refl, sym, ◌∙◌}
+use Rattle.std.proofs.Common.{◌≡◌, None, ap, sym, ◌∙◌}
 use Rattle.wm_core.specs.Act.{OutputRemove}
 use Rattle.wm_opens.proofs.SpaceLemmas.{kept_output_removed}
 use Rattle.wm_spaces.specs.Coming.{output_removed_refusal, output_removed_tree}

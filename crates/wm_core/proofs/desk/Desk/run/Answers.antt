@@ -1,6 +1,5 @@
-use Rattle.std.proofs.Common.{◌≡◌, ap, refl, sym, ◌∙◌}
+use Rattle.std.proofs.Common.{refl}
 use Rattle.wm_core.specs.Act.{Run, text_of}
-use Rattle.wm_core.specs.Effect.{run_effect}
 use Rattle.wm_core.proofs.desk.Desk.run.Goals as goal
 
 pub returns-in-Ready : goal.returns-in-Ready

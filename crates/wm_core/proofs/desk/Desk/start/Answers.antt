@@ -1,4 +1,4 @@
-use Rattle.std.proofs.Common.{refl, arith}
+use Rattle.std.proofs.Common.{arith}
 use Rattle.wm_core.proofs.OwnerLemmas.{no_owners}
 use Rattle.wm_core.proofs.StandsLemmas.{opens_no_window, stands_start}
 use Rattle.wm_core.proofs.desk.Desk.start.Goals as goal

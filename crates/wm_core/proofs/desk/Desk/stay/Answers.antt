@@ -1,5 +1,5 @@
-use Rattle.std.proofs.Common.{◌≡◌, refl, sym, ◌∙◌}
-use Rattle.wm_core.specs.DeskValue.{DeskValue, StandsFrom}
+use Rattle.std.proofs.Common.{◌≡◌, refl}
+use Rattle.wm_core.specs.DeskValue.{DeskValue}
 use Rattle.wm_core.specs.Effect.{refused}
 use Rattle.wm_core.specs.History.{done_by}
 use Rattle.wm_core.proofs.StandsLemmas.{answered, stands_counted, there_by}

@@ -1,4 +1,3 @@
-use Rattle.std.proofs.Common.{refl}
 use Rattle.wm_core.proofs.desk.Desk.step.Goals as goal
 
 pub returns-in-Map : goal.returns-in-Map

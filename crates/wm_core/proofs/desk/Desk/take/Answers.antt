@@ -1,4 +1,4 @@
-use Rattle.std.proofs.Common.{◌≡◌, map, None, Ok, ap, subst, sym, ◌∙◌}
+use Rattle.std.proofs.Common.{map, None, Ok, ap, subst, sym, ◌∙◌}
 use Rattle.wm_core.specs.Effect.{changing, reply_to}
 use Rattle.wm_core.specs.Steps.{Takes}
 use Rattle.wm_core.specs.declared.step.Answer.TheVariants.{Replies}
