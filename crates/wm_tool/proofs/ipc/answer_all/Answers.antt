@@ -12,13 +12,12 @@ returns-clause-ok g c =
     let told = g.W.Sink.taken c.args.sink.now in
     let tells = replies_from c.args.decoder.now.queue in
     let texts = message_texts c.args.decoder.now.queue in
-    let count = g.B.Build.refusals c.args.build.now in
-    let refused = g.B.Build.refused c.args.build.now in
+    let log = g.B.Build.log c.args.build.now in
     let whole : List Refused → List ℕ = λ rs. tells rs [] in
-    let begun : Plays told told c.in_ok-desk.desk c.args.refused.now.items [] tells whole texts texts count count refused refused =
-    subst (λ rs. Plays told told c.in_ok-desk.desk rs [] tells whole texts texts count count refused refused) (sym c.requires.none)
-    (begins told c.in_ok-desk.desk tells texts count refused c.in_ok-desk.ensures.stands) in
-    ok_weaker {Q = TakesAll told (g.W.Sink.taken c.answer_queue-end.new.sink) (replies_from c.args.decoder.now.queue c.answer_queue-end.new.refused.items [])} c.answer_queue-end.result (c.answer_queue-end.ensures.ok told whole texts count refused begun)
+    let begun : Plays told told c.in_ok-desk.desk c.args.refused.now.items [] tells whole texts texts log log =
+    subst (λ rs. Plays told told c.in_ok-desk.desk rs [] tells whole texts texts log log) (sym c.requires.none)
+    (begins told c.in_ok-desk.desk tells texts log c.in_ok-desk.ensures.stands) in
+    ok_weaker {Q = TakesAll told (g.W.Sink.taken c.answer_queue-end.new.sink) (replies_from c.args.decoder.now.queue c.answer_queue-end.new.refused.items [])} c.answer_queue-end.result (c.answer_queue-end.ensures.ok told whole texts log begun)
     (λ plays. ends_written told (g.W.Sink.taken c.answer_queue-end.new.sink) c.answer_queue-end.new.desk c.answer_queue-end.new.refused.items (replies_from []) whole (λ rs history. refl) plays.runs)
 
 pub returns-clause-part : goal.returns-clause-part
@@ -26,26 +25,24 @@ returns-clause-part g c =
     let told = g.W.Sink.taken c.args.sink.now in
     let tells = replies_from c.args.decoder.now.queue in
     let texts = message_texts c.args.decoder.now.queue in
-    let count = g.B.Build.refusals c.args.build.now in
-    let refused = g.B.Build.refused c.args.build.now in
+    let log = g.B.Build.log c.args.build.now in
     let whole : List Refused → List ℕ = λ rs. tells rs [] in
-    let begun : Plays told told c.in_ok-desk.desk c.args.refused.now.items [] tells whole texts texts count count refused refused =
-    subst (λ rs. Plays told told c.in_ok-desk.desk rs [] tells whole texts texts count count refused refused) (sym c.requires.none)
-    (begins told c.in_ok-desk.desk tells texts count refused c.in_ok-desk.ensures.stands) in
-    err_weaker {Q = TakesPart told (g.W.Sink.taken c.answer_queue-end.new.sink) (replies_from c.args.decoder.now.queue c.answer_queue-end.new.refused.items [])} c.answer_queue-end.result (c.answer_queue-end.ensures.part told whole texts count refused begun) (λ stops. stops.0)
+    let begun : Plays told told c.in_ok-desk.desk c.args.refused.now.items [] tells whole texts texts log log =
+    subst (λ rs. Plays told told c.in_ok-desk.desk rs [] tells whole texts texts log log) (sym c.requires.none)
+    (begins told c.in_ok-desk.desk tells texts log c.in_ok-desk.ensures.stands) in
+    err_weaker {Q = TakesPart told (g.W.Sink.taken c.answer_queue-end.new.sink) (replies_from c.args.decoder.now.queue c.answer_queue-end.new.refused.items [])} c.answer_queue-end.result (c.answer_queue-end.ensures.part told whole texts log begun) (λ stops. stops.0)
 
 pub returns-clause-backed : goal.returns-clause-backed
 returns-clause-backed g c =
     let told = g.W.Sink.taken c.args.sink.now in
     let tells = replies_from c.args.decoder.now.queue in
     let texts = message_texts c.args.decoder.now.queue in
-    let count = g.B.Build.refusals c.args.build.now in
-    let refused = g.B.Build.refused c.args.build.now in
+    let log = g.B.Build.log c.args.build.now in
     let whole : List Refused → List ℕ = λ rs. tells rs [] in
-    let begun : Plays told told c.in_ok-desk.desk c.args.refused.now.items [] tells whole texts texts count count refused refused =
-    subst (λ rs. Plays told told c.in_ok-desk.desk rs [] tells whole texts texts count count refused refused) (sym c.requires.none)
-    (begins told c.in_ok-desk.desk tells texts count refused c.in_ok-desk.ensures.stands) in
-    let Backed : Type 0 = IsBacked (message_texts c.args.decoder.now.queue) c.answer_queue-end.new.refused.items (g.B.Build.refusals c.args.build.now) (g.B.Build.refusals c.answer_queue-end.new.build) (g.B.Build.refused c.args.build.now) (g.B.Build.refused c.answer_queue-end.new.build) in
+    let begun : Plays told told c.in_ok-desk.desk c.args.refused.now.items [] tells whole texts texts log log =
+    subst (λ rs. Plays told told c.in_ok-desk.desk rs [] tells whole texts texts log log) (sym c.requires.none)
+    (begins told c.in_ok-desk.desk tells texts log c.in_ok-desk.ensures.stands) in
+    let Backed : Type 0 = IsBacked (message_texts c.args.decoder.now.queue) c.answer_queue-end.new.refused.items (g.B.Build.log c.args.build.now) (g.B.Build.log c.answer_queue-end.new.build) in
     either_way {P = Backed} c.answer_queue-end.result
-    (ok_weaker {Q = Backed} c.answer_queue-end.result (c.answer_queue-end.ensures.ok told whole texts count refused begun) (λ plays. plays.backed.backed))
-    (err_weaker {Q = Backed} c.answer_queue-end.result (c.answer_queue-end.ensures.part told whole texts count refused begun) (λ stops. stops.1))
+    (ok_weaker {Q = Backed} c.answer_queue-end.result (c.answer_queue-end.ensures.ok told whole texts log begun) (λ plays. plays.backed.backed))
+    (err_weaker {Q = Backed} c.answer_queue-end.result (c.answer_queue-end.ensures.part told whole texts log begun) (λ stops. stops.1))

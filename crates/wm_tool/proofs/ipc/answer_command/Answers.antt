@@ -34,7 +34,7 @@ returns-in-Ok-clause-grows g c =
 pub returns-in-Ok-clause-backs : goal.returns-in-Ok-clause-backs
 returns-in-Ok-clause-backs g c =
     let is : request_of c.args.message.now ≡ ask c.in-Ok.text.now = asks c.args.message.now c.requires.runs (subst IsUtf8 c.items.ensures c.in-Ok.ensures.cases.1) ∙ ap ask (sym (c.in-Ok.ensures.cases.0 ∙ c.items.ensures)) in
-    subst (λ r. Backs c.args.desk.now.steps (text_step (text_of_request r)) c.args.refused.now.items c.answer_text.new.refused.items (g.B.Build.refusals c.args.build.now) (g.B.Build.refusals c.answer_text.new.build) (g.B.Build.refused c.args.build.now) (g.B.Build.refused c.answer_text.new.build)) (sym is) c.answer_text.ensures.backs
+    subst (λ r. Backs c.args.desk.now.steps (text_step (text_of_request r)) c.args.refused.now.items c.answer_text.new.refused.items (g.B.Build.log c.args.build.now) (g.B.Build.log c.answer_text.new.build)) (sym is) c.answer_text.ensures.backs
 
 pub returns-in_ok-replies-in-Err-clause-ok : goal.returns-in_ok-replies-in-Err-clause-ok
 returns-in_ok-replies-in-Err-clause-ok g c = λ none.
@@ -56,4 +56,4 @@ returns-in_ok-replies-in-Err-clause-steps g c =
     subst (λ r. OnOk c.push_reply.result (c.args.desk.now.steps ≡ c.args.desk.now.steps + length (text_step (text_of_request r)))) (sym is) (on_ok c.push_reply.result (omega arith))
 
 pub returns-in_ok-replies-in-Err-clause-backs : goal.returns-in_ok-replies-in-Err-clause-backs
-returns-in_ok-replies-in-Err-clause-backs g c = unchanged c.args.desk.now.steps (text_step (text_of_request (request_of c.args.message.now))) c.args.refused.now.items (g.B.Build.refusals c.args.build.now) (g.B.Build.refused c.args.build.now)
+returns-in_ok-replies-in-Err-clause-backs g c = unchanged c.args.desk.now.steps (text_step (text_of_request (request_of c.args.message.now))) c.args.refused.now.items (g.B.Build.log c.args.build.now)

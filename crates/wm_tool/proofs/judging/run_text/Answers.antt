@@ -11,8 +11,8 @@ use Rattle.wm_tool.proofs.judging.run_text.Goals as goal
 
 pub returns-in_err-text-clause-backs : goal.returns-in_err-text-clause-backs
 returns-in_err-text-clause-backs g c =
-    keeps_backed c.args.desk.now.steps (Some c.args.text.now ∷ []) c.args.refused.now.items c.judge.new.refused.items (g.B.Build.refusals c.args.build.now) (g.B.Build.refusals c.judge.new.build) (g.B.Build.refused c.args.build.now) (g.B.Build.refused c.judge.new.build)
-    (c.in_err-text.ensures.grown ∙ append-nil c.args.refused.now.items) c.in_err-text.ensures.told c.in_err-text.ensures.counted
+    keeps_backed c.args.desk.now.steps (Some c.args.text.now ∷ []) c.args.refused.now.items c.judge.new.refused.items (g.B.Build.log c.args.build.now) (g.B.Build.log c.judge.new.build)
+    (c.in_err-text.ensures.grown ∙ append-nil c.args.refused.now.items) c.in_err-text.ensures.grew
 
 pub returns-clause-answer : goal.returns-clause-answer
 returns-clause-answer g c = λ none history s.
@@ -40,5 +40,5 @@ pub returns-clause-backs : goal.returns-clause-backs
 returns-clause-backs g c =
     let p = c.in_ok-text.text in
     let grown = subst (λ n. c.judge.new.refused.items ≡ c.args.refused.now.items ++ fresh n p.verdict) c.steps.ensures c.in_ok-text.ensures.grown in
-    backs_verdict c.args.desk.now.steps c.args.text.now p.verdict c.args.refused.now.items c.judge.new.refused.items (g.B.Build.refusals c.args.build.now) (g.B.Build.refusals c.judge.new.build) (g.B.Build.refused c.args.build.now) (g.B.Build.refused c.judge.new.build)
-    c.in_ok-text.ensures.verdict grown c.in_ok-text.ensures.told c.in_ok-text.ensures.rose c.in_ok-text.ensures.counted
+    backs_verdict c.args.desk.now.steps c.args.text.now p.verdict c.args.refused.now.items c.judge.new.refused.items (g.B.Build.log c.args.build.now) (g.B.Build.log c.judge.new.build)
+    c.in_ok-text.ensures.verdict grown c.in_ok-text.ensures.grew

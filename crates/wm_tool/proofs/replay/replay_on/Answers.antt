@@ -13,14 +13,13 @@ returns-in_err-run_lines-clause-part g c =
     let start = opening_of c.args.desk.now.plan in
     let tells = out_from start c.args.lines.now in
     let texts = line_texts c.args.lines.now in
-    let count = g.B.Build.refusals c.args.build.now in
-    let refused = g.B.Build.refused c.args.build.now in
+    let log = g.B.Build.log c.args.build.now in
     let whole : List Refused → List ℕ = λ rs. tells rs [] in
-    let begun : Plays told told c.args.desk.now c.args.refused.now.items c.new-piece.result.items tells whole texts texts count count refused refused =
-    subst (λ rs. Plays told told c.args.desk.now rs c.new-piece.result.items tells whole texts texts count count refused refused) (sym c.requires.none)
-    (subst (λ piece. Plays told told c.args.desk.now [] piece tells whole texts texts count count refused refused) (sym c.new-piece.ensures.items)
-    (begins told c.args.desk.now tells texts count refused c.requires.stands)) in
-    on_err c.from_residual.result (c.in_err-run_lines.ensures.part told whole texts count refused begun).0
+    let begun : Plays told told c.args.desk.now c.args.refused.now.items c.new-piece.result.items tells whole texts texts log log =
+    subst (λ rs. Plays told told c.args.desk.now rs c.new-piece.result.items tells whole texts texts log log) (sym c.requires.none)
+    (subst (λ piece. Plays told told c.args.desk.now [] piece tells whole texts texts log log) (sym c.new-piece.ensures.items)
+    (begins told c.args.desk.now tells texts log c.requires.stands)) in
+    on_err c.from_residual.result (c.in_err-run_lines.ensures.part told whole texts log begun).0
 
 pub returns-in_err-run_lines-clause-backed : goal.returns-in_err-run_lines-clause-backed
 returns-in_err-run_lines-clause-backed g c =
@@ -28,14 +27,13 @@ returns-in_err-run_lines-clause-backed g c =
     let start = opening_of c.args.desk.now.plan in
     let tells = out_from start c.args.lines.now in
     let texts = line_texts c.args.lines.now in
-    let count = g.B.Build.refusals c.args.build.now in
-    let refused = g.B.Build.refused c.args.build.now in
+    let log = g.B.Build.log c.args.build.now in
     let whole : List Refused → List ℕ = λ rs. tells rs [] in
-    let begun : Plays told told c.args.desk.now c.args.refused.now.items c.new-piece.result.items tells whole texts texts count count refused refused =
-    subst (λ rs. Plays told told c.args.desk.now rs c.new-piece.result.items tells whole texts texts count count refused refused) (sym c.requires.none)
-    (subst (λ piece. Plays told told c.args.desk.now [] piece tells whole texts texts count count refused refused) (sym c.new-piece.ensures.items)
-    (begins told c.args.desk.now tells texts count refused c.requires.stands)) in
-    (c.in_err-run_lines.ensures.part told whole texts count refused begun).1
+    let begun : Plays told told c.args.desk.now c.args.refused.now.items c.new-piece.result.items tells whole texts texts log log =
+    subst (λ rs. Plays told told c.args.desk.now rs c.new-piece.result.items tells whole texts texts log log) (sym c.requires.none)
+    (subst (λ piece. Plays told told c.args.desk.now [] piece tells whole texts texts log log) (sym c.new-piece.ensures.items)
+    (begins told c.args.desk.now tells texts log c.requires.stands)) in
+    (c.in_err-run_lines.ensures.part told whole texts log begun).1
 
 pub returns-in_err-write_all-clause-part : goal.returns-in_err-write_all-clause-part
 returns-in_err-write_all-clause-part g c =
@@ -43,14 +41,13 @@ returns-in_err-write_all-clause-part g c =
     let start = opening_of c.args.desk.now.plan in
     let tells = out_from start c.args.lines.now in
     let texts = line_texts c.args.lines.now in
-    let count = g.B.Build.refusals c.args.build.now in
-    let refused = g.B.Build.refused c.args.build.now in
+    let log = g.B.Build.log c.args.build.now in
     let whole : List Refused → List ℕ = λ rs. tells rs [] in
-    let begun : Plays told told c.args.desk.now c.args.refused.now.items c.new-piece.result.items tells whole texts texts count count refused refused =
-    subst (λ rs. Plays told told c.args.desk.now rs c.new-piece.result.items tells whole texts texts count count refused refused) (sym c.requires.none)
-    (subst (λ piece. Plays told told c.args.desk.now [] piece tells whole texts texts count count refused refused) (sym c.new-piece.ensures.items)
-    (begins told c.args.desk.now tells texts count refused c.requires.stands)) in
-    on_err c.from_residual-in_err-write_all.result ((fails told (g.W.Sink.taken c.run_lines.new.sink) (g.W.Sink.taken c.write_all.new.sink) c.run_lines.new.desk c.run_lines.new.refused.items c.run_lines.new.piece.items (out_from start []) whole texts [] count (g.B.Build.refusals c.run_lines.new.build) refused (g.B.Build.refused c.run_lines.new.build) (c.in_ok-run_lines.ensures.ok told whole texts count refused begun) (subst (TakesPart (g.W.Sink.taken c.run_lines.new.sink) (g.W.Sink.taken c.write_all.new.sink)) c.deref.ensures.value c.in_err-write_all.ensures.part)).0)
+    let begun : Plays told told c.args.desk.now c.args.refused.now.items c.new-piece.result.items tells whole texts texts log log =
+    subst (λ rs. Plays told told c.args.desk.now rs c.new-piece.result.items tells whole texts texts log log) (sym c.requires.none)
+    (subst (λ piece. Plays told told c.args.desk.now [] piece tells whole texts texts log log) (sym c.new-piece.ensures.items)
+    (begins told c.args.desk.now tells texts log c.requires.stands)) in
+    on_err c.from_residual-in_err-write_all.result ((fails told (g.W.Sink.taken c.run_lines.new.sink) (g.W.Sink.taken c.write_all.new.sink) c.run_lines.new.desk c.run_lines.new.refused.items c.run_lines.new.piece.items (out_from start []) whole texts [] log (g.B.Build.log c.run_lines.new.build) (c.in_ok-run_lines.ensures.ok told whole texts log begun) (subst (TakesPart (g.W.Sink.taken c.run_lines.new.sink) (g.W.Sink.taken c.write_all.new.sink)) c.deref.ensures.value c.in_err-write_all.ensures.part)).0)
 
 pub returns-in_err-write_all-clause-backed : goal.returns-in_err-write_all-clause-backed
 returns-in_err-write_all-clause-backed g c =
@@ -58,14 +55,13 @@ returns-in_err-write_all-clause-backed g c =
     let start = opening_of c.args.desk.now.plan in
     let tells = out_from start c.args.lines.now in
     let texts = line_texts c.args.lines.now in
-    let count = g.B.Build.refusals c.args.build.now in
-    let refused = g.B.Build.refused c.args.build.now in
+    let log = g.B.Build.log c.args.build.now in
     let whole : List Refused → List ℕ = λ rs. tells rs [] in
-    let begun : Plays told told c.args.desk.now c.args.refused.now.items c.new-piece.result.items tells whole texts texts count count refused refused =
-    subst (λ rs. Plays told told c.args.desk.now rs c.new-piece.result.items tells whole texts texts count count refused refused) (sym c.requires.none)
-    (subst (λ piece. Plays told told c.args.desk.now [] piece tells whole texts texts count count refused refused) (sym c.new-piece.ensures.items)
-    (begins told c.args.desk.now tells texts count refused c.requires.stands)) in
-    (c.in_ok-run_lines.ensures.ok told whole texts count refused begun).backed.backed
+    let begun : Plays told told c.args.desk.now c.args.refused.now.items c.new-piece.result.items tells whole texts texts log log =
+    subst (λ rs. Plays told told c.args.desk.now rs c.new-piece.result.items tells whole texts texts log log) (sym c.requires.none)
+    (subst (λ piece. Plays told told c.args.desk.now [] piece tells whole texts texts log log) (sym c.new-piece.ensures.items)
+    (begins told c.args.desk.now tells texts log c.requires.stands)) in
+    (c.in_ok-run_lines.ensures.ok told whole texts log begun).backed.backed
 
 pub returns-clause-ok : goal.returns-clause-ok
 returns-clause-ok g c =
@@ -73,14 +69,13 @@ returns-clause-ok g c =
     let start = opening_of c.args.desk.now.plan in
     let tells = out_from start c.args.lines.now in
     let texts = line_texts c.args.lines.now in
-    let count = g.B.Build.refusals c.args.build.now in
-    let refused = g.B.Build.refused c.args.build.now in
+    let log = g.B.Build.log c.args.build.now in
     let whole : List Refused → List ℕ = λ rs. tells rs [] in
-    let begun : Plays told told c.args.desk.now c.args.refused.now.items c.new-piece.result.items tells whole texts texts count count refused refused =
-    subst (λ rs. Plays told told c.args.desk.now rs c.new-piece.result.items tells whole texts texts count count refused refused) (sym c.requires.none)
-    (subst (λ piece. Plays told told c.args.desk.now [] piece tells whole texts texts count count refused refused) (sym c.new-piece.ensures.items)
-    (begins told c.args.desk.now tells texts count refused c.requires.stands)) in
-    (ends told (g.W.Sink.taken c.run_lines.new.sink) (g.W.Sink.taken c.write_all.new.sink) c.run_lines.new.desk c.run_lines.new.refused.items c.run_lines.new.piece.items (out_from start []) whole (λ rs history. refl) (c.in_ok-run_lines.ensures.ok told whole texts count refused begun).runs (subst (TakesAll (g.W.Sink.taken c.run_lines.new.sink) (g.W.Sink.taken c.write_all.new.sink)) c.deref.ensures.value c.in_ok-write_all.ensures.ok))
+    let begun : Plays told told c.args.desk.now c.args.refused.now.items c.new-piece.result.items tells whole texts texts log log =
+    subst (λ rs. Plays told told c.args.desk.now rs c.new-piece.result.items tells whole texts texts log log) (sym c.requires.none)
+    (subst (λ piece. Plays told told c.args.desk.now [] piece tells whole texts texts log log) (sym c.new-piece.ensures.items)
+    (begins told c.args.desk.now tells texts log c.requires.stands)) in
+    (ends told (g.W.Sink.taken c.run_lines.new.sink) (g.W.Sink.taken c.write_all.new.sink) c.run_lines.new.desk c.run_lines.new.refused.items c.run_lines.new.piece.items (out_from start []) whole (λ rs history. refl) (c.in_ok-run_lines.ensures.ok told whole texts log begun).runs (subst (TakesAll (g.W.Sink.taken c.run_lines.new.sink) (g.W.Sink.taken c.write_all.new.sink)) c.deref.ensures.value c.in_ok-write_all.ensures.ok))
 
 pub returns-clause-backed : goal.returns-clause-backed
 returns-clause-backed g c =
@@ -88,14 +83,13 @@ returns-clause-backed g c =
     let start = opening_of c.args.desk.now.plan in
     let tells = out_from start c.args.lines.now in
     let texts = line_texts c.args.lines.now in
-    let count = g.B.Build.refusals c.args.build.now in
-    let refused = g.B.Build.refused c.args.build.now in
+    let log = g.B.Build.log c.args.build.now in
     let whole : List Refused → List ℕ = λ rs. tells rs [] in
-    let begun : Plays told told c.args.desk.now c.args.refused.now.items c.new-piece.result.items tells whole texts texts count count refused refused =
-    subst (λ rs. Plays told told c.args.desk.now rs c.new-piece.result.items tells whole texts texts count count refused refused) (sym c.requires.none)
-    (subst (λ piece. Plays told told c.args.desk.now [] piece tells whole texts texts count count refused refused) (sym c.new-piece.ensures.items)
-    (begins told c.args.desk.now tells texts count refused c.requires.stands)) in
-    (c.in_ok-run_lines.ensures.ok told whole texts count refused begun).backed.backed
+    let begun : Plays told told c.args.desk.now c.args.refused.now.items c.new-piece.result.items tells whole texts texts log log =
+    subst (λ rs. Plays told told c.args.desk.now rs c.new-piece.result.items tells whole texts texts log log) (sym c.requires.none)
+    (subst (λ piece. Plays told told c.args.desk.now [] piece tells whole texts texts log log) (sym c.new-piece.ensures.items)
+    (begins told c.args.desk.now tells texts log c.requires.stands)) in
+    (c.in_ok-run_lines.ensures.ok told whole texts log begun).backed.backed
 
 -- it has stopped as its lines did
 pub returns-in_err-run_lines-clause-err : goal.returns-in_err-run_lines-clause-err

@@ -19,7 +19,7 @@ returns-in-Run g c =
     let refused = c.run_and_tell.new.refused.items in
     let Led : (History → Effect) → Type 0 = λ effect. OnOk c.run_and_tell.result (Leads desk next (λ h. after_effect (effect h) h) (λ h. effect_text start h (effect h)) c.args.piece.now.items c.run_and_tell.new.piece.items) in
     let Grown : List (Option (List ℕ)) → Type 0 = λ steps. Grows desk.steps steps before refused in
-    let Kept : List (Option (List ℕ)) → Type 0 = λ steps. Backs desk.steps steps before refused (g.B.Build.refusals c.args.build.now) (g.B.Build.refusals c.run_and_tell.new.build) (g.B.Build.refused c.args.build.now) (g.B.Build.refused c.run_and_tell.new.build) in
+    let Kept : List (Option (List ℕ)) → Type 0 = λ steps. Backs desk.steps steps before refused (g.B.Build.log c.args.build.now) (g.B.Build.log c.run_and_tell.new.build) in
     record {
       ok = λ none.
           subst (λ d. Led (λ h. effect_of line.who refused h d)) (sym c.in-Run.is)
@@ -43,5 +43,5 @@ returns-in-Some g c =
       steps = subst (λ steps. OnOk c.take.result (c.take.new.desk.steps ≡ desk.steps + length steps)) one c.take.ensures.steps;
       plan = c.take.ensures.plan;
       grows = inl refl;
-      backs = unchanged desk.steps (line_step line) refused (g.B.Build.refusals c.args.build.now) (g.B.Build.refused c.args.build.now);
+      backs = unchanged desk.steps (line_step line) refused (g.B.Build.log c.args.build.now);
     }
