@@ -10,7 +10,7 @@ use Rattle.wm_tool.specs.Output.{after, after_effect, line_step, line_texts, tol
 use Rattle.wm_tool.specs.Refusals.{IsBacked, refusal_at}
 use Rattle.wm_tool.specs.Running.{Backs, Draws, Grows, Holds, Leads}
 use Rattle.wm_tool.proofs.LineLemmas.{line_longer, line_same, rest_is}
-use Rattle.wm_tool.proofs.RunLemmas.{begins, made, plays_step, stops_step}
+use Rattle.wm_tool.proofs.RunLemmas.{made, plays_step, stops_step}
 
 -- what leads on leads on where it tells nothing
 quiet : (old new : DeskValue) (step : History → History) (says : History → List ℕ) (before text : List ℕ) → Leads old new step says before text → Leads old new step (λ h. []) [] []
@@ -55,13 +55,6 @@ pub drawn_whole : (start : Start) (desk : DeskValue) (refused : List Refused) (w
 drawn_whole start desk refused whole texts ahead first log p =
     ap (λ xs. xs ++ picture start p.runs.history) (sym (none_said p.runs.said p.runs.taken))
     ∙ made (Some []) (Some []) desk refused [] (drawn_from start []) whole p.runs
-
--- nothing is drawn before the lines
-pub begun : (start : Start) (lines : List Line) (desk : DeskValue) (refused : List Refused) (texts : List (Option (List ℕ))) (log : Log) → refused ≡ [] → Stands desk []
-    → Draws desk refused (drawn_from start lines) (λ rs. drawn_from start lines rs []) texts texts log log
-begun start lines desk refused texts log none stands =
-    subst (λ rs. Draws desk rs (drawn_from start lines) (λ xs. drawn_from start lines xs []) texts texts log log) (sym none)
-    (begins (Some []) desk (drawn_from start lines) texts log stands)
 
 -- the picture of the desk's frame is what is drawn for the lines
 pub drawn_is : (start : Start) (lines : List Line) (desk : DeskValue) (refused : List Refused) (texts ahead : List (Option (List ℕ))) (first log : Log) (bytes : List ℕ) → start ≡ opening_of desk.plan

@@ -34,13 +34,14 @@ grew_none log = record { kept = omega arith; rose = omega arith; told = tells_no
 pub nothing_backed : (texts : List (Option (List ℕ))) (log : Log) → IsBacked texts [] log log
 nothing_backed texts log = record { rising = tt; fair = tt; grew = grew_none log }
 
-pub begins : (old : Option (List ℕ)) (desk : DeskValue) (tells : List Refused → History → List ℕ) (texts : List (Option (List ℕ))) (log : Log) → Stands desk []
-    → Plays old old desk [] [] tells (λ refused. tells refused []) texts texts log log
-begins old desk tells texts log stands = record {
-  runs = record { history = []; stands = stands; said = []; taken = holds_none old; makes = λ more rising. refl };
-  backed = record { below = tt; backed = nothing_backed texts log };
-  left = ap (λ n. drop n texts) stands.counted;
-}
+pub begins : (old : Option (List ℕ)) (desk : DeskValue) (refused : List Refused) (piece : List ℕ) (tells : List Refused → History → List ℕ) (texts : List (Option (List ℕ))) (log : Log)
+    → refused ≡ [] → piece ≡ [] → Stands desk [] → Plays old old desk refused piece tells (λ rs. tells rs []) texts texts log log
+begins old desk refused piece tells texts log none empty stands =
+    rw (none, empty) (record {
+      runs = record { history = []; stands = stands; said = []; taken = holds_none old; makes = λ more rising. refl };
+      backed = record { below = tt; backed = nothing_backed texts log };
+      left = ap (λ n. drop n texts) stands.counted;
+    })
 
 -- ---- what was written when a run stops
 
@@ -179,7 +180,7 @@ module _ (old now : Option (List ℕ)) (desk : DeskValue) (before later_refused 
             )))
 
     backed_after : IsBackedTo (desk.steps + length steps) texts later_refused first l2
-    backed_after = backs texts ahead log p.left p.backed
+    backed_after = backs texts ahead first p.left p.backed
 
     -- a step that want of memory stopped
     pub stops_step : Stops old now whole later_refused texts first l2
@@ -194,7 +195,7 @@ module _ (old now : Option (List ℕ)) (desk : DeskValue) (before later_refused 
         → ((rs more : List Refused) (h : History) → IsRising (length (step rs h)) more → (step (rs ++ more) h ≡ step rs h) × (says (rs ++ more) h ≡ says rs h))
         → (refusal_at desk.steps before ≡ None → Leads desk next (step later_refused) (says later_refused) piece text) → next.steps ≡ desk.steps + length steps
         → Plays old now next later_refused text later whole texts ahead first l2
-    plays_step next text first same leads moved =
+    plays_step next text splits same leads moved =
         let h = p.runs.history in
         let led = leads (refusal_before desk.steps before p.backed.below) h p.runs.stands in
         record {
@@ -210,7 +211,7 @@ module _ (old now : Option (List ℕ)) (desk : DeskValue) (before later_refused 
                 ap (λ xs. p.runs.said ++ xs)
                 (ap (λ xs. xs ++ ahead_text) led.1
                 ∙ (append_assoc piece (says later_refused h) ahead_text
-                ∙ ap (λ xs. piece ++ xs) (sym (first rs h ∙ (ap (λ x. x ++ later rs (step rs h)) s.1 ∙ ap (λ z. says later_refused h ++ later rs z) s.0)))))
+                ∙ ap (λ xs. piece ++ xs) (sym (splits rs h ∙ (ap (λ x. x ++ later rs (step rs h)) s.1 ∙ ap (λ z. says later_refused h ++ later rs z) s.0)))))
                 ∙ makes_after more rising;
           };
           backed = subst (λ n. IsBackedTo n texts later_refused first l2) (sym moved) backed_after;
