@@ -51,6 +51,7 @@ pub record ListState : Type 0 where
   pub told : List (List ℕ)
   pub refusals : ℕ
 
+-- its log, with all the texts that it refused
 abbrev pub list_log : ListState → Log
 list_log build = record { count = build.refusals; texts = Some build.told }
 
