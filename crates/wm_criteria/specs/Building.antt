@@ -39,7 +39,7 @@ abbrev pub Tells : Option (List (List ℕ)) → Option (List (List ℕ)) → Lis
 Tells None new refused = ⊤
 Tells (Some old) new refused = new ≡ Some (old ++ refused)
 
--- between the two logs these texts and no others were refused, in this order
+-- between two logs these texts were refused, in this order: the count rose by as many, and no others are told
 pub record Grew (old new : Log) (refused : List (List ℕ)) : Type 0 where
   pub kept : old.count ≤ new.count
   pub rose : RoseBy (length refused) old.count new.count

@@ -35,8 +35,7 @@ impl<T: Drop> From<AllocFailed<T>> for Stop {
 fn key_form<B: Build>(alloc: Global, key: &Key, number: u32, build: &mut B) -> Result<Form, Stop>
     ensures form { IfOk result (λ f. f ≡ to_build key.now) }
     ensures stop { IfErr result (IsStop number (option_to_list (pattern_of key.now))) }
-    ensures grew { Grew (B.log build.old) (B.log build.new)
-        (texts_of number (option_to_list (pattern_of key.now)) result) }
+    ensures grew { Grew (B.log build.old) (B.log build.new) (texts_of number (option_to_list (pattern_of key.now)) result) }
 {
     let Some(pattern) = to_build(key) else {
         return Ok(Form::none())
@@ -70,8 +69,7 @@ fn key_forms<B: Build>(
     ensures forms { IfOk result (λ x. x.0 ≡ map to_build keys.now) }
     ensures number { IfOk result (λ x. x.1 ≡ first + length (key_patterns keys.now)) }
     ensures stop { IfErr result (IsStop first (key_patterns keys.now)) }
-    ensures grew { Grew (B.log build.old) (B.log build.new)
-        (texts_of first (key_patterns keys.now) result) }
+    ensures grew { Grew (B.log build.old) (B.log build.new) (texts_of first (key_patterns keys.now) result) }
 {
     let mut forms = Vec::new(alloc);
     let mut number = first;
@@ -93,8 +91,7 @@ pub fn group_forms<B: Build>(
     requires { length (patterns_of groups.now) < 2 ^ 32 }
     ensures forms { IfOk result (λ fs. fs ≡ forms_of groups.now) }
     ensures stop { IfErr result (IsStop 0 (patterns_of groups.now)) }
-    ensures grew { Grew (B.log build.old) (B.log build.new)
-        (texts_of 0 (patterns_of groups.now) result) }
+    ensures grew { Grew (B.log build.old) (B.log build.new) (texts_of 0 (patterns_of groups.now) result) }
 {
     let mut all = Vec::new(alloc);
     let mut number = 0;
