@@ -8,7 +8,7 @@ use Rattle.wm_tool.specs.declared.status.Refused.{Refused}
 use Rattle.wm_tool.specs.Drawing.{drawn_from, picture}
 use Rattle.wm_tool.specs.Output.{after, after_effect, line_step, line_texts, told}
 use Rattle.wm_tool.specs.Refusals.{IsBacked, refusal_at}
-use Rattle.wm_tool.specs.Running.{Backs, Draws, Grows, Holds, Leads}
+use Rattle.wm_tool.specs.Running.{Draws, Holds, Leads, Notes}
 use Rattle.wm_tool.proofs.LineLemmas.{line_longer, line_same, rest_is}
 use Rattle.wm_tool.proofs.RunLemmas.{made, plays_step, stops_step}
 
@@ -19,7 +19,7 @@ quiet old new step says before text leads = λ history stands. ((leads history s
 module _ (start : Start) (desk : DeskValue) (before after_refused : List Refused) (whole : List Refused → List ℕ) (texts : List (Option (List ℕ)))
     (first l1 l2 : Log) (g d : Line) (rest : List Line) (some : 1 ≤ length rest) (is : g ≡ get_or rest 0 d)
     (p : Draws desk before (drawn_from start rest) whole texts (line_texts rest) first l1)
-    (grown : Grows desk.steps (line_step g) before after_refused) (backs : Backs desk.steps (line_step g) before after_refused l1 l2)
+    (notes : Notes desk.steps (line_step g) before after_refused l1 l2)
   where
     abbrev others : List Line
     others = take (length rest - 1) (drop 1 rest)
@@ -30,14 +30,14 @@ module _ (start : Start) (desk : DeskValue) (before after_refused : List Refused
     pub stops_line : IsBacked texts after_refused first l2
     stops_line =
         (stops_step (Some []) (Some []) desk before after_refused [] (after g) (λ rs h. []) (drawn_from start (g ∷ others)) (drawn_from start others) whole texts (line_step g) (line_texts others) first l1 l2
-        (line_longer g) first_line grown backs).1
+        (line_longer g) first_line notes).1
 
     pub draws_line : (next : DeskValue) (start_told : Start) (piece text : List ℕ)
         → (refusal_at desk.steps before ≡ None → Leads desk next (after g after_refused) (told start_told g after_refused) piece text)
         → next.steps ≡ desk.steps + length (line_step g) → Draws next after_refused (drawn_from start others) whole texts (line_texts others) first l2
     draws_line next start_told piece text leads moved =
         plays_step (Some []) (Some []) desk before after_refused [] (after g) (λ rs h. []) (drawn_from start (g ∷ others)) (drawn_from start others) whole texts (line_step g) (line_texts others) first l1 l2
-        (line_longer g) first_line grown backs
+        (line_longer g) first_line notes
         next [] (λ rs h. refl)
         (λ rs more h rising. (ap (λ d. after_effect d h) (line_same g rs more h rising), refl))
         (λ none. quiet desk next (after g after_refused) (told start_told g after_refused) piece text (leads none))

@@ -18,7 +18,7 @@ use Rattle.wm_grammar.specs.Reading.{batch_of, groups_of, is_whole, IsReach}
 use Rattle.wm_language.specs.declared.batch.Group.{Group}
 use Rattle.wm_tool.specs.declared.status.Refused.{Refused}
 use Rattle.wm_tool.specs.Refusals.{IsRefusable, IsRising, pattern_in, patterns_in, reach, refusal_at, text_at, verdict_by, verdict_of}
-use Rattle.wm_tool.specs.Running.{Backs, Grows, IsBackedTo, fresh}
+use Rattle.wm_tool.specs.Running.{Backs, IsBackedTo, Notes, fresh}
 
 -- ---- places
 
@@ -147,17 +147,20 @@ text_of_drop (suc n) [] later text e = cc
 text_of_drop (suc n) (x ∷ xs) later text e = text_of_drop n xs later text e
 
 -- steps that refuse nothing keep what is backed
-pub keeps_backed : (place : ℕ) (steps : List (Option (List ℕ))) (before after : List Refused) (old new : Log) → after ≡ before → Grew old new [] → Backs place steps before after old new
-keeps_backed place steps before after old new same grew = λ texts later first ahead b.
-    subst (λ rs. IsBackedTo (place + length steps) texts rs first new) (sym same)
-    record {
-      below = below_weaker place (place + length steps) before (omega arith) b.below;
-      backed = record {
-        rising = b.backed.rising;
-        fair = b.backed.fair;
-        grew = subst (Grew first new) (append-nil (patterns_in texts before)) (grew_both first old new (patterns_in texts before) [] b.backed.grew grew);
+pub keeps_noted : (place : ℕ) (steps : List (Option (List ℕ))) (before after : List Refused) (old new : Log) → after ≡ before → Grew old new [] → Notes place steps before after old new
+keeps_noted place steps before after old new same grew = record {
+  grown = inl same;
+  backed = λ texts later first ahead b.
+      subst (λ rs. IsBackedTo (place + length steps) texts rs first new) (sym same)
+      record {
+        below = below_weaker place (place + length steps) before (omega arith) b.below;
+        backed = record {
+          rising = b.backed.rising;
+          fair = b.backed.fair;
+          grew = subst (Grew first new) (append-nil (patterns_in texts before)) (grew_both first old new (patterns_in texts before) [] b.backed.grew grew);
+        };
       };
-    }
+}
 
 module _ (place k : ℕ) (text : List ℕ) (before : List Refused) (old new : Log)
     (refusable : IsTrue (is_some (unless_plain (pattern_at text k)))) (grew : Grew old new (option_to_list (pattern_at text k)))
@@ -182,14 +185,11 @@ module _ (place k : ℕ) (text : List ℕ) (before : List Refused) (old new : Lo
         }
 
 -- a text with a verdict keeps what is backed, with the refusal that the verdict is
-pub backs_verdict : (place : ℕ) (text : List ℕ) (v : Verdict) (before after : List Refused) (old new : Log) → IsVerdict text v → after ≡ before ++ fresh place v
-    → Grew old new (refused_patterns text v) → Backs place (Some text ∷ []) before after old new
-backs_verdict place text (Ready batch) before after old new is grown grew = keeps_backed place (Some text ∷ []) before after old new (grown ∙ append-nil before) grew
-backs_verdict place text (Bad at) before after old new is grown grew = keeps_backed place (Some text ∷ []) before after old new (grown ∙ append-nil before) grew
-backs_verdict place text (PatternRefused k) before after old new is grown grew =
-    subst (λ rs. Backs place (Some text ∷ []) before rs old new) (sym grown) (backs_refusal place k text before old new is grew)
-
-pub grows_verdict : (place : ℕ) (text : List ℕ) (v : Verdict) (before after : List Refused) → after ≡ before ++ fresh place v → Grows place (Some text ∷ []) before after
-grows_verdict place text (Ready batch) before after grown = inl (grown ∙ append-nil before)
-grows_verdict place text (Bad at) before after grown = inl (grown ∙ append-nil before)
-grows_verdict place text (PatternRefused k) before after grown = inr (record { place = place; pattern = k }, refl, grown, omega arith)
+pub notes_verdict : (place : ℕ) (text : List ℕ) (v : Verdict) (before after : List Refused) (old new : Log) → IsVerdict text v → after ≡ before ++ fresh place v
+    → Grew old new (refused_patterns text v) → Notes place (Some text ∷ []) before after old new
+notes_verdict place text (Ready batch) before after old new is grown grew = keeps_noted place (Some text ∷ []) before after old new (grown ∙ append-nil before) grew
+notes_verdict place text (Bad at) before after old new is grown grew = keeps_noted place (Some text ∷ []) before after old new (grown ∙ append-nil before) grew
+notes_verdict place text (PatternRefused k) before after old new is grown grew = record {
+  grown = inr (record { place = place; pattern = k }, refl, grown, omega arith);
+  backed = subst (λ rs. Backs place (Some text ∷ []) before rs old new) (sym grown) (backs_refusal place k text before old new is grew);
+}

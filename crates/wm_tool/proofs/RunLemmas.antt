@@ -11,12 +11,12 @@ use Rattle.wm_tool.specs.declared.status.Refused.{Refused}
 use Rattle.wm_tool.specs.Ending.{HasStopped}
 use Rattle.wm_tool.specs.Output.{takes, entry_of, run_entry, told}
 use Rattle.wm_tool.specs.Refusals.{IsBacked, IsRising, refusal_at, verdict_of}
-use Rattle.wm_tool.specs.Running.{Backs, Grows, Holds, IsBackedTo, Leads, Plays, Runs, Stops, Writes, fresh}
+use Rattle.wm_tool.specs.Running.{Grows, Holds, IsBackedTo, Leads, Notes, Plays, Runs, Stops, Writes, fresh}
 use Rattle.wm_core.specs.Act.{Run, act_of}
 use Rattle.wm_core.specs.declared.step.Step.TheVariants as steps_of
 use Rattle.wm_criteria.specs.declared.prepared.Prepared.{Prepared}
 use Rattle.wm_criteria.specs.Verdict.{IsVerdict}
-use Rattle.wm_tool.proofs.RefusalLemmas.{keeps_backed, refusal_before, rising_weaker, verdict_is, verdict_same}
+use Rattle.wm_tool.proofs.RefusalLemmas.{keeps_noted, refusal_before, rising_weaker, verdict_is, verdict_same}
 
 -- ---- the beginning
 
@@ -157,12 +157,12 @@ module _ (old now : Option (List ℕ)) (desk : DeskValue) (before later_refused 
     (texts steps ahead : List (Option (List ℕ))) (first l1 l2 : Log)
     (longer : (rs : List Refused) (h : History) → length (step rs h) ≡ length h + length steps)
     (p : Plays old now desk before piece tells whole texts (steps ++ ahead) first l1)
-    (grown : Grows desk.steps steps before later_refused) (backs : Backs desk.steps steps before later_refused l1 l2)
+    (notes : Notes desk.steps steps before later_refused l1 l2)
   where
     -- what made the whole makes it with the refusals after the step
     makes_after : (more : List Refused) (rising : IsRising (length (step later_refused p.runs.history)) more)
         → p.runs.said ++ (piece ++ tells (later_refused ++ more) p.runs.history) ≡ whole (later_refused ++ more)
-    makes_after more rising = by_grown grown
+    makes_after more rising = by_grown notes.grown
       where
         Makes : List Refused → Type 0
         Makes rs = p.runs.said ++ (piece ++ tells (rs ++ more) p.runs.history) ≡ whole (rs ++ more)
@@ -180,7 +180,7 @@ module _ (old now : Option (List ℕ)) (desk : DeskValue) (before later_refused 
             )))
 
     backed_after : IsBackedTo (desk.steps + length steps) texts later_refused first l2
-    backed_after = backs texts ahead first p.left p.backed
+    backed_after = notes.backed texts ahead first p.left p.backed
 
     -- a step that want of memory stopped
     pub stops_step : Stops old now whole later_refused texts first l2
@@ -231,8 +231,8 @@ run_entry_is who place history before after_refused text p none at same is grown
     ap₂ (λ t v. entry_of who (Run (record { text = t; verdict = v }))) same
     (sym (verdict_is place before text p.verdict none is) ∙ (ap (λ rs. verdict_of rs place text) (sym grown) ∙ ap (λ n. verdict_of after_refused n text) at))
 
-pub unchanged : (place : ℕ) (steps : List (Option (List ℕ))) (rs : List Refused) (log : Log) → Backs place steps rs rs log log
-unchanged place steps rs log = keeps_backed place steps rs rs log log refl (grew_none log)
+pub unchanged : (place : ℕ) (steps : List (Option (List ℕ))) (rs : List Refused) (log : Log) → Notes place steps rs rs log log
+unchanged place steps rs log = keeps_noted place steps rs rs log log refl (grew_none log)
 
 pub on_ok : {A : Type 0} {E : Type 0} {P : Type 0} (r : Result A E) → P → OnOk r P
 on_ok (Ok x) p = p

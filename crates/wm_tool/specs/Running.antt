@@ -62,6 +62,11 @@ Backs place steps before after old new =
 abbrev pub Grows : ℕ → List (Option (List ℕ)) → List Refused → List Refused → Type 0
 Grows place steps before after = (after ≡ before) ⊎ ((r : Refused) × (r.place ≡ place) × (after ≡ before ++ r ∷ []) × (1 ≤ length steps))
 
+-- what steps with these texts, from this place on, make of a list of refusals: it has one more at most, and is backed as before
+pub record Notes (place : ℕ) (steps : List (Option (List ℕ))) (before after : List Refused) (old new : Log) : Type 0 where
+  pub grown : Grows place steps before after
+  pub backed : Backs place steps before after old new
+
 -- ---- a run and its refusals
 
 -- what a run is at, the steps that are ahead being these

@@ -12,7 +12,7 @@ ghost use Rattle.wm_tool.specs.Ending.{HasStopped};
 ghost use Rattle.wm_tool.specs.Ipc.{after_message, framed, message_step, message_texts, plain_payload, replied, replies_from, replies_of, request_by};
 ghost use Rattle.wm_tool.specs.Output.{run_entry};
 ghost use Rattle.wm_tool.specs.Refusals.{refusal_at, IsBacked};
-ghost use Rattle.wm_tool.specs.Running.{Backs, Grows, Leads, Plays, Stops};
+ghost use Rattle.wm_tool.specs.Running.{Leads, Notes, Plays, Stops};
 ghost use Rattle.wm_tool.specs.declared.status.Refused.{Refused};
 
 use crate::judging::run_text;
@@ -108,8 +108,7 @@ fn answer_message<B: Build>(
         OnOk result (Leads desk.old desk.new (after_message message.now refused.new.items) (replied (opening_of desk.old.plan) message.now refused.new.items) piece.old.items piece.new.items) }
     ensures steps { OnOk result (desk.new.steps ≡ desk.old.steps + length (message_step message.now)) }
     ensures plan { OnOk result (desk.new.plan ≡ desk.old.plan) }
-    ensures grows { Grows desk.old.steps (message_step message.now) refused.old.items refused.new.items }
-    ensures backs { Backs desk.old.steps (message_step message.now) refused.old.items refused.new.items (B.log build.old) (B.log build.new) }
+    ensures notes { Notes desk.old.steps (message_step message.now) refused.old.items refused.new.items (B.log build.old) (B.log build.new) }
 {
     if message.kind == RUN_COMMAND {
         return answer_command(alloc, desk, message, build, refused, piece);
@@ -133,8 +132,7 @@ fn answer_command<B: Build>(
         OnOk result (Leads desk.old desk.new (after_message message.now refused.new.items) (replied (opening_of desk.old.plan) message.now refused.new.items) piece.old.items piece.new.items) }
     ensures steps { OnOk result (desk.new.steps ≡ desk.old.steps + length (message_step message.now)) }
     ensures plan { OnOk result (desk.new.plan ≡ desk.old.plan) }
-    ensures grows { Grows desk.old.steps (message_step message.now) refused.old.items refused.new.items }
-    ensures backs { Backs desk.old.steps (message_step message.now) refused.old.items refused.new.items (B.log build.old) (B.log build.new) }
+    ensures notes { Notes desk.old.steps (message_step message.now) refused.old.items refused.new.items (B.log build.old) (B.log build.new) }
 {
     match str::from_utf8(message.payload.items()) {
         Ok(text) => answer_text(alloc, desk, text, build, refused, piece),
@@ -162,8 +160,7 @@ fn answer_text<B: Build>(
         piece.old.items piece.new.items) }
     ensures steps { OnOk result (desk.new.steps ≡ desk.old.steps + 1) }
     ensures plan { OnOk result (desk.new.plan ≡ desk.old.plan) }
-    ensures grows { Grows desk.old.steps (Some text.now ∷ []) refused.old.items refused.new.items }
-    ensures backs { Backs desk.old.steps (Some text.now ∷ []) refused.old.items refused.new.items (B.log build.old) (B.log build.new) }
+    ensures notes { Notes desk.old.steps (Some text.now ∷ []) refused.old.items refused.new.items (B.log build.old) (B.log build.new) }
 {
     let answer = run_text(alloc, desk, 0, text, build, refused)?;
     let replies = answer_replies(alloc, &answer)?;

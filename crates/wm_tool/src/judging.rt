@@ -7,7 +7,7 @@ ghost use Rattle.wm_criteria.specs.Prepared.{is_built, refused_by};
 ghost use Rattle.wm_criteria.specs.Verdict.{IsVerdict};
 ghost use Rattle.wm_tool.specs.Output.{run_entry};
 ghost use Rattle.wm_tool.specs.Refusals.{refusal_at};
-ghost use Rattle.wm_tool.specs.Running.{Backs, fresh_by, Grows};
+ghost use Rattle.wm_tool.specs.Running.{fresh_by, Notes};
 
 use crate::status::Refused;
 use std::alloc::Global;
@@ -55,8 +55,7 @@ pub fn run_text<B: Build>(
         OnOk result (Stands desk.new (run_entry who refused.new.items history text.now ∷ history)) }
     ensures steps { OnOk result (desk.new.steps ≡ desk.old.steps + 1) }
     ensures plan { OnOk result (desk.new.plan ≡ desk.old.plan) }
-    ensures grows { Grows desk.old.steps (Some text.now ∷ []) refused.old.items refused.new.items }
-    ensures backs { Backs desk.old.steps (Some text.now ∷ []) refused.old.items refused.new.items (B.log build.old) (B.log build.new) }
+    ensures notes { Notes desk.old.steps (Some text.now ∷ []) refused.old.items refused.new.items (B.log build.old) (B.log build.new) }
 {
     let text = judge(alloc, text, desk.steps(), build, refused)?;
     let step = Step::Run(text);

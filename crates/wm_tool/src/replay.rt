@@ -13,7 +13,7 @@ ghost use Rattle.wm_ports.specs.Told.{TakesAll, TakesPart};
 ghost use Rattle.wm_tool.specs.Ending.{HasStopped};
 ghost use Rattle.wm_tool.specs.Output.{after, answer_text, entry_of, line_step, line_texts, out_from, run_entry, start_of, told, view_text};
 ghost use Rattle.wm_tool.specs.Refusals.{refusal_at, IsBacked};
-ghost use Rattle.wm_tool.specs.Running.{Backs, Grows, Leads, Plays, Stops, Writes};
+ghost use Rattle.wm_tool.specs.Running.{Leads, Notes, Plays, Stops, Writes};
 ghost use Rattle.wm_script.specs.Script.{IsFitLine, IsSoundScript};
 ghost use Rattle.wm_tool.specs.declared.status.Refused.{Refused};
 ghost use Rattle.wm_tool.specs.declared.replay.Stop.TheVariants as stops;
@@ -169,8 +169,7 @@ pub(crate) fn run_line<B: Build>(
         OnOk result (Leads desk.old desk.new (after line.now refused.new.items) (told (opening_of desk.old.plan) line.now refused.new.items) piece.old.items piece.new.items) }
     ensures steps { OnOk result (desk.new.steps ≡ desk.old.steps + length (line_step line.now)) }
     ensures plan { OnOk result (desk.new.plan ≡ desk.old.plan) }
-    ensures grows { Grows desk.old.steps (line_step line.now) refused.old.items refused.new.items }
-    ensures backs { Backs desk.old.steps (line_step line.now) refused.old.items refused.new.items (B.log build.old) (B.log build.new) }
+    ensures notes { Notes desk.old.steps (line_step line.now) refused.old.items refused.new.items (B.log build.old) (B.log build.new) }
 {
     match &line.deed {
         Deed::Run(text) => {
@@ -209,8 +208,7 @@ fn run_and_tell<B: Build>(
         (λ history. answer_text (answer (opening_of desk.old.plan) history (run_entry who refused.new.items history text.now))) piece.old.items piece.new.items) }
     ensures steps { OnOk result (desk.new.steps ≡ desk.old.steps + 1) }
     ensures plan { OnOk result (desk.new.plan ≡ desk.old.plan) }
-    ensures grows { Grows desk.old.steps (Some text.now ∷ []) refused.old.items refused.new.items }
-    ensures backs { Backs desk.old.steps (Some text.now ∷ []) refused.old.items refused.new.items (B.log build.old) (B.log build.new) }
+    ensures notes { Notes desk.old.steps (Some text.now ∷ []) refused.old.items refused.new.items (B.log build.old) (B.log build.new) }
 {
     let answer = run_text(alloc, desk, who, text, build, refused)?;
     push_answer(alloc, piece, &answer)

@@ -14,7 +14,7 @@ pub returns-in_err-run_line-clause-part : goal.returns-in_err-run_line-clause-pa
 returns-in_err-run_line-clause-part g c = λ whole texts first p.
     on_err c.from_residual.result
     (stops_line (opening_of c.args.desk.now.plan) c.loop-rest.desk c.loop-rest.refused.items c.run_line.new.refused.items whole texts first (g.B.Build.log c.loop-rest.build) (g.B.Build.log c.run_line.new.build)
-    c.line-item.result _ c.loop-rest.rest.now c.in-len1-up.len_at_least c.line-item.is (c.loop-rest.invariant.draws whole texts first p) c.run_line.ensures.grows c.run_line.ensures.backs)
+    c.line-item.result _ c.loop-rest.rest.now c.in-len1-up.len_at_least c.line-item.is (c.loop-rest.invariant.draws whole texts first p) c.run_line.ensures.notes)
 
 pub loop-rest-preserved : goal.loop-rest-preserved
 loop-rest-preserved g c =
@@ -25,7 +25,7 @@ loop-rest-preserved g c =
       plan = c.in_ok-run_line.ensures.plan ∙ kept.plan;
       draws = λ whole texts first p.
           draws_line (opening_of c.args.desk.now.plan) c.loop-rest.desk c.loop-rest.refused.items c.run_line.new.refused.items whole texts first (g.B.Build.log c.loop-rest.build) (g.B.Build.log c.run_line.new.build)
-          c.line-item.result _ c.loop-rest.rest.now c.in-len1-up.len_at_least c.line-item.is (c.loop-rest.invariant.draws whole texts first p) c.run_line.ensures.grows c.run_line.ensures.backs
+          c.line-item.result _ c.loop-rest.rest.now c.in-len1-up.len_at_least c.line-item.is (c.loop-rest.invariant.draws whole texts first p) c.run_line.ensures.notes
           c.run_line.new.desk (opening_of c.loop-rest.desk.plan) c.loop-rest.told.items c.run_line.new.piece.items c.in_ok-run_line.ensures.ok c.in_ok-run_line.ensures.steps;
     }
 

@@ -16,7 +16,7 @@ returns-in_err-answered-clause-part g c = λ old whole texts first p.
     let desk = c.loop-message.desk in
     on_err c.from_residual.result
     (stops_message old now desk c.loop-message.refused.items c.answer_message-answered.new.refused.items [] whole texts first (g.B.Build.log c.loop-message.build) (g.B.Build.log c.answer_message-answered.new.build)
-    c.in-Some.message c.loop-message.decoder.queue c.next.new.self.queue c.in-Some.ensures.queue (c.loop-message.invariant.plays old whole texts first p) c.answer_message-answered.ensures.grows c.answer_message-answered.ensures.backs)
+    c.in-Some.message c.loop-message.decoder.queue c.next.new.self.queue c.in-Some.ensures.queue (c.loop-message.invariant.plays old whole texts first p) c.answer_message-answered.ensures.notes)
 
 pub returns-in_err-write_all-clause-part : goal.returns-in_err-write_all-clause-part
 returns-in_err-write_all-clause-part g c = λ old whole texts first p.
@@ -25,7 +25,7 @@ returns-in_err-write_all-clause-part g c = λ old whole texts first p.
     on_err c.from_residual-in_err-write_all.result
     (fails old now (g.W.Sink.taken c.write_all.new.sink) c.answer_message-answered.new.desk c.answer_message-answered.new.refused.items c.answer_message-answered.new.piece.items (replies_from c.next.new.self.queue) whole texts (message_texts c.next.new.self.queue) first (g.B.Build.log c.answer_message-answered.new.build)
     (plays_message old now desk c.loop-message.refused.items c.answer_message-answered.new.refused.items [] whole texts first (g.B.Build.log c.loop-message.build) (g.B.Build.log c.answer_message-answered.new.build)
-    c.in-Some.message c.loop-message.decoder.queue c.next.new.self.queue c.in-Some.ensures.queue (c.loop-message.invariant.plays old whole texts first p) c.answer_message-answered.ensures.grows c.answer_message-answered.ensures.backs
+    c.in-Some.message c.loop-message.decoder.queue c.next.new.self.queue c.in-Some.ensures.queue (c.loop-message.invariant.plays old whole texts first p) c.answer_message-answered.ensures.notes
     c.answer_message-answered.new.desk c.answer_message-answered.new.piece.items c.loop-message.invariant.plan
     (λ none. subst (λ before. Leads desk c.answer_message-answered.new.desk (after_message c.in-Some.message c.answer_message-answered.new.refused.items) (replied (opening_of desk.plan) c.in-Some.message c.answer_message-answered.new.refused.items) before c.answer_message-answered.new.piece.items) c.loop-message.invariant.empty (c.in_ok-answered.ensures.ok none))
     c.in_ok-answered.ensures.steps)
@@ -44,7 +44,7 @@ loop-message-preserved g c =
       plays = λ old whole texts first p.
           writes old now (g.W.Sink.taken c.write_all.new.sink) c.answer_message-answered.new.desk c.answer_message-answered.new.refused.items c.answer_message-answered.new.piece.items (replies_from c.next.new.self.queue) whole texts (message_texts c.next.new.self.queue) first (g.B.Build.log c.answer_message-answered.new.build)
           (plays_message old now desk c.loop-message.refused.items c.answer_message-answered.new.refused.items [] whole texts first (g.B.Build.log c.loop-message.build) (g.B.Build.log c.answer_message-answered.new.build)
-          c.in-Some.message c.loop-message.decoder.queue c.next.new.self.queue c.in-Some.ensures.queue (c.loop-message.invariant.plays old whole texts first p) c.answer_message-answered.ensures.grows c.answer_message-answered.ensures.backs
+          c.in-Some.message c.loop-message.decoder.queue c.next.new.self.queue c.in-Some.ensures.queue (c.loop-message.invariant.plays old whole texts first p) c.answer_message-answered.ensures.notes
           c.answer_message-answered.new.desk c.answer_message-answered.new.piece.items c.loop-message.invariant.plan
           (λ none. subst (λ before. Leads desk c.answer_message-answered.new.desk (after_message c.in-Some.message c.answer_message-answered.new.refused.items) (replied (opening_of desk.plan) c.in-Some.message c.answer_message-answered.new.refused.items) before c.answer_message-answered.new.piece.items) c.loop-message.invariant.empty (c.in_ok-answered.ensures.ok none))
           c.in_ok-answered.ensures.steps)

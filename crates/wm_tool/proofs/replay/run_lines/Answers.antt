@@ -14,7 +14,7 @@ returns-in_err-run_line-clause-part g c = λ old whole texts first p.
     let desk = c.loop-rest.desk in
     on_err c.from_residual.result
     (stops_line (opening_of c.args.desk.now.plan) old now desk c.loop-rest.refused.items c.run_line.new.refused.items c.loop-rest.piece.items whole texts first (g.B.Build.log c.loop-rest.build) (g.B.Build.log c.run_line.new.build)
-    c.line-item.result _ c.loop-rest.rest.now c.in-len1-up.len_at_least c.line-item.is (c.loop-rest.invariant.plays old whole texts first p) c.run_line.ensures.grows c.run_line.ensures.backs)
+    c.line-item.result _ c.loop-rest.rest.now c.in-len1-up.len_at_least c.line-item.is (c.loop-rest.invariant.plays old whole texts first p) c.run_line.ensures.notes)
 
 pub returns-in_err-write_long-clause-part : goal.returns-in_err-write_long-clause-part
 returns-in_err-write_long-clause-part g c = λ old whole texts first p.
@@ -23,7 +23,7 @@ returns-in_err-write_long-clause-part g c = λ old whole texts first p.
     on_err c.from_residual-in_err-write_long.result
     (fails old now (g.W.Sink.taken c.write_long.new.sink) c.run_line.new.desk c.run_line.new.refused.items c.run_line.new.piece.items (out_from (opening_of c.args.desk.now.plan) (take (length c.loop-rest.rest.now - 1) (drop 1 c.loop-rest.rest.now))) whole texts (line_texts (take (length c.loop-rest.rest.now - 1) (drop 1 c.loop-rest.rest.now))) first (g.B.Build.log c.run_line.new.build)
     (plays_line (opening_of c.args.desk.now.plan) old now desk c.loop-rest.refused.items c.run_line.new.refused.items c.loop-rest.piece.items whole texts first (g.B.Build.log c.loop-rest.build) (g.B.Build.log c.run_line.new.build)
-    c.line-item.result _ c.loop-rest.rest.now c.in-len1-up.len_at_least c.line-item.is (c.loop-rest.invariant.plays old whole texts first p) c.run_line.ensures.grows c.run_line.ensures.backs
+    c.line-item.result _ c.loop-rest.rest.now c.in-len1-up.len_at_least c.line-item.is (c.loop-rest.invariant.plays old whole texts first p) c.run_line.ensures.notes
     c.run_line.new.desk c.run_line.new.piece.items (ap opening_of (sym c.loop-rest.invariant.plan)) c.in_ok-run_line.ensures.ok c.in_ok-run_line.ensures.steps)
     c.in_err-write_long.ensures.part)
 
@@ -39,7 +39,7 @@ loop-rest-preserved g c =
       plays = λ old whole texts first p.
           writes old now (g.W.Sink.taken c.write_long.new.sink) c.run_line.new.desk c.run_line.new.refused.items c.run_line.new.piece.items (out_from (opening_of c.args.desk.now.plan) (take (length c.loop-rest.rest.now - 1) (drop 1 c.loop-rest.rest.now))) whole texts (line_texts (take (length c.loop-rest.rest.now - 1) (drop 1 c.loop-rest.rest.now))) first (g.B.Build.log c.run_line.new.build)
           (plays_line (opening_of c.args.desk.now.plan) old now desk c.loop-rest.refused.items c.run_line.new.refused.items c.loop-rest.piece.items whole texts first (g.B.Build.log c.loop-rest.build) (g.B.Build.log c.run_line.new.build)
-          c.line-item.result _ c.loop-rest.rest.now c.in-len1-up.len_at_least c.line-item.is (c.loop-rest.invariant.plays old whole texts first p) c.run_line.ensures.grows c.run_line.ensures.backs
+          c.line-item.result _ c.loop-rest.rest.now c.in-len1-up.len_at_least c.line-item.is (c.loop-rest.invariant.plays old whole texts first p) c.run_line.ensures.notes
           c.run_line.new.desk c.run_line.new.piece.items (ap opening_of (sym c.loop-rest.invariant.plan)) c.in_ok-run_line.ensures.ok c.in_ok-run_line.ensures.steps)
           c.write_long.new.piece.items c.in_ok-write_long.ensures.ok;
       counted = omega (arith, kept.counted, c.write_long.ensures.counted);
