@@ -20,7 +20,7 @@ struct Told<B> {
 }
 
 impl<B: Build> Build for Told<B> {
-    ghost refusals = { λ told. B.refusals told.build };
+    ghost log = { λ told. B.log told.build };
 
     fn build(&mut self, alloc: Global, pattern: &str) -> Result<Regex, BuildFault> {
         self.log.push_str(" ")?;

@@ -5,12 +5,12 @@ use Rattle.std.specs.List.{flat_map, slice_get}
 use Rattle.std.specs.Option.{option_to_list}
 use Rattle.wm_criteria.specs.declared.forms.Stop.{Stop}
 use Rattle.wm_criteria.specs.declared.forms.Stop.TheVariants.{Refused, NoMemory}
-use Rattle.wm_criteria.specs.Building.{Tells}
+use Rattle.wm_criteria.specs.Building.{Grew, Log}
 use Rattle.wm_criteria.specs.Patterns.{numbered, pattern_at, patterns_of, unless_plain}
 use Rattle.wm_criteria.specs.Stop.{IsStop, stop_texts}
 use Rattle.wm_criteria.specs.Verdict.{IsVerdict, refused_patterns}
 use Rattle.wm_criteria.specs.declared.verdict.Verdict.TheVariants.{PatternRefused}
-use Rattle.wm_criteria.proofs.BuildingLemmas.{tells_both}
+use Rattle.wm_criteria.proofs.BuildingLemmas.{grew_both}
 use Rattle.wm_criteria.proofs.CountLemmas.{patterns_within}
 use Rattle.wm_grammar.specs.Reading.{Reads, groups_of}
 use Rattle.wm_language.specs.declared.batch.Batch.{Batch}
@@ -105,8 +105,8 @@ texts_among : (first : ℕ) (xs : List (List ℕ)) (second : ℕ) (ys : List (Li
 texts_among first xs second ys NoMemory a h = refl
 texts_among first xs second ys (Refused n) a h = ap (λ (o : Option (List ℕ)). option_to_list o) (sym (a.same n (there (numbered second ys n) h)))
 
-pub tells_stop : (old mid new : Option (List (List ℕ))) (first : ℕ) (xs : List (List ℕ)) (second : ℕ) (ys : List (List ℕ)) (e : Stop) → IsAmong first xs second ys → IsStop second ys e → Tells old mid [] → Tells mid new (stop_texts second ys e) → Tells old new (stop_texts first xs e)
-tells_stop old mid new first xs second ys e a h kept told = subst (λ (s : List (List ℕ)). Tells old new s) (texts_among first xs second ys e a h) (tells_both old mid new [] (stop_texts second ys e) kept told)
+pub grew_stop : (old mid new : Log) (first : ℕ) (xs : List (List ℕ)) (second : ℕ) (ys : List (List ℕ)) (e : Stop) → IsAmong first xs second ys → IsStop second ys e → Grew old mid [] → Grew mid new (stop_texts second ys e) → Grew old new (stop_texts first xs e)
+grew_stop old mid new first xs second ys e a h before after = subst (λ (s : List (List ℕ)). Grew old new s) (texts_among first xs second ys e a h) (grew_both old mid new [] (stop_texts second ys e) before after)
 
 -- an error that was handed on is the same one
 pub handed_on : {X : Type 0} (r : Result X Stop) (e : Stop) → IsErrAnd r (λ x. x ≡ e) → r ≡ Err e

@@ -18,9 +18,3 @@ stop_texts first patterns NoMemory = []
 abbrev pub texts_of : {X : Type 0} → ℕ → List (List ℕ) → Result X Stop → List (List ℕ)
 texts_of first patterns (Ok x) = []
 texts_of first patterns (Err e) = stop_texts first patterns e
-
--- the fact, where it is a refusal
-abbrev pub OnStop : {X : Type 0} → Result X Stop → Type 0 → Type 0
-OnStop (Ok x) fact = ⊤
-OnStop (Err (Refused n)) fact = fact
-OnStop (Err NoMemory) fact = ⊤

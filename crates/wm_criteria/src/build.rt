@@ -1,8 +1,6 @@
 //! What builds patterns that are not plain.
-ghost use Rattle.std.specs.Prelude.{◌≡◌, ℕ, ◌≤◌, List, Option, None, Err, IfOk};
-ghost use Rattle.wm_defs.specs.Counts.{Rose};
-ghost use Rattle.wm_criteria.specs.Building.{IsReadFrom, Tells, refused_in};
-ghost use Rattle.wm_criteria.specs.declared.build.BuildFault.TheVariants.{Refused};
+ghost use Rattle.std.specs.Prelude.{◌≡◌, IfOk};
+ghost use Rattle.wm_criteria.specs.Building.{Grew, IsReadFrom, Log, refused_in};
 
 use regex::Regex;
 use std::alloc::{AllocError, AllocFailed, Global};
@@ -37,16 +35,11 @@ impl<T: Drop> From<AllocFailed<T>> for BuildFault {
 
 /// What builds patterns.
 pub trait Build {
-    // How many refusals were counted. The count never falls, and stands still at its last value.
-    ghost refusals: { Self → ℕ };
-
-    // The texts that were refused, in order, where the build tells them.
-    ghost refused: { Self → Option (List (List ℕ)) } = { λ _. None };
+    // What was refused so far: a count, which stands still at its last value, and the texts where the build tells them.
+    ghost log: { Self → Log };
 
     /// Builds the pattern that is read from the text, or refuses it.
     fn build(&mut self, alloc: Global, pattern: &str) -> Result<Regex, BuildFault>
         ensures read { IfOk result (λ regex. IsReadFrom pattern.now regex) }
-        ensures rose { result ≡ Err Refused → Rose (refusals self.old) (refusals self.new) }
-        ensures told { Tells (refused self.old) (refused self.new) (refused_in result pattern.now) }
-        ensures counted { refusals self.old ≤ refusals self.new };
+        ensures grew { Grew (log self.old) (log self.new) (refused_in result pattern.now) };
 }

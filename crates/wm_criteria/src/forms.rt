@@ -1,11 +1,10 @@
 //! Building the patterns of groups.
-ghost use Rattle.std.specs.Prelude.{◌≡◌, ◌+◌, ◌<◌, ◌≤◌, ◌^◌, map, length, IfOk, IfErr};
+ghost use Rattle.std.specs.Prelude.{◌≡◌, ◌+◌, ◌<◌, ◌^◌, map, length, IfOk, IfErr};
 ghost use Rattle.std.specs.Option.{option_to_list};
-ghost use Rattle.wm_defs.specs.Counts.{Rose};
-ghost use Rattle.wm_criteria.specs.Building.{Tells};
+ghost use Rattle.wm_criteria.specs.Building.{Grew};
 ghost use Rattle.wm_criteria.specs.Forms.{forms_of};
 ghost use Rattle.wm_criteria.specs.Patterns.{key_patterns, pattern_of, patterns_of, to_build};
-ghost use Rattle.wm_criteria.specs.Stop.{IsStop, OnStop, texts_of};
+ghost use Rattle.wm_criteria.specs.Stop.{IsStop, texts_of};
 
 use crate::build::{Build, BuildFault};
 use crate::form::Form;
@@ -36,10 +35,7 @@ impl<T: Drop> From<AllocFailed<T>> for Stop {
 fn key_form<B: Build>(alloc: Global, key: &Key, number: u32, build: &mut B) -> Result<Form, Stop>
     ensures form { IfOk result (λ f. f ≡ to_build key.now) }
     ensures stop { IfErr result (IsStop number (option_to_list (pattern_of key.now))) }
-    ensures told { Tells (B.refused build.old) (B.refused build.new)
-        (texts_of number (option_to_list (pattern_of key.now)) result) }
-    ensures rose { OnStop result (Rose (B.refusals build.old) (B.refusals build.new)) }
-    ensures counted { B.refusals build.old ≤ B.refusals build.new }
+    ensures grew { Grew (B.log build.old) (B.log build.new) (texts_of number (option_to_list (pattern_of key.now)) result) }
 {
     let Some(pattern) = to_build(key) else {
         return Ok(Form::none())
@@ -73,10 +69,7 @@ fn key_forms<B: Build>(
     ensures forms { IfOk result (λ x. x.0 ≡ map to_build keys.now) }
     ensures number { IfOk result (λ x. x.1 ≡ first + length (key_patterns keys.now)) }
     ensures stop { IfErr result (IsStop first (key_patterns keys.now)) }
-    ensures told { Tells (B.refused build.old) (B.refused build.new)
-        (texts_of first (key_patterns keys.now) result) }
-    ensures rose { OnStop result (Rose (B.refusals build.old) (B.refusals build.new)) }
-    ensures counted { B.refusals build.old ≤ B.refusals build.new }
+    ensures grew { Grew (B.log build.old) (B.log build.new) (texts_of first (key_patterns keys.now) result) }
 {
     let mut forms = Vec::new(alloc);
     let mut number = first;
@@ -98,10 +91,7 @@ pub fn group_forms<B: Build>(
     requires { length (patterns_of groups.now) < 2 ^ 32 }
     ensures forms { IfOk result (λ fs. fs ≡ forms_of groups.now) }
     ensures stop { IfErr result (IsStop 0 (patterns_of groups.now)) }
-    ensures told { Tells (B.refused build.old) (B.refused build.new)
-        (texts_of 0 (patterns_of groups.now) result) }
-    ensures rose { OnStop result (Rose (B.refusals build.old) (B.refusals build.new)) }
-    ensures counted { B.refusals build.old ≤ B.refusals build.new }
+    ensures grew { Grew (B.log build.old) (B.log build.new) (texts_of 0 (patterns_of groups.now) result) }
 {
     let mut all = Vec::new(alloc);
     let mut number = 0;

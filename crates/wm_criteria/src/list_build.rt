@@ -1,7 +1,6 @@
 //! A build that refuses the texts of a list.
-ghost use Rattle.std.specs.Prelude.{◌≡◌, ◌≤◌, [], true, false, map, string_bytes, Err, IfOk};
-ghost use Rattle.wm_defs.specs.Counts.{Rose};
-ghost use Rattle.wm_criteria.specs.Building.{IsReadFrom, Tells, is_listed, refused_in};
+ghost use Rattle.std.specs.Prelude.{◌≡◌, [], true, false, map, string_bytes, Err, IfOk};
+ghost use Rattle.wm_criteria.specs.Building.{Grew, IsReadFrom, is_listed, list_log, refused_in};
 ghost use Rattle.wm_criteria.specs.declared.build.BuildFault.TheVariants.{Refused};
 
 use crate::build::{Build, BuildFault};
@@ -78,18 +77,12 @@ fn compiled_unless_among(
 }
 
 impl Build for ListBuild {
-    ghost use Rattle.std.specs.Prelude.{Some};
-
-    ghost refusals = { λ build. build.refusals };
-
-    ghost refused = { λ build. Some build.told };
+    ghost log = { list_log };
 
     /// Builds the pattern, or refuses it where its text is listed, and else as the crate of regular expressions does.
     fn build(&mut self, alloc: Global, pattern: &str) -> Result<Regex, BuildFault>
         ensures read { IfOk result (λ regex. IsReadFrom pattern.now regex) }
-        ensures rose { result ≡ Err Refused → Rose self.old.refusals self.new.refusals }
-        ensures told { Tells (Some self.old.told) (Some self.new.told) (refused_in result pattern.now) }
-        ensures counted { self.old.refusals ≤ self.new.refusals }
+        ensures grew { Grew (list_log self.old) (list_log self.new) (refused_in result pattern.now) }
         ensures listed { IfOk result (λ _. is_listed self.old.listed pattern.now ≡ false) }
         ensures same { self.new.listed ≡ self.old.listed }
     {

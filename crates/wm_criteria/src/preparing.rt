@@ -1,8 +1,7 @@
 //! Preparing a text: reading it, and building its patterns.
-ghost use Rattle.std.specs.Prelude.{◌≡◌, ◌<◌, ◌≤◌, ◌^◌, length, IfOk, IsTrue};
-ghost use Rattle.wm_defs.specs.Counts.{Rose};
+ghost use Rattle.std.specs.Prelude.{◌≡◌, ◌<◌, ◌^◌, length, IfOk, IsTrue};
 ghost use Rattle.wm_grammar.specs.Reading.{Reads};
-ghost use Rattle.wm_criteria.specs.Building.{Tells};
+ghost use Rattle.wm_criteria.specs.Building.{Grew};
 ghost use Rattle.wm_criteria.specs.Prepared.{IsBare, is_built, refused_by};
 ghost use Rattle.wm_criteria.specs.Verdict.{IsVerdict, OnRefusal};
 
@@ -21,10 +20,7 @@ pub fn prepare<B: Build>(alloc: Global, text: &str, build: &mut B) -> Result<Pre
     ensures text { IfOk result (λ p. p.text ≡ text.now) }
     ensures verdict { IfOk result (λ p. IsVerdict text.now p.verdict) }
     ensures built { IfOk result (λ p. IsTrue (is_built p)) }
-    ensures told { Tells (B.refused build.old) (B.refused build.new) (refused_by text.now result) }
-    ensures rose { IfOk result (λ p.
-        OnRefusal p.verdict (Rose (B.refusals build.old) (B.refusals build.new))) }
-    ensures counted { B.refusals build.old ≤ B.refusals build.new }
+    ensures grew { Grew (B.log build.old) (B.log build.new) (refused_by text.now result) }
 {
     let verdict = read_verdict(alloc, text)?;
     let text = Str::of(String::from_str(alloc, text)?);
@@ -49,10 +45,7 @@ fn with_forms<B: Build>(
     requires read { Reads text batch }
     ensures text { IfOk result (λ p. p.text ≡ text) }
     ensures built { IfOk result (λ p. IsTrue (is_built p)) }
-    ensures told { Tells (B.refused build.old) (B.refused build.new) (refused_by text result) }
-    ensures rose { IfOk result (λ p.
-        OnRefusal p.verdict (Rose (B.refusals build.old) (B.refusals build.new))) }
-    ensures counted { B.refusals build.old ≤ B.refusals build.new }
+    ensures grew { Grew (B.log build.old) (B.log build.new) (refused_by text result) }
 {
     let mut forms = None;
     if !are_plain(batch.groups.items()) {

@@ -31,7 +31,9 @@ impl RegexBuild {
 }
 
 impl Build for RegexBuild {
-    ghost refusals = { λ count. count };
+    ghost use Rattle.std.specs.Prelude.{None};
+
+    ghost log = { λ count. record { count = count; texts = None } };
 
     /// Builds the pattern. It is refused where the crate refuses it for another reason than memory.
     fn build(&mut self, alloc: Global, pattern: &str) -> Result<Regex, BuildFault> {

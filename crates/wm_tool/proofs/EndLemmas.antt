@@ -2,6 +2,7 @@
 use Rattle.std.proofs.Common.{◌≡◌, refl, ap, subst, sym, ℕ, List, [], Option, None, Some, Result, Ok, Err, arith}
 use Rattle.std.specs.Prelude.{IsErrAnd}
 use Rattle.std.proofs.lemmas.List.{append-nil}
+use Rattle.wm_criteria.specs.Building.{Log}
 use Rattle.wm_ports.specs.Told.{TakesPart}
 use Rattle.wm_ports.specs.declared.whole.ReadFault.{ReadFault}
 use Rattle.wm_ports.specs.declared.whole.ReadFault.TheVariants as faults
@@ -16,16 +17,16 @@ pub nothing_taken : (t : Option (List ℕ)) (whole : List ℕ) → TakesPart t t
 nothing_taken None whole = tt
 nothing_taken (Some taken) whole = (0, record { within = omega arith; grown = ap (λ xs. Some xs) (sym (append-nil taken)) })
 
-unread_written : (c : Command) (count : ℕ) (told : Option (List (List ℕ))) (fault : ReadFault) (rest t : Option (List ℕ))
-    → HasWritten c (record { old = count; new = count; told_old = told; told_new = told }) (of_read fault) rest t t
-unread_written c count told fault None t = tt
-unread_written c count told faults.Failed (Some bytes) t = refl
-unread_written c count told (faults.TooLarge read) (Some bytes) t = refl
-unread_written c count told faults.NoMemory (Some bytes) t = ([], nothing_backed (texts_in c bytes) count told, nothing_taken t _)
+unread_written : (c : Command) (log : Log) (fault : ReadFault) (rest t : Option (List ℕ))
+    → HasWritten c log log (of_read fault) rest t t
+unread_written c log fault None t = tt
+unread_written c log faults.Failed (Some bytes) t = refl
+unread_written c log (faults.TooLarge read) (Some bytes) t = refl
+unread_written c log faults.NoMemory (Some bytes) t = ([], nothing_backed (texts_in c bytes) log, nothing_taken t _)
 
 -- a run that could not read its input wrote nothing
-pub unread_ended : (c : Command) (count : ℕ) (told : Option (List (List ℕ))) (fault : ReadFault) (rest t : Option (List ℕ)) (r : Result (List Refused) Status) → IsErrAnd r (λ s. s ≡ of_read fault)
-    → HasWritten c (record { old = count; new = count; told_old = told; told_new = told }) (ending_of r) rest t t
-unread_ended c count told fault rest t (Ok refused) e = absurd e
-unread_ended c count told fault rest t (Err s) e =
-    subst (λ z. HasWritten c (record { old = count; new = count; told_old = told; told_new = told }) z rest t t) (sym e) (unread_written c count told fault rest t)
+pub unread_ended : (c : Command) (log : Log) (fault : ReadFault) (rest t : Option (List ℕ)) (r : Result (List Refused) Status) → IsErrAnd r (λ s. s ≡ of_read fault)
+    → HasWritten c log log (ending_of r) rest t t
+unread_ended c log fault rest t (Ok refused) e = absurd e
+unread_ended c log fault rest t (Err s) e =
+    subst (λ z. HasWritten c log log z rest t t) (sym e) (unread_written c log fault rest t)

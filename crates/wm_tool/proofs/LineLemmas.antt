@@ -3,13 +3,14 @@ use Rattle.std.proofs.Common.{◌≡◌, ◌∙◌, refl, ap, sym, subst, ℕ, s
 use Rattle.std.proofs.lemmas.List.{take_all}
 use Rattle.wm_core.specs.DeskValue.{DeskValue, Stands}
 use Rattle.wm_core.specs.History.{History, Start, answer, opening_of}
+use Rattle.wm_criteria.specs.Building.{Log}
 use Rattle.wm_script.specs.declared.line.Deed.{Deed}
 use Rattle.wm_script.specs.declared.line.Deed.TheVariants as deed
 use Rattle.wm_script.specs.declared.line.Line.{Line}
 use Rattle.wm_tool.specs.declared.status.Refused.{Refused}
 use Rattle.wm_tool.specs.Output.{act_in, after, after_effect, answer_text, deed_step, effect_of, effect_text, line_step, one_if_some, takes, Takes, entry_of, line_texts, out_from, start, told}
 use Rattle.wm_tool.specs.Refusals.{IsRising, refusal_at}
-use Rattle.wm_tool.specs.Running.{Backs, Grows, Leads, Plays, Stops}
+use Rattle.wm_tool.specs.Running.{Leads, Notes, Plays, Stops}
 use Rattle.wm_core.specs.Act.{Act}
 use Rattle.wm_tool.proofs.RunLemmas.{stops_step, plays_step, run_same}
 
@@ -70,27 +71,27 @@ rest_is g d [] some is = absurd (omega arith)
 rest_is g d (l ∷ rest) some is = ap (λ x. x ∷ rest) (sym is) ∙ ap (λ xs. g ∷ xs) (sym (take_all (suc (length rest) - 1) rest (omega arith)))
 
 module _ (start : Start) (old now : Option (List ℕ)) (desk : DeskValue) (before after_refused : List Refused) (piece : List ℕ) (whole : List Refused → List ℕ) (texts : List (Option (List ℕ)))
-    (count c1 c2 : ℕ) (told_first t1 t2 : Option (List (List ℕ))) (g d : Line) (rest : List Line) (some : 1 ≤ length rest) (is : g ≡ get_or rest 0 d)
-    (p : Plays old now desk before piece (out_from start rest) whole texts (line_texts rest) count c1 told_first t1)
-    (grown : Grows desk.steps (line_step g) before after_refused) (backs : Backs desk.steps (line_step g) before after_refused c1 c2 t1 t2)
+    (first l1 l2 : Log) (g d : Line) (rest : List Line) (some : 1 ≤ length rest) (is : g ≡ get_or rest 0 d)
+    (p : Plays old now desk before piece (out_from start rest) whole texts (line_texts rest) first l1)
+    (notes : Notes desk.steps (line_step g) before after_refused l1 l2)
   where
     abbrev pub others : List Line
     others = take (length rest - 1) (drop 1 rest)
 
-    first_line : Plays old now desk before piece (out_from start (g ∷ others)) whole texts (line_step g ++ line_texts others) count c1 told_first t1
-    first_line = subst (λ ls. Plays old now desk before piece (out_from start ls) whole texts (line_texts ls) count c1 told_first t1) (rest_is g d rest some is) p
+    first_line : Plays old now desk before piece (out_from start (g ∷ others)) whole texts (line_step g ++ line_texts others) first l1
+    first_line = subst (λ ls. Plays old now desk before piece (out_from start ls) whole texts (line_texts ls) first l1) (rest_is g d rest some is) p
 
-    pub stops_line : Stops old now whole after_refused texts count c2 told_first t2
+    pub stops_line : Stops old now whole after_refused texts first l2
     stops_line =
-        stops_step old now desk before after_refused piece (after g) (told start g) (out_from start (g ∷ others)) (out_from start others) whole texts (line_step g) (line_texts others) count c1 c2 told_first t1 t2
-        (line_longer g) first_line grown backs
+        stops_step old now desk before after_refused piece (after g) (told start g) (out_from start (g ∷ others)) (out_from start others) whole texts (line_step g) (line_texts others) first l1 l2
+        (line_longer g) first_line notes
 
     pub plays_line : (next : DeskValue) (text : List ℕ) → start ≡ opening_of desk.plan
         → (refusal_at desk.steps before ≡ None → Leads desk next (after g after_refused) (told (opening_of desk.plan) g after_refused) piece text)
-        → next.steps ≡ desk.steps + length (line_step g) → Plays old now next after_refused text (out_from start others) whole texts (line_texts others) count c2 told_first t2
+        → next.steps ≡ desk.steps + length (line_step g) → Plays old now next after_refused text (out_from start others) whole texts (line_texts others) first l2
     plays_line next text plan leads moved =
-        plays_step old now desk before after_refused piece (after g) (told start g) (out_from start (g ∷ others)) (out_from start others) whole texts (line_step g) (line_texts others) count c1 c2 told_first t1 t2
-        (line_longer g) first_line grown backs
+        plays_step old now desk before after_refused piece (after g) (told start g) (out_from start (g ∷ others)) (out_from start others) whole texts (line_step g) (line_texts others) first l1 l2
+        (line_longer g) first_line notes
         next text (λ rs h. refl)
         (λ rs more h rising. let same = line_same g rs more h rising in (ap (λ d. after_effect d h) same, ap (effect_text start h) same))
         (subst (λ tree. refusal_at desk.steps before ≡ None → Leads desk next (after g after_refused) (told tree g after_refused) piece text) (sym plan) leads)

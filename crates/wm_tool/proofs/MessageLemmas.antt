@@ -1,5 +1,6 @@
 -- One message of i3-ipc is answered: what it adds to the history, and the reply.
 use Rattle.std.proofs.Common.{◌≡◌, ◌∙◌, refl, ap, ap₂, sym, subst, ℕ, ◌+◌, ◌≤◌, List, [], ◌∷◌, ◌++◌, Option, None, Some, length, arith}
+use Rattle.wm_criteria.specs.Building.{Log}
 use Rattle.wm_frames.specs.declared.message.Message.{Message}
 use Rattle.wm_base.specs.declared.plan.Border.TheVariants.{Bare}
 use Rattle.wm_layouts.specs.declared.plan.Env.{Env}
@@ -11,7 +12,7 @@ use Rattle.wm_tool.specs.declared.status.Refused.{Refused}
 use Rattle.wm_tool.specs.Ipc.{after_message, entry_by, framed, message_step, message_texts, payload, replied, replies_from, request_of, text_of_request, text_step}
 use Rattle.wm_tool.specs.Output.{after_entry, start}
 use Rattle.wm_tool.specs.Refusals.{IsRising, refusal_at}
-use Rattle.wm_tool.specs.Running.{Backs, Grows, Leads, Plays, Stops}
+use Rattle.wm_tool.specs.Running.{Leads, Notes, Plays, Stops}
 use Rattle.wm_tool.proofs.RunLemmas.{stops_step, plays_step, run_same}
 
 abbrev opening_with : TreeValue → Env → Start
@@ -33,24 +34,24 @@ by_text_same None rs more h rising = refl
 by_text_same (Some text) rs more h rising = ap (λ e. Some e) (run_same 0 rs more h text rising)
 
 module _ (old now : Option (List ℕ)) (desk : DeskValue) (before after_refused : List Refused) (piece : List ℕ) (whole : List Refused → List ℕ) (texts : List (Option (List ℕ)))
-    (count c1 c2 : ℕ) (told_first t1 t2 : Option (List (List ℕ))) (m : Message) (queue others : List Message) (is : queue ≡ m ∷ others)
-    (p : Plays old now desk before piece (replies_from queue) whole texts (message_texts queue) count c1 told_first t1)
-    (grown : Grows desk.steps (message_step m) before after_refused) (backs : Backs desk.steps (message_step m) before after_refused c1 c2 t1 t2)
+    (first l1 l2 : Log) (m : Message) (queue others : List Message) (is : queue ≡ m ∷ others)
+    (p : Plays old now desk before piece (replies_from queue) whole texts (message_texts queue) first l1)
+    (notes : Notes desk.steps (message_step m) before after_refused l1 l2)
   where
-    first_message : Plays old now desk before piece (replies_from (m ∷ others)) whole texts (message_step m ++ message_texts others) count c1 told_first t1
-    first_message = subst (λ ms. Plays old now desk before piece (replies_from ms) whole texts (message_texts ms) count c1 told_first t1) is p
+    first_message : Plays old now desk before piece (replies_from (m ∷ others)) whole texts (message_step m ++ message_texts others) first l1
+    first_message = subst (λ ms. Plays old now desk before piece (replies_from ms) whole texts (message_texts ms) first l1) is p
 
-    pub stops_message : Stops old now whole after_refused texts count c2 told_first t2
+    pub stops_message : Stops old now whole after_refused texts first l2
     stops_message =
-        stops_step old now desk before after_refused piece (after_message m) (replied start m) (replies_from (m ∷ others)) (replies_from others) whole texts (message_step m) (message_texts others) count c1 c2 told_first t1 t2
-        (by_text_longer (text_of_request (request_of m))) first_message grown backs
+        stops_step old now desk before after_refused piece (after_message m) (replied start m) (replies_from (m ∷ others)) (replies_from others) whole texts (message_step m) (message_texts others) first l1 l2
+        (by_text_longer (text_of_request (request_of m))) first_message notes
 
     pub plays_message : (next : DeskValue) (text : List ℕ) → IsStandard desk.plan
         → (refusal_at desk.steps before ≡ None → Leads desk next (after_message m after_refused) (replied (opening_of desk.plan) m after_refused) piece text)
-        → next.steps ≡ desk.steps + length (message_step m) → Plays old now next after_refused text (replies_from others) whole texts (message_texts others) count c2 told_first t2
+        → next.steps ≡ desk.steps + length (message_step m) → Plays old now next after_refused text (replies_from others) whole texts (message_texts others) first l2
     plays_message next text plan leads moved =
-        plays_step old now desk before after_refused piece (after_message m) (replied start m) (replies_from (m ∷ others)) (replies_from others) whole texts (message_step m) (message_texts others) count c1 c2 told_first t1 t2
-        (by_text_longer (text_of_request (request_of m))) first_message grown backs
+        plays_step old now desk before after_refused piece (after_message m) (replied start m) (replies_from (m ∷ others)) (replies_from others) whole texts (message_step m) (message_texts others) first l1 l2
+        (by_text_longer (text_of_request (request_of m))) first_message notes
         next text (λ rs h. refl)
         (λ rs more h rising.
         let same = by_text_same (text_of_request (request_of m)) rs more h rising in

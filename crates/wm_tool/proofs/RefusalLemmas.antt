@@ -1,5 +1,5 @@
 -- Lists of refusals: what is at a place, and what one more changes.
-use Rattle.std.proofs.Common.{◌≡◌, ◌∙◌, refl, ap, sym, subst, ℕ, zero, suc, ◌+◌, ◌<◌, ◌≤◌, ◌⊎◌, inl, inr, Bool, true, false, cond, eqb, List, [], ◌∷◌, ◌++◌, length, drop, take, Option, None, Some, is_some, arith, append_assoc, length-append}
+use Rattle.std.proofs.Common.{◌≡◌, ◌∙◌, refl, ap, sym, subst, ℕ, zero, suc, ◌+◌, ◌<◌, ◌≤◌, ◌⊎◌, inl, inr, Bool, true, false, cond, eqb, List, [], ◌∷◌, ◌++◌, length, drop, take, Option, None, Some, is_some, arith}
 use Rattle.std.specs.Prelude.{slice_get, IsTrue, option_and_then, option_map}
 use Rattle.std.specs.List.{AllByRecursion}
 use Rattle.std.specs.Option.{option_to_list}
@@ -7,18 +7,18 @@ use Rattle.std.proofs.lemmas.Bool.{eqb-true}
 use Rattle.std.proofs.lemmas.Bool.Decides.{Decides-eqb}
 use Rattle.std.proofs.lemmas.List.{append-nil}
 use Rattle.std.proofs.lemmas.Grind.{flat_map-append}
-use Rattle.wm_defs.specs.Counts.{Rose}
 use Rattle.wm_txn.specs.Commits.{greatest}
-use Rattle.wm_criteria.specs.Building.{Tells}
+use Rattle.wm_criteria.specs.Building.{Grew, Log}
 use Rattle.wm_criteria.specs.Patterns.{pattern_at, patterns_of, unless_plain}
-use Rattle.wm_criteria.specs.Verdict.{IsVerdict, OnRefusal, refused_patterns}
+use Rattle.wm_criteria.specs.Verdict.{IsVerdict, refused_patterns}
 use Rattle.wm_criteria.specs.declared.verdict.Verdict.{Verdict}
 use Rattle.wm_criteria.specs.declared.verdict.Verdict.TheVariants.{Ready, Bad, PatternRefused}
+use Rattle.wm_criteria.proofs.BuildingLemmas.{grew_both}
 use Rattle.wm_grammar.specs.Reading.{batch_of, groups_of, is_whole, IsReach}
 use Rattle.wm_language.specs.declared.batch.Group.{Group}
 use Rattle.wm_tool.specs.declared.status.Refused.{Refused}
-use Rattle.wm_tool.specs.Refusals.{IsRefusable, IsRising, RoseBy, pattern_in, patterns_in, reach, refusal_at, text_at, verdict_by, verdict_of}
-use Rattle.wm_tool.specs.Running.{Backs, Grows, IsBackedTo, fresh}
+use Rattle.wm_tool.specs.Refusals.{IsRefusable, IsRising, pattern_in, patterns_in, reach, refusal_at, text_at, verdict_by, verdict_of}
+use Rattle.wm_tool.specs.Running.{Backs, IsBackedTo, Notes, fresh}
 
 -- ---- places
 
@@ -146,38 +146,24 @@ text_of_drop zero (x ∷ xs) later text e = cc
 text_of_drop (suc n) [] later text e = cc
 text_of_drop (suc n) (x ∷ xs) later text e = text_of_drop n xs later text e
 
-tells_more : (t t1 t2 : Option (List (List ℕ))) (xs ys : List (List ℕ)) → Tells t t1 xs → Tells t1 t2 ys → Tells t t2 (xs ++ ys)
-tells_more None t1 t2 xs ys a b = tt
-tells_more (Some told) t1 t2 xs ys a b =
-    let from : Tells (Some (told ++ xs)) t2 ys = subst (λ o. Tells o t2 ys) a b in
-    from ∙ ap (λ z. Some z) (append_assoc told xs ys)
-
-tells_none : (t t1 t2 : Option (List (List ℕ))) (xs : List (List ℕ)) → Tells t t1 xs → Tells t1 t2 [] → Tells t t2 xs
-tells_none t t1 t2 xs a b = subst (Tells t t2) (append-nil xs) (tells_more t t1 t2 xs [] a b)
-
-rose_more : (n c c1 c2 : ℕ) → RoseBy n c c1 → c1 ≤ c2 → RoseBy n c c2
-rose_more n c c1 c2 rose more = omega (arith, rose, more)
-
-rose_once : (n c c1 c2 : ℕ) → RoseBy n c c1 → Rose c1 c2 → RoseBy (n + 1) c c2
-rose_once n c c1 c2 rose once = omega (arith, rose, once)
-
 -- steps that refuse nothing keep what is backed
-pub keeps_backed : (place : ℕ) (steps : List (Option (List ℕ))) (before after : List Refused) (c1 c2 : ℕ) (t1 t2 : Option (List (List ℕ))) → after ≡ before → Tells t1 t2 [] → c1 ≤ c2
-    → Backs place steps before after c1 c2 t1 t2
-keeps_backed place steps before after c1 c2 t1 t2 same told more = λ texts later count told_first ahead b.
-    subst (λ rs. IsBackedTo (place + length steps) texts rs count c2 told_first t2) (sym same)
-    record {
-      below = below_weaker place (place + length steps) before (omega arith) b.below;
-      backed = record {
-        rising = b.backed.rising;
-        fair = b.backed.fair;
-        counted = rose_more (length before) count c1 c2 b.backed.counted more;
-        told = tells_none told_first t1 t2 (patterns_in texts before) b.backed.told told;
+pub keeps_noted : (place : ℕ) (steps : List (Option (List ℕ))) (before after : List Refused) (old new : Log) → after ≡ before → Grew old new [] → Notes place steps before after old new
+keeps_noted place steps before after old new same grew = record {
+  grown = inl same;
+  backed = λ texts later first ahead b.
+      subst (λ rs. IsBackedTo (place + length steps) texts rs first new) (sym same)
+      record {
+        below = below_weaker place (place + length steps) before (omega arith) b.below;
+        backed = record {
+          rising = b.backed.rising;
+          fair = b.backed.fair;
+          grew = subst (Grew first new) (append-nil (patterns_in texts before)) (grew_both first old new (patterns_in texts before) [] b.backed.grew grew);
+        };
       };
-    }
+}
 
-module _ (place k : ℕ) (text : List ℕ) (before : List Refused) (c1 c2 : ℕ) (t1 t2 : Option (List (List ℕ)))
-    (refusable : IsTrue (is_some (unless_plain (pattern_at text k)))) (rose : Rose c1 c2) (told : Tells t1 t2 (option_to_list (pattern_at text k)))
+module _ (place k : ℕ) (text : List ℕ) (before : List Refused) (old new : Log)
+    (refusable : IsTrue (is_some (unless_plain (pattern_at text k)))) (grew : Grew old new (option_to_list (pattern_at text k)))
   where
     abbrev pub r : Refused
     r = record { place = place; pattern = k }
@@ -185,29 +171,25 @@ module _ (place k : ℕ) (text : List ℕ) (before : List Refused) (c1 c2 : ℕ)
     pattern_is : (texts later : List (Option (List ℕ))) → drop place texts ≡ Some text ∷ later → pattern_in texts r ≡ pattern_at text k
     pattern_is texts later ahead = ap (λ o. option_and_then (λ x. pattern_at x k) o) (text_of_drop place texts later text ahead)
 
-    pub backs_refusal : Backs place (Some text ∷ []) before (before ++ r ∷ []) c1 c2 t1 t2
-    backs_refusal = λ texts later count told_first ahead b.
+    pub backs_refusal : Backs place (Some text ∷ []) before (before ++ r ∷ []) old new
+    backs_refusal = λ texts later first ahead b.
         let pattern = pattern_is texts later ahead in
         record {
           below = all_push (λ (q : Refused). q.place < place + 1) before r (below_weaker place (place + 1) before (omega arith) b.below) (omega arith);
           backed = record {
             rising = rising_push 0 before r (omega arith) b.below b.backed.rising;
             fair = all_push (IsRefusable texts) before r b.backed.fair (subst (λ o. IsTrue (is_some (unless_plain o))) (sym pattern) refusable);
-            counted = subst (λ n. RoseBy n count c2) (sym (length-append before (r ∷ []))) (rose_once (length before) count c1 c2 b.backed.counted rose);
-            told = subst (Tells told_first t2) (sym (flat_map-append (λ q. option_to_list (pattern_in texts q)) before (r ∷ []) ∙ ap (λ xs. patterns_in texts before ++ xs) (append-nil (option_to_list (pattern_in texts r)) ∙ ap option_to_list pattern)))
-                (tells_more told_first t1 t2 (patterns_in texts before) (option_to_list (pattern_at text k)) b.backed.told told);
+            grew = subst (Grew first new) (sym (flat_map-append (λ q. option_to_list (pattern_in texts q)) before (r ∷ []) ∙ ap (λ xs. patterns_in texts before ++ xs) (append-nil (option_to_list (pattern_in texts r)) ∙ ap option_to_list pattern)))
+                (grew_both first old new (patterns_in texts before) (option_to_list (pattern_at text k)) b.backed.grew grew);
           };
         }
 
 -- a text with a verdict keeps what is backed, with the refusal that the verdict is
-pub backs_verdict : (place : ℕ) (text : List ℕ) (v : Verdict) (before after : List Refused) (c1 c2 : ℕ) (t1 t2 : Option (List (List ℕ))) → IsVerdict text v → after ≡ before ++ fresh place v
-    → Tells t1 t2 (refused_patterns text v) → OnRefusal v (Rose c1 c2) → c1 ≤ c2 → Backs place (Some text ∷ []) before after c1 c2 t1 t2
-backs_verdict place text (Ready batch) before after c1 c2 t1 t2 is grown told rose more = keeps_backed place (Some text ∷ []) before after c1 c2 t1 t2 (grown ∙ append-nil before) told more
-backs_verdict place text (Bad at) before after c1 c2 t1 t2 is grown told rose more = keeps_backed place (Some text ∷ []) before after c1 c2 t1 t2 (grown ∙ append-nil before) told more
-backs_verdict place text (PatternRefused k) before after c1 c2 t1 t2 is grown told rose more =
-    subst (λ rs. Backs place (Some text ∷ []) before rs c1 c2 t1 t2) (sym grown) (backs_refusal place k text before c1 c2 t1 t2 is rose told)
-
-pub grows_verdict : (place : ℕ) (text : List ℕ) (v : Verdict) (before after : List Refused) → after ≡ before ++ fresh place v → Grows place (Some text ∷ []) before after
-grows_verdict place text (Ready batch) before after grown = inl (grown ∙ append-nil before)
-grows_verdict place text (Bad at) before after grown = inl (grown ∙ append-nil before)
-grows_verdict place text (PatternRefused k) before after grown = inr (record { place = place; pattern = k }, refl, grown, omega arith)
+pub notes_verdict : (place : ℕ) (text : List ℕ) (v : Verdict) (before after : List Refused) (old new : Log) → IsVerdict text v → after ≡ before ++ fresh place v
+    → Grew old new (refused_patterns text v) → Notes place (Some text ∷ []) before after old new
+notes_verdict place text (Ready batch) before after old new is grown grew = keeps_noted place (Some text ∷ []) before after old new (grown ∙ append-nil before) grew
+notes_verdict place text (Bad at) before after old new is grown grew = keeps_noted place (Some text ∷ []) before after old new (grown ∙ append-nil before) grew
+notes_verdict place text (PatternRefused k) before after old new is grown grew = record {
+  grown = inr (record { place = place; pattern = k }, refl, grown, omega arith);
+  backed = subst (λ rs. Backs place (Some text ∷ []) before rs old new) (sym grown) (backs_refusal place k text before old new is grew);
+}

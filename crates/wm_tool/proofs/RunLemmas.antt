@@ -3,7 +3,7 @@ use Rattle.std.proofs.Common.{◌≡◌, ◌∙◌, refl, ap, ap₂, sym, subst,
 use Rattle.std.specs.Prelude.{IfErr, IfOk, IsErrAnd, OnErr, OnOk}
 use Rattle.std.proofs.lemmas.List.{append-nil, drop_all, take_all, take-append-drop}
 use Rattle.wm_core.specs.DeskValue.{DeskValue, Stands}
-use Rattle.wm_criteria.specs.Building.{Tells}
+use Rattle.wm_criteria.specs.Building.{Grew, Log, Tells}
 use Rattle.wm_core.specs.History.{History}
 use Rattle.wm_ports.specs.Told.{TakesAll, TakesPart}
 use Rattle.wm_tool.specs.declared.replay.Stop.{Stop}
@@ -11,12 +11,12 @@ use Rattle.wm_tool.specs.declared.status.Refused.{Refused}
 use Rattle.wm_tool.specs.Ending.{HasStopped}
 use Rattle.wm_tool.specs.Output.{takes, entry_of, run_entry, told}
 use Rattle.wm_tool.specs.Refusals.{IsBacked, IsRising, refusal_at, verdict_of}
-use Rattle.wm_tool.specs.Running.{Backs, Grows, Holds, IsBackedTo, Leads, Plays, Runs, Stops, Writes, fresh}
+use Rattle.wm_tool.specs.Running.{Grows, Holds, IsBackedTo, Leads, Notes, Plays, Runs, Stops, Writes, fresh}
 use Rattle.wm_core.specs.Act.{Run, act_of}
 use Rattle.wm_core.specs.declared.step.Step.TheVariants as steps_of
 use Rattle.wm_criteria.specs.declared.prepared.Prepared.{Prepared}
 use Rattle.wm_criteria.specs.Verdict.{IsVerdict}
-use Rattle.wm_tool.proofs.RefusalLemmas.{keeps_backed, refusal_before, rising_weaker, verdict_is, verdict_same}
+use Rattle.wm_tool.proofs.RefusalLemmas.{keeps_noted, refusal_before, rising_weaker, verdict_is, verdict_same}
 
 -- ---- the beginning
 
@@ -28,16 +28,20 @@ tells_nothing : (t : Option (List (List ℕ))) → Tells t t []
 tells_nothing None = tt
 tells_nothing (Some told) = ap (λ xs. Some xs) (sym (append-nil told))
 
-pub nothing_backed : (texts : List (Option (List ℕ))) (count : ℕ) (told : Option (List (List ℕ))) → IsBacked texts [] count count told told
-nothing_backed texts count told = record { rising = tt; fair = tt; counted = omega arith; told = tells_nothing told }
+grew_none : (log : Log) → Grew log log []
+grew_none log = record { kept = omega arith; rose = omega arith; told = tells_nothing log.texts }
 
-pub begins : (old : Option (List ℕ)) (desk : DeskValue) (tells : List Refused → History → List ℕ) (texts : List (Option (List ℕ))) (count : ℕ) (told : Option (List (List ℕ))) → Stands desk []
-    → Plays old old desk [] [] tells (λ refused. tells refused []) texts texts count count told told
-begins old desk tells texts count told stands = record {
-  runs = record { history = []; stands = stands; said = []; taken = holds_none old; makes = λ more rising. refl };
-  backed = record { below = tt; backed = nothing_backed texts count told };
-  left = ap (λ n. drop n texts) stands.counted;
-}
+pub nothing_backed : (texts : List (Option (List ℕ))) (log : Log) → IsBacked texts [] log log
+nothing_backed texts log = record { rising = tt; fair = tt; grew = grew_none log }
+
+pub begins : (old : Option (List ℕ)) (desk : DeskValue) (refused : List Refused) (piece : List ℕ) (tells : List Refused → History → List ℕ) (texts : List (Option (List ℕ))) (log : Log)
+    → refused ≡ [] → piece ≡ [] → Stands desk [] → Plays old old desk refused piece tells (λ rs. tells rs []) texts texts log log
+begins old desk refused piece tells texts log none empty stands =
+    rw (none, empty) (record {
+      runs = record { history = []; stands = stands; said = []; taken = holds_none old; makes = λ more rising. refl };
+      backed = record { below = tt; backed = nothing_backed texts log };
+      left = ap (λ n. drop n texts) stands.counted;
+    })
 
 -- ---- what was written when a run stops
 
@@ -88,14 +92,14 @@ on_err (Ok x) p = tt
 on_err (Err e) p = p
 
 module _ (old now new : Option (List ℕ)) (desk : DeskValue) (refused : List Refused) (piece : List ℕ) (tells : List Refused → History → List ℕ) (whole : List Refused → List ℕ)
-    (texts ahead : List (Option (List ℕ))) (count c : ℕ) (told t : Option (List (List ℕ))) (p : Plays old now desk refused piece tells whole texts ahead count c told t)
+    (texts ahead : List (Option (List ℕ))) (first log : Log) (p : Plays old now desk refused piece tells whole texts ahead first log)
   where
     -- a run whose sink fails has written a first part
-    pub fails : TakesPart now new piece → Stops old new whole refused texts count c told t
+    pub fails : TakesPart now new piece → Stops old new whole refused texts first log
     fails takes = (fails_part old now new p.runs.said piece (tells refused p.runs.history) (whole refused) p.runs.taken (made old now desk refused piece tells whole p.runs) takes, p.backed.backed)
 
     -- a first part of the piece is written, and the rest of it is held
-    pub writes : (held : List ℕ) → Writes now new piece held → Plays old new desk refused held tells whole texts ahead count c told t
+    pub writes : (held : List ℕ) → Writes now new piece held → Plays old new desk refused held tells whole texts ahead first log
     writes held w = record {
       runs = record {
         history = p.runs.history;
@@ -150,15 +154,15 @@ drop_front (x ∷ xs) ys = drop_front xs ys
 
 module _ (old now : Option (List ℕ)) (desk : DeskValue) (before later_refused : List Refused) (piece : List ℕ)
     (step : List Refused → History → History) (says tells later : List Refused → History → List ℕ) (whole : List Refused → List ℕ)
-    (texts steps ahead : List (Option (List ℕ))) (count c1 c2 : ℕ) (told_first t1 t2 : Option (List (List ℕ)))
+    (texts steps ahead : List (Option (List ℕ))) (first l1 l2 : Log)
     (longer : (rs : List Refused) (h : History) → length (step rs h) ≡ length h + length steps)
-    (p : Plays old now desk before piece tells whole texts (steps ++ ahead) count c1 told_first t1)
-    (grown : Grows desk.steps steps before later_refused) (backs : Backs desk.steps steps before later_refused c1 c2 t1 t2)
+    (p : Plays old now desk before piece tells whole texts (steps ++ ahead) first l1)
+    (notes : Notes desk.steps steps before later_refused l1 l2)
   where
     -- what made the whole makes it with the refusals after the step
     makes_after : (more : List Refused) (rising : IsRising (length (step later_refused p.runs.history)) more)
         → p.runs.said ++ (piece ++ tells (later_refused ++ more) p.runs.history) ≡ whole (later_refused ++ more)
-    makes_after more rising = by_grown grown
+    makes_after more rising = by_grown notes.grown
       where
         Makes : List Refused → Type 0
         Makes rs = p.runs.said ++ (piece ++ tells (rs ++ more) p.runs.history) ≡ whole (rs ++ more)
@@ -175,11 +179,11 @@ module _ (old now : Option (List ℕ)) (desk : DeskValue) (before later_refused 
               rising_weaker (length (step later_refused p.runs.history)) (g.0.place + 1) more (omega (arith, g.1, p.runs.stands.counted, g.3, longer later_refused p.runs.history)) rising,
             )))
 
-    backed_after : IsBackedTo (desk.steps + length steps) texts later_refused count c2 told_first t2
-    backed_after = backs texts ahead count told_first p.left p.backed
+    backed_after : IsBackedTo (desk.steps + length steps) texts later_refused first l2
+    backed_after = notes.backed texts ahead first p.left p.backed
 
     -- a step that want of memory stopped
-    pub stops_step : Stops old now whole later_refused texts count c2 told_first t2
+    pub stops_step : Stops old now whole later_refused texts first l2
     stops_step = (
       part_of old now p.runs.said (piece ++ tells later_refused p.runs.history) (whole later_refused) p.runs.taken
           (subst (λ rs. p.runs.said ++ (piece ++ tells rs p.runs.history) ≡ whole rs) (append-nil later_refused) (makes_after [] tt)),
@@ -190,8 +194,8 @@ module _ (old now : Option (List ℕ)) (desk : DeskValue) (before later_refused 
     pub plays_step : (next : DeskValue) (text : List ℕ) → ((rs : List Refused) (h : History) → tells rs h ≡ says rs h ++ later rs (step rs h))
         → ((rs more : List Refused) (h : History) → IsRising (length (step rs h)) more → (step (rs ++ more) h ≡ step rs h) × (says (rs ++ more) h ≡ says rs h))
         → (refusal_at desk.steps before ≡ None → Leads desk next (step later_refused) (says later_refused) piece text) → next.steps ≡ desk.steps + length steps
-        → Plays old now next later_refused text later whole texts ahead count c2 told_first t2
-    plays_step next text first same leads moved =
+        → Plays old now next later_refused text later whole texts ahead first l2
+    plays_step next text splits same leads moved =
         let h = p.runs.history in
         let led = leads (refusal_before desk.steps before p.backed.below) h p.runs.stands in
         record {
@@ -207,10 +211,10 @@ module _ (old now : Option (List ℕ)) (desk : DeskValue) (before later_refused 
                 ap (λ xs. p.runs.said ++ xs)
                 (ap (λ xs. xs ++ ahead_text) led.1
                 ∙ (append_assoc piece (says later_refused h) ahead_text
-                ∙ ap (λ xs. piece ++ xs) (sym (first rs h ∙ (ap (λ x. x ++ later rs (step rs h)) s.1 ∙ ap (λ z. says later_refused h ++ later rs z) s.0)))))
+                ∙ ap (λ xs. piece ++ xs) (sym (splits rs h ∙ (ap (λ x. x ++ later rs (step rs h)) s.1 ∙ ap (λ z. says later_refused h ++ later rs z) s.0)))))
                 ∙ makes_after more rising;
           };
-          backed = subst (λ n. IsBackedTo n texts later_refused count c2 told_first t2) (sym moved) backed_after;
+          backed = subst (λ n. IsBackedTo n texts later_refused first l2) (sym moved) backed_after;
           left = ap (λ n. drop n texts) moved ∙ (drop_more desk.steps (length steps) texts ∙ (ap (drop (length steps)) p.left ∙ drop_front steps ahead));
         }
 
@@ -227,8 +231,8 @@ run_entry_is who place history before after_refused text p none at same is grown
     ap₂ (λ t v. entry_of who (Run (record { text = t; verdict = v }))) same
     (sym (verdict_is place before text p.verdict none is) ∙ (ap (λ rs. verdict_of rs place text) (sym grown) ∙ ap (λ n. verdict_of after_refused n text) at))
 
-pub unchanged : (place : ℕ) (steps : List (Option (List ℕ))) (rs : List Refused) (c : ℕ) (t : Option (List (List ℕ))) → Backs place steps rs rs c c t t
-unchanged place steps rs c t = keeps_backed place steps rs rs c c t t refl (tells_nothing t) (omega arith)
+pub unchanged : (place : ℕ) (steps : List (Option (List ℕ))) (rs : List Refused) (log : Log) → Notes place steps rs rs log log
+unchanged place steps rs log = keeps_noted place steps rs rs log log refl (grew_none log)
 
 pub on_ok : {A : Type 0} {E : Type 0} {P : Type 0} (r : Result A E) → P → OnOk r P
 on_ok (Ok x) p = p

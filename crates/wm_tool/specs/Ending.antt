@@ -2,6 +2,7 @@
 use Rattle.std.specs.Prelude.{◌≡◌, ℕ, zero, suc, ◌<◌, ◌≤◌, ◌⊎◌, if◌then◌else◌, bytes_eq, List, [], ◌∷◌, Option, None, Some, Result, Ok, Err, length, codes, string_bytes, ⊤, String}
 use Rattle.std.specs.declared.alloc.Global.{Global}
 use Rattle.wm_defs.specs.Counts.{Rose}
+use Rattle.wm_criteria.specs.Building.{Log}
 use Rattle.wm_frames.specs.Reading.{Ending, ending, messages, rest, magic, too_long}
 use Rattle.wm_ports.specs.Told.{ReadsCount, ReadsPart, TakesAll, TakesPart}
 use Rattle.wm_tool.specs.declared.replay.Stop.{Stop}
@@ -98,28 +99,21 @@ EndsOn c bytes BadWords = ⊥
 EndsOn c bytes (TooLarge read) = ⊥
 EndsOn c bytes ReadFault = ⊥
 
--- how the counts of refusals and the texts that a build tells of them were, and are
-pub record Refusals : Type 0 where
-  pub old : ℕ
-  pub new : ℕ
-  pub told_old : Option (List (List ℕ))
-  pub told_new : Option (List (List ℕ))
-
--- a list of refusals is fair for these bytes, and backed by the run
-abbrev pub IsBackedOn : Command → List ℕ → Refusals → List Refused → Type 0
-IsBackedOn c bytes b refused = IsBacked (texts_in c bytes) refused b.old b.new b.told_old b.told_new
+-- a list of refusals is fair for these bytes, and backed by the run, in which the build's log grew so
+abbrev pub IsBackedOn : Command → List ℕ → Log → Log → List Refused → Type 0
+IsBackedOn c bytes first log refused = IsBacked (texts_in c bytes) refused first log
 
 -- what a run on these bytes that ended so wrote
-abbrev pub WritesOn : Command → List ℕ → Refusals → Status → Option (List ℕ) → Option (List ℕ) → Type 0
-WritesOn c bytes b (Done refused) old new = IsBackedOn c bytes b refused × TakesAll old new (output c bytes refused)
-WritesOn c bytes b (BadFrames at) old new = (refused : List Refused) × IsBackedOn c bytes b refused × TakesAll old new (output c bytes refused)
-WritesOn c bytes b (Truncated left) old new = (refused : List Refused) × IsBackedOn c bytes b refused × TakesAll old new (output c bytes refused)
-WritesOn c bytes b WriteFault old new = (refused : List Refused) × IsBackedOn c bytes b refused × TakesPart old new (output c bytes refused)
-WritesOn c bytes b NoMemory old new = (refused : List Refused) × IsBackedOn c bytes b refused × TakesPart old new (output c bytes refused)
-WritesOn c bytes b (BadScript line) old new = new ≡ old
-WritesOn c bytes b BadWords old new = new ≡ old
-WritesOn c bytes b (TooLarge read) old new = new ≡ old
-WritesOn c bytes b ReadFault old new = new ≡ old
+abbrev pub WritesOn : Command → List ℕ → Log → Log → Status → Option (List ℕ) → Option (List ℕ) → Type 0
+WritesOn c bytes first log (Done refused) old new = IsBackedOn c bytes first log refused × TakesAll old new (output c bytes refused)
+WritesOn c bytes first log (BadFrames at) old new = (refused : List Refused) × IsBackedOn c bytes first log refused × TakesAll old new (output c bytes refused)
+WritesOn c bytes first log (Truncated left) old new = (refused : List Refused) × IsBackedOn c bytes first log refused × TakesAll old new (output c bytes refused)
+WritesOn c bytes first log WriteFault old new = (refused : List Refused) × IsBackedOn c bytes first log refused × TakesPart old new (output c bytes refused)
+WritesOn c bytes first log NoMemory old new = (refused : List Refused) × IsBackedOn c bytes first log refused × TakesPart old new (output c bytes refused)
+WritesOn c bytes first log (BadScript line) old new = new ≡ old
+WritesOn c bytes first log BadWords old new = new ≡ old
+WritesOn c bytes first log (TooLarge read) old new = new ≡ old
+WritesOn c bytes first log ReadFault old new = new ≡ old
 
 -- ---- what a run read and wrote of what its source and its sink tell
 
@@ -143,9 +137,9 @@ HasRead c WriteFault (Some bytes) new = ReadsWhole c bytes new WriteFault
 HasRead c BadWords (Some bytes) new = new ≡ Some bytes
 
 -- what a run that ended so wrote, where its source told these bytes
-abbrev pub HasWritten : Command → Refusals → Status → Option (List ℕ) → Option (List ℕ) → Option (List ℕ) → Type 0
-HasWritten c b status None old new = ⊤
-HasWritten c b status (Some bytes) old new = WritesOn c bytes b status old new
+abbrev pub HasWritten : Command → Log → Log → Status → Option (List ℕ) → Option (List ℕ) → Option (List ℕ) → Type 0
+HasWritten c first log status None old new = ⊤
+HasWritten c first log status (Some bytes) old new = WritesOn c bytes first log status old new
 
 -- ---- what stays as it was
 

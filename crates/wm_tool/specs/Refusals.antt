@@ -1,10 +1,9 @@
 -- The patterns that were refused in a run, and the verdicts on its texts.
-use Rattle.std.specs.Prelude.{ℕ, ◌+◌, ◌==◌, ◌≤◌, if◌then◌else◌, min, List, [], ◌∷◌, length, take, Option, None, Some, is_some, option_and_then, slice_get, IsTrue}
+use Rattle.std.specs.Prelude.{ℕ, ◌+◌, ◌==◌, ◌≤◌, if◌then◌else◌, List, [], ◌∷◌, length, take, Option, None, Some, is_some, option_and_then, slice_get, IsTrue}
 use Rattle.std.specs.List.{flat_map, AllByRecursion}
 use Rattle.std.specs.Option.{option_to_list}
-use Rattle.wm_defs.specs.Counts.{LAST_COUNT}
 use Rattle.wm_txn.specs.Commits.{greatest}
-use Rattle.wm_criteria.specs.Building.{Tells}
+use Rattle.wm_criteria.specs.Building.{Grew, Log}
 use Rattle.wm_criteria.specs.Patterns.{pattern_at, unless_plain}
 use Rattle.wm_criteria.specs.declared.verdict.Verdict.{Verdict}
 use Rattle.wm_criteria.specs.declared.verdict.Verdict.TheVariants.{Ready, Bad, PatternRefused}
@@ -32,10 +31,6 @@ verdict_of refused place text = verdict_by (batch_of text) (refusal_at place ref
 
 -- ---- when a list of refusals is fair for a run, and backed by its build
 
--- a count rose by n at least, or stands at its last value
-abbrev pub RoseBy : ℕ → ℕ → ℕ → Type 0
-RoseBy n old new = min (old + n) LAST_COUNT ≤ new
-
 -- the places rise from n on, so that each is there once at most
 abbrev pub IsRising : ℕ → List Refused → Type 0
 IsRising n [] = Unit {0}
@@ -56,10 +51,9 @@ IsRefusable texts r = IsTrue (is_some (unless_plain (pattern_in texts r)))
 abbrev pub patterns_in : List (Option (List ℕ)) → List Refused → List (List ℕ)
 patterns_in texts refused = flat_map (λ r. option_to_list (pattern_in texts r)) refused
 
--- Of steps with these texts: each refusal names a place, once, and a pattern of its text that is not plain; the build
--- counted as many refusals at least, and where it tells their texts these are they, in order.
-pub record IsBacked (texts : List (Option (List ℕ))) (refused : List Refused) (old new : ℕ) (told_old told_new : Option (List (List ℕ))) : Type 0 where
+-- Of steps with these texts: each refusal names a place, once, and a pattern of its text that is not plain; and between
+-- the build's two logs these patterns were refused, in order.
+pub record IsBacked (texts : List (Option (List ℕ))) (refused : List Refused) (old new : Log) : Type 0 where
   pub rising : IsRising 0 refused
   pub fair : AllByRecursion (IsRefusable texts) refused
-  pub counted : RoseBy (length refused) old new
-  pub told : Tells told_old told_new (patterns_in texts refused)
+  pub grew : Grew old new (patterns_in texts refused)

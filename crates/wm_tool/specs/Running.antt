@@ -3,6 +3,7 @@ use Rattle.std.specs.Prelude.{◌≡◌, ℕ, ◌<◌, ◌≤◌, ◌+◌, ◌�
 use Rattle.std.specs.List.{AllByRecursion}
 use Rattle.wm_core.specs.DeskValue.{DeskValue, Stands}
 use Rattle.wm_core.specs.History.{History}
+use Rattle.wm_criteria.specs.Building.{Log}
 use Rattle.wm_criteria.specs.declared.prepared.Prepared.{Prepared}
 use Rattle.wm_criteria.specs.declared.verdict.Verdict.{Verdict}
 use Rattle.wm_criteria.specs.declared.verdict.Verdict.TheVariants.{Ready, Bad, PatternRefused}
@@ -47,33 +48,38 @@ fresh_by place (Ok prepared) = fresh place prepared.verdict
 fresh_by place (Err e) = []
 
 -- the refusals are backed, and their places are before n
-pub record IsBackedTo (n : ℕ) (texts : List (Option (List ℕ))) (refused : List Refused) (old new : ℕ) (told_old told_new : Option (List (List ℕ))) : Type 0 where
+pub record IsBackedTo (n : ℕ) (texts : List (Option (List ℕ))) (refused : List Refused) (old new : Log) : Type 0 where
   pub below : AllByRecursion (λ (r : Refused). r.place < n) refused
-  pub backed : IsBacked texts refused old new told_old told_new
+  pub backed : IsBacked texts refused old new
 
 -- Steps with these texts, from this place on: the refusals that were backed before are so after them.
-abbrev pub Backs : ℕ → List (Option (List ℕ)) → List Refused → List Refused → ℕ → ℕ → Option (List (List ℕ)) → Option (List (List ℕ)) → Type 0
-Backs place steps before after count_old count_new told_old told_new =
-    (texts later : List (Option (List ℕ))) → (count : ℕ) → (told : Option (List (List ℕ))) → drop place texts ≡ steps ++ later
-    → IsBackedTo place texts before count count_old told told_old → IsBackedTo (place + length steps) texts after count count_new told told_new
+abbrev pub Backs : ℕ → List (Option (List ℕ)) → List Refused → List Refused → Log → Log → Type 0
+Backs place steps before after old new =
+    (texts later : List (Option (List ℕ))) → (first : Log) → drop place texts ≡ steps ++ later
+    → IsBackedTo place texts before first old → IsBackedTo (place + length steps) texts after first new
 
 -- the refusals are as before, or one more at the place, where there is a step
 abbrev pub Grows : ℕ → List (Option (List ℕ)) → List Refused → List Refused → Type 0
 Grows place steps before after = (after ≡ before) ⊎ ((r : Refused) × (r.place ≡ place) × (after ≡ before ++ r ∷ []) × (1 ≤ length steps))
 
+-- what steps with these texts, from this place on, make of a list of refusals: it has one more at most, and is backed as before
+pub record Notes (place : ℕ) (steps : List (Option (List ℕ))) (before after : List Refused) (old new : Log) : Type 0 where
+  pub grown : Grows place steps before after
+  pub backed : Backs place steps before after old new
+
 -- ---- a run and its refusals
 
 -- what a run is at, the steps that are ahead being these
 pub record Plays (old now : Option (List ℕ)) (desk : DeskValue) (refused : List Refused) (piece : List ℕ) (tells : List Refused → History → List ℕ) (whole : List Refused → List ℕ)
-    (texts ahead : List (Option (List ℕ))) (count count_now : ℕ) (told told_now : Option (List (List ℕ))) : Type 0 where
+    (texts ahead : List (Option (List ℕ))) (first log : Log) : Type 0 where
   pub runs : Runs old now desk refused piece tells whole
-  pub backed : IsBackedTo desk.steps texts refused count count_now told told_now
+  pub backed : IsBackedTo desk.steps texts refused first log
   pub left : drop desk.steps texts ≡ ahead
 
 -- a run that has stopped wrote a first part, and its refusals are backed
-abbrev pub Stops : Option (List ℕ) → Option (List ℕ) → (List Refused → List ℕ) → List Refused → List (Option (List ℕ)) → ℕ → ℕ → Option (List (List ℕ)) → Option (List (List ℕ)) → Type 0
-Stops old now whole refused texts count count_now told told_now = TakesPart old now (whole refused) × IsBacked texts refused count count_now told told_now
+abbrev pub Stops : Option (List ℕ) → Option (List ℕ) → (List Refused → List ℕ) → List Refused → List (Option (List ℕ)) → Log → Log → Type 0
+Stops old now whole refused texts first log = TakesPart old now (whole refused) × IsBacked texts refused first log
 
 -- what a run is at that tells nothing before its end
-abbrev pub Draws : DeskValue → List Refused → (List Refused → History → List ℕ) → (List Refused → List ℕ) → List (Option (List ℕ)) → List (Option (List ℕ)) → ℕ → ℕ → Option (List (List ℕ)) → Option (List (List ℕ)) → Type 0
-Draws desk refused tells whole texts ahead count count_now told told_now = Plays (Some []) (Some []) desk refused [] tells whole texts ahead count count_now told told_now
+abbrev pub Draws : DeskValue → List Refused → (List Refused → History → List ℕ) → (List Refused → List ℕ) → List (Option (List ℕ)) → List (Option (List ℕ)) → Log → Log → Type 0
+Draws desk refused tells whole texts ahead first log = Plays (Some []) (Some []) desk refused [] tells whole texts ahead first log

@@ -2,6 +2,7 @@
 ghost use Rattle.std.specs.Prelude.{◌≡◌, ℕ, List, Option, ◌+◌, ◌≤◌, [], None, All, IfErr, IfOk, OnErr, OnOk, length};
 ghost use Rattle.wm_core.specs.DeskValue.{Stands};
 ghost use Rattle.wm_core.specs.History.{History, opening_of};
+ghost use Rattle.wm_criteria.specs.Building.{Log};
 ghost use Rattle.wm_ports.specs.Told.{TakesAll, TakesPart};
 ghost use Rattle.wm_tool.specs.Drawing.{drawn_from, picture};
 ghost use Rattle.wm_tool.specs.Ending.{HasStopped};
@@ -35,8 +36,7 @@ pub fn draw<B: Build, W: Sink>(
     requires none { refused.old.items ≡ [] }
     ensures ok { OnOk result (TakesAll (W.taken sink.old) (W.taken sink.new) (drawn_from (start_of lines.now) lines.now refused.new.items [])) }
     ensures part { OnErr result (TakesPart (W.taken sink.old) (W.taken sink.new) (drawn_from (start_of lines.now) lines.now refused.new.items [])) }
-    ensures backed { IsBacked (line_texts lines.now) refused.new.items
-        (B.refusals build.old) (B.refusals build.new) (B.refused build.old) (B.refused build.new) }
+    ensures backed { IsBacked (line_texts lines.now) refused.new.items (B.log build.old) (B.log build.new) }
     ensures err { IfErr result (HasStopped (W.faults sink.old) (W.faults sink.new)) }
 {
     let mut desk = desk_of(alloc, lines)?;
@@ -60,8 +60,7 @@ fn draw_on<B: Build, W: Sink>(
     requires stands { Stands desk.old [] }
     ensures ok { OnOk result (TakesAll (W.taken sink.old) (W.taken sink.new) (drawn_from (opening_of desk.old.plan) lines.now refused.new.items [])) }
     ensures part { OnErr result (TakesPart (W.taken sink.old) (W.taken sink.new) (drawn_from (opening_of desk.old.plan) lines.now refused.new.items [])) }
-    ensures backed { IsBacked (line_texts lines.now) refused.new.items
-        (B.refusals build.old) (B.refusals build.new) (B.refused build.old) (B.refused build.new) }
+    ensures backed { IsBacked (line_texts lines.now) refused.new.items (B.log build.old) (B.log build.new) }
     ensures err { IfErr result (HasStopped (W.faults sink.old) (W.faults sink.new)) }
 {
     play_lines(alloc, lines, desk, build, refused)?;
@@ -80,15 +79,12 @@ fn play_lines<B: Build>(
 ) -> Result<(), NoMemory>
     requires few { desk.old.steps + length lines.now ≤ 16777216 }
     requires fit { All IsFitLine lines.now }
-    ensures ok { (whole : List Refused → List ℕ) → (texts : List (Option (List ℕ))) → (count : ℕ) → (told : Option (List (List ℕ))) →
-        Draws desk.old refused.old.items (drawn_from (opening_of desk.old.plan) lines.now) whole texts (line_texts lines.now)
-        count (B.refusals build.old) told (B.refused build.old) →
-        OnOk result (Draws desk.new refused.new.items (drawn_from (opening_of desk.old.plan) []) whole texts []
-        count (B.refusals build.new) told (B.refused build.new)) }
-    ensures part { (whole : List Refused → List ℕ) → (texts : List (Option (List ℕ))) → (count : ℕ) → (told : Option (List (List ℕ))) →
-        Draws desk.old refused.old.items (drawn_from (opening_of desk.old.plan) lines.now) whole texts (line_texts lines.now)
-        count (B.refusals build.old) told (B.refused build.old) →
-        OnErr result (IsBacked texts refused.new.items count (B.refusals build.new) told (B.refused build.new)) }
+    ensures ok { (whole : List Refused → List ℕ) → (texts : List (Option (List ℕ))) → (first : Log) →
+        Draws desk.old refused.old.items (drawn_from (opening_of desk.old.plan) lines.now) whole texts (line_texts lines.now) first (B.log build.old) →
+        OnOk result (Draws desk.new refused.new.items (drawn_from (opening_of desk.old.plan) []) whole texts [] first (B.log build.new)) }
+    ensures part { (whole : List Refused → List ℕ) → (texts : List (Option (List ℕ))) → (first : Log) →
+        Draws desk.old refused.old.items (drawn_from (opening_of desk.old.plan) lines.now) whole texts (line_texts lines.now) first (B.log build.old) →
+        OnErr result (IsBacked texts refused.new.items first (B.log build.new)) }
     ensures plan { OnOk result (desk.new.plan ≡ desk.old.plan) }
 {
     let mut told = Vec::new(alloc);

@@ -6,12 +6,13 @@ ghost use Rattle.wm_frames.specs.Frame.{IsShort};
 ghost use Rattle.wm_core.specs.History.{answer, History, opening_of};
 ghost use Rattle.wm_json.specs.Replies.{replies_text, success_text, VERSION_TEXT};
 ghost use Rattle.wm_layouts.specs.Plan.{IsStandard};
+ghost use Rattle.wm_criteria.specs.Building.{Log};
 ghost use Rattle.wm_ports.specs.Told.{TakesAll, TakesPart};
 ghost use Rattle.wm_tool.specs.Ending.{HasStopped};
 ghost use Rattle.wm_tool.specs.Ipc.{after_message, framed, message_step, message_texts, plain_payload, replied, replies_from, replies_of, request_by};
 ghost use Rattle.wm_tool.specs.Output.{run_entry};
 ghost use Rattle.wm_tool.specs.Refusals.{refusal_at, IsBacked};
-ghost use Rattle.wm_tool.specs.Running.{Backs, Grows, Leads, Plays, Stops};
+ghost use Rattle.wm_tool.specs.Running.{Leads, Notes, Plays, Stops};
 ghost use Rattle.wm_tool.specs.declared.status.Refused.{Refused};
 
 use crate::judging::run_text;
@@ -48,8 +49,7 @@ pub fn answer_all<B: Build, W: Sink>(
     requires none { refused.old.items ≡ [] }
     ensures ok { OnOk result (TakesAll (W.taken sink.old) (W.taken sink.new) (replies_from decoder.old.queue refused.new.items [])) }
     ensures part { OnErr result (TakesPart (W.taken sink.old) (W.taken sink.new) (replies_from decoder.old.queue refused.new.items [])) }
-    ensures backed { IsBacked (message_texts decoder.old.queue) refused.new.items
-        (B.refusals build.old) (B.refusals build.new) (B.refused build.old) (B.refused build.new) }
+    ensures backed { IsBacked (message_texts decoder.old.queue) refused.new.items (B.log build.old) (B.log build.new) }
     ensures err { IfErr result (HasStopped (W.faults sink.old) (W.faults sink.new)) }
     ensures counted { W.faults sink.old ≤ W.faults sink.new }
 {
@@ -74,15 +74,12 @@ fn answer_queue<B: Build, W: Sink>(
     requires short { AllByRecursion IsShort decoder.old.queue }
     requires plan { IsStandard desk.old.plan }
     requires empty { piece.old.items ≡ [] }
-    ensures ok { (old : Option (List ℕ)) → (whole : List Refused → List ℕ) → (texts : List (Option (List ℕ))) → (count : ℕ) → (told : Option (List (List ℕ))) →
-        Plays old (W.taken sink.old) desk.old refused.old.items [] (replies_from decoder.old.queue) whole texts (message_texts decoder.old.queue)
-        count (B.refusals build.old) told (B.refused build.old) →
-        OnOk result (Plays old (W.taken sink.new) desk.new refused.new.items [] (replies_from []) whole texts []
-        count (B.refusals build.new) told (B.refused build.new)) }
-    ensures part { (old : Option (List ℕ)) → (whole : List Refused → List ℕ) → (texts : List (Option (List ℕ))) → (count : ℕ) → (told : Option (List (List ℕ))) →
-        Plays old (W.taken sink.old) desk.old refused.old.items [] (replies_from decoder.old.queue) whole texts (message_texts decoder.old.queue)
-        count (B.refusals build.old) told (B.refused build.old) →
-        OnErr result (Stops old (W.taken sink.new) whole refused.new.items texts count (B.refusals build.new) told (B.refused build.new)) }
+    ensures ok { (old : Option (List ℕ)) → (whole : List Refused → List ℕ) → (texts : List (Option (List ℕ))) → (first : Log) →
+        Plays old (W.taken sink.old) desk.old refused.old.items [] (replies_from decoder.old.queue) whole texts (message_texts decoder.old.queue) first (B.log build.old) →
+        OnOk result (Plays old (W.taken sink.new) desk.new refused.new.items [] (replies_from []) whole texts [] first (B.log build.new)) }
+    ensures part { (old : Option (List ℕ)) → (whole : List Refused → List ℕ) → (texts : List (Option (List ℕ))) → (first : Log) →
+        Plays old (W.taken sink.old) desk.old refused.old.items [] (replies_from decoder.old.queue) whole texts (message_texts decoder.old.queue) first (B.log build.old) →
+        OnErr result (Stops old (W.taken sink.new) whole refused.new.items texts first (B.log build.new)) }
     ensures err { IfErr result (HasStopped (W.faults sink.old) (W.faults sink.new)) }
     ensures counted { W.faults sink.old ≤ W.faults sink.new }
 {
@@ -111,9 +108,7 @@ fn answer_message<B: Build>(
         OnOk result (Leads desk.old desk.new (after_message message.now refused.new.items) (replied (opening_of desk.old.plan) message.now refused.new.items) piece.old.items piece.new.items) }
     ensures steps { OnOk result (desk.new.steps ≡ desk.old.steps + length (message_step message.now)) }
     ensures plan { OnOk result (desk.new.plan ≡ desk.old.plan) }
-    ensures grows { Grows desk.old.steps (message_step message.now) refused.old.items refused.new.items }
-    ensures backs { Backs desk.old.steps (message_step message.now) refused.old.items refused.new.items
-        (B.refusals build.old) (B.refusals build.new) (B.refused build.old) (B.refused build.new) }
+    ensures notes { Notes desk.old.steps (message_step message.now) refused.old.items refused.new.items (B.log build.old) (B.log build.new) }
 {
     if message.kind == RUN_COMMAND {
         return answer_command(alloc, desk, message, build, refused, piece);
@@ -137,9 +132,7 @@ fn answer_command<B: Build>(
         OnOk result (Leads desk.old desk.new (after_message message.now refused.new.items) (replied (opening_of desk.old.plan) message.now refused.new.items) piece.old.items piece.new.items) }
     ensures steps { OnOk result (desk.new.steps ≡ desk.old.steps + length (message_step message.now)) }
     ensures plan { OnOk result (desk.new.plan ≡ desk.old.plan) }
-    ensures grows { Grows desk.old.steps (message_step message.now) refused.old.items refused.new.items }
-    ensures backs { Backs desk.old.steps (message_step message.now) refused.old.items refused.new.items
-        (B.refusals build.old) (B.refusals build.new) (B.refused build.old) (B.refused build.new) }
+    ensures notes { Notes desk.old.steps (message_step message.now) refused.old.items refused.new.items (B.log build.old) (B.log build.new) }
 {
     match str::from_utf8(message.payload.items()) {
         Ok(text) => answer_text(alloc, desk, text, build, refused, piece),
@@ -167,9 +160,7 @@ fn answer_text<B: Build>(
         piece.old.items piece.new.items) }
     ensures steps { OnOk result (desk.new.steps ≡ desk.old.steps + 1) }
     ensures plan { OnOk result (desk.new.plan ≡ desk.old.plan) }
-    ensures grows { Grows desk.old.steps (Some text.now ∷ []) refused.old.items refused.new.items }
-    ensures backs { Backs desk.old.steps (Some text.now ∷ []) refused.old.items refused.new.items
-        (B.refusals build.old) (B.refusals build.new) (B.refused build.old) (B.refused build.new) }
+    ensures notes { Notes desk.old.steps (Some text.now ∷ []) refused.old.items refused.new.items (B.log build.old) (B.log build.new) }
 {
     let answer = run_text(alloc, desk, 0, text, build, refused)?;
     let replies = answer_replies(alloc, &answer)?;

@@ -1,14 +1,13 @@
 //! Texts are prepared and run on a desk, and it is noted which of their patterns were refused.
-ghost use Rattle.std.specs.Prelude.{◌≡◌, ◌++◌, ◌+◌, ◌<◌, ◌≤◌, ◌^◌, ◌∷◌, [], length, IfOk, IsTrue, None, OnOk, Some};
+ghost use Rattle.std.specs.Prelude.{◌≡◌, ◌++◌, ◌+◌, ◌<◌, ◌^◌, ◌∷◌, [], length, IfOk, IsTrue, None, OnOk, Some};
 ghost use Rattle.wm_core.specs.DeskValue.{Stands};
 ghost use Rattle.wm_core.specs.History.{answer, History, opening_of};
-ghost use Rattle.wm_defs.specs.Counts.{Rose};
-ghost use Rattle.wm_criteria.specs.Building.{Tells};
+ghost use Rattle.wm_criteria.specs.Building.{Grew};
 ghost use Rattle.wm_criteria.specs.Prepared.{is_built, refused_by};
-ghost use Rattle.wm_criteria.specs.Verdict.{IsVerdict, OnRefusal};
+ghost use Rattle.wm_criteria.specs.Verdict.{IsVerdict};
 ghost use Rattle.wm_tool.specs.Output.{run_entry};
 ghost use Rattle.wm_tool.specs.Refusals.{refusal_at};
-ghost use Rattle.wm_tool.specs.Running.{Backs, fresh_by, Grows};
+ghost use Rattle.wm_tool.specs.Running.{fresh_by, Notes};
 
 use crate::status::Refused;
 use std::alloc::Global;
@@ -29,9 +28,7 @@ pub fn judge<B: Build>(
     ensures verdict { IfOk result (λ p. IsVerdict text.now p.verdict) }
     ensures built { IfOk result (λ p. IsTrue (is_built p)) }
     ensures grown { refused.new.items ≡ refused.old.items ++ fresh_by place result }
-    ensures told { Tells (B.refused build.old) (B.refused build.new) (refused_by text.now result) }
-    ensures rose { IfOk result (λ p. OnRefusal p.verdict (Rose (B.refusals build.old) (B.refusals build.new))) }
-    ensures counted { B.refusals build.old ≤ B.refusals build.new }
+    ensures grew { Grew (B.log build.old) (B.log build.new) (refused_by text.now result) }
 {
     refused.reserve(1)?;
     let prepared = prepare(alloc, text, build)?;
@@ -58,9 +55,7 @@ pub fn run_text<B: Build>(
         OnOk result (Stands desk.new (run_entry who refused.new.items history text.now ∷ history)) }
     ensures steps { OnOk result (desk.new.steps ≡ desk.old.steps + 1) }
     ensures plan { OnOk result (desk.new.plan ≡ desk.old.plan) }
-    ensures grows { Grows desk.old.steps (Some text.now ∷ []) refused.old.items refused.new.items }
-    ensures backs { Backs desk.old.steps (Some text.now ∷ []) refused.old.items refused.new.items
-        (B.refusals build.old) (B.refusals build.new) (B.refused build.old) (B.refused build.new) }
+    ensures notes { Notes desk.old.steps (Some text.now ∷ []) refused.old.items refused.new.items (B.log build.old) (B.log build.new) }
 {
     let text = judge(alloc, text, desk.steps(), build, refused)?;
     let step = Step::Run(text);

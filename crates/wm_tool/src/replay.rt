@@ -8,11 +8,12 @@ ghost use Rattle.wm_paint.specs.FrameText.{frame_text};
 ghost use Rattle.wm_core.specs.History.{answer, History, opening_of};
 ghost use Rattle.wm_core.specs.Sizes.{IsFitStep};
 ghost use Rattle.wm_defs.specs.Counts.{Rose};
+ghost use Rattle.wm_criteria.specs.Building.{Log};
 ghost use Rattle.wm_ports.specs.Told.{TakesAll, TakesPart};
 ghost use Rattle.wm_tool.specs.Ending.{HasStopped};
 ghost use Rattle.wm_tool.specs.Output.{after, answer_text, entry_of, line_step, line_texts, out_from, run_entry, start_of, told, view_text};
 ghost use Rattle.wm_tool.specs.Refusals.{refusal_at, IsBacked};
-ghost use Rattle.wm_tool.specs.Running.{Backs, Grows, Leads, Plays, Stops, Writes};
+ghost use Rattle.wm_tool.specs.Running.{Leads, Notes, Plays, Stops, Writes};
 ghost use Rattle.wm_script.specs.Script.{IsFitLine, IsSoundScript};
 ghost use Rattle.wm_tool.specs.declared.status.Refused.{Refused};
 ghost use Rattle.wm_tool.specs.declared.replay.Stop.TheVariants as stops;
@@ -76,8 +77,7 @@ pub fn replay<B: Build, W: Sink>(
     requires none { refused.old.items ≡ [] }
     ensures ok { OnOk result (TakesAll (W.taken sink.old) (W.taken sink.new) (out_from (start_of lines.now) lines.now refused.new.items [])) }
     ensures part { OnErr result (TakesPart (W.taken sink.old) (W.taken sink.new) (out_from (start_of lines.now) lines.now refused.new.items [])) }
-    ensures backed { IsBacked (line_texts lines.now) refused.new.items
-        (B.refusals build.old) (B.refusals build.new) (B.refused build.old) (B.refused build.new) }
+    ensures backed { IsBacked (line_texts lines.now) refused.new.items (B.log build.old) (B.log build.new) }
     ensures err { IfErr result (HasStopped (W.faults sink.old) (W.faults sink.new)) }
 {
     let mut desk = desk_of(alloc, lines)?;
@@ -101,8 +101,7 @@ fn replay_on<B: Build, W: Sink>(
     requires stands { Stands desk.old [] }
     ensures ok { OnOk result (TakesAll (W.taken sink.old) (W.taken sink.new) (out_from (opening_of desk.old.plan) lines.now refused.new.items [])) }
     ensures part { OnErr result (TakesPart (W.taken sink.old) (W.taken sink.new) (out_from (opening_of desk.old.plan) lines.now refused.new.items [])) }
-    ensures backed { IsBacked (line_texts lines.now) refused.new.items
-        (B.refusals build.old) (B.refusals build.new) (B.refused build.old) (B.refused build.new) }
+    ensures backed { IsBacked (line_texts lines.now) refused.new.items (B.log build.old) (B.log build.new) }
     ensures err { IfErr result (HasStopped (W.faults sink.old) (W.faults sink.new)) }
 {
     let mut piece = Vec::new(alloc);
@@ -123,15 +122,12 @@ fn run_lines<B: Build, W: Sink>(
 ) -> Result<(), Stop>
     requires few { desk.old.steps + length lines.now ≤ 16777216 }
     requires fit { All IsFitLine lines.now }
-    ensures ok { (old : Option (List ℕ)) → (whole : List Refused → List ℕ) → (texts : List (Option (List ℕ))) → (count : ℕ) → (told : Option (List (List ℕ))) →
-        Plays old (W.taken sink.old) desk.old refused.old.items piece.old.items (out_from (opening_of desk.old.plan) lines.now) whole texts (line_texts lines.now)
-        count (B.refusals build.old) told (B.refused build.old) →
-        OnOk result (Plays old (W.taken sink.new) desk.new refused.new.items piece.new.items (out_from (opening_of desk.old.plan) []) whole texts []
-        count (B.refusals build.new) told (B.refused build.new)) }
-    ensures part { (old : Option (List ℕ)) → (whole : List Refused → List ℕ) → (texts : List (Option (List ℕ))) → (count : ℕ) → (told : Option (List (List ℕ))) →
-        Plays old (W.taken sink.old) desk.old refused.old.items piece.old.items (out_from (opening_of desk.old.plan) lines.now) whole texts (line_texts lines.now)
-        count (B.refusals build.old) told (B.refused build.old) →
-        OnErr result (Stops old (W.taken sink.new) whole refused.new.items texts count (B.refusals build.new) told (B.refused build.new)) }
+    ensures ok { (old : Option (List ℕ)) → (whole : List Refused → List ℕ) → (texts : List (Option (List ℕ))) → (first : Log) →
+        Plays old (W.taken sink.old) desk.old refused.old.items piece.old.items (out_from (opening_of desk.old.plan) lines.now) whole texts (line_texts lines.now) first (B.log build.old) →
+        OnOk result (Plays old (W.taken sink.new) desk.new refused.new.items piece.new.items (out_from (opening_of desk.old.plan) []) whole texts [] first (B.log build.new)) }
+    ensures part { (old : Option (List ℕ)) → (whole : List Refused → List ℕ) → (texts : List (Option (List ℕ))) → (first : Log) →
+        Plays old (W.taken sink.old) desk.old refused.old.items piece.old.items (out_from (opening_of desk.old.plan) lines.now) whole texts (line_texts lines.now) first (B.log build.old) →
+        OnErr result (Stops old (W.taken sink.new) whole refused.new.items texts first (B.log build.new)) }
     ensures err { IfErr result (HasStopped (W.faults sink.old) (W.faults sink.new)) }
     ensures counted { W.faults sink.old ≤ W.faults sink.new }
 {
@@ -173,9 +169,7 @@ pub(crate) fn run_line<B: Build>(
         OnOk result (Leads desk.old desk.new (after line.now refused.new.items) (told (opening_of desk.old.plan) line.now refused.new.items) piece.old.items piece.new.items) }
     ensures steps { OnOk result (desk.new.steps ≡ desk.old.steps + length (line_step line.now)) }
     ensures plan { OnOk result (desk.new.plan ≡ desk.old.plan) }
-    ensures grows { Grows desk.old.steps (line_step line.now) refused.old.items refused.new.items }
-    ensures backs { Backs desk.old.steps (line_step line.now) refused.old.items refused.new.items
-        (B.refusals build.old) (B.refusals build.new) (B.refused build.old) (B.refused build.new) }
+    ensures notes { Notes desk.old.steps (line_step line.now) refused.old.items refused.new.items (B.log build.old) (B.log build.new) }
 {
     match &line.deed {
         Deed::Run(text) => {
@@ -214,9 +208,7 @@ fn run_and_tell<B: Build>(
         (λ history. answer_text (answer (opening_of desk.old.plan) history (run_entry who refused.new.items history text.now))) piece.old.items piece.new.items) }
     ensures steps { OnOk result (desk.new.steps ≡ desk.old.steps + 1) }
     ensures plan { OnOk result (desk.new.plan ≡ desk.old.plan) }
-    ensures grows { Grows desk.old.steps (Some text.now ∷ []) refused.old.items refused.new.items }
-    ensures backs { Backs desk.old.steps (Some text.now ∷ []) refused.old.items refused.new.items
-        (B.refusals build.old) (B.refusals build.new) (B.refused build.old) (B.refused build.new) }
+    ensures notes { Notes desk.old.steps (Some text.now ∷ []) refused.old.items refused.new.items (B.log build.old) (B.log build.new) }
 {
     let answer = run_text(alloc, desk, who, text, build, refused)?;
     push_answer(alloc, piece, &answer)

@@ -47,8 +47,7 @@ pub fn tool<R: Source, W: Sink, B: Build>(
     ensures unwritten { OnUnwritten result (sink.new ≡ sink.old) }
     ensures read { IfSome (command words.now) (λ c. HasRead c result (R.rest source.old) (R.rest source.new)) }
     ensures written { IfSome (command words.now) (λ c.
-        HasWritten c (record { old = B.refusals build.old; new = B.refusals build.new; told_old = B.refused build.old; told_new = B.refused build.new })
-        result (R.rest source.old) (W.taken sink.old) (W.taken sink.new)) }
+        HasWritten c (B.log build.old) (B.log build.new) result (R.rest source.old) (W.taken sink.old) (W.taken sink.new)) }
     ensures faults { HasRisen result (R.faults source.old) (R.faults source.new) (W.faults sink.old) (W.faults sink.new) }
     ensures whole { IfSome (command words.now) (λ c.
         (Rose (R.faults source.old) (R.faults source.new) → ⊥) →
@@ -89,8 +88,7 @@ fn run<R: Source, W: Sink, B: Build>(
     ensures words { ending_of result ≢ status.BadWords }
     ensures unwritten { OnUnwritten (ending_of result) (sink.new ≡ sink.old) }
     ensures read { HasRead command (ending_of result) (R.rest source.old) (R.rest source.new) }
-    ensures written { HasWritten command (record { old = B.refusals build.old; new = B.refusals build.new; told_old = B.refused build.old; told_new = B.refused build.new })
-        (ending_of result) (R.rest source.old) (W.taken sink.old) (W.taken sink.new) }
+    ensures written { HasWritten command (B.log build.old) (B.log build.new) (ending_of result) (R.rest source.old) (W.taken sink.old) (W.taken sink.new) }
     ensures faults { HasRisen (ending_of result) (R.faults source.old) (R.faults source.new) (W.faults sink.old) (W.faults sink.new) }
 {
     let bytes = read_to_limit(alloc, source, MOST)?;
@@ -111,9 +109,7 @@ fn replay_script<W: Sink, B: Build>(
     requires within { length bytes.now ≤ 16777216 }
     ensures ends { EndsOn commands.Replay bytes.now (ending_of result) }
     ensures unwritten { OnUnwritten (ending_of result) (sink.new ≡ sink.old) }
-    ensures written { WritesOn commands.Replay bytes.now
-        (record { old = B.refusals build.old; new = B.refusals build.new; told_old = B.refused build.old; told_new = B.refused build.new })
-        (ending_of result) (W.taken sink.old) (W.taken sink.new) }
+    ensures written { WritesOn commands.Replay bytes.now (B.log build.old) (B.log build.new) (ending_of result) (W.taken sink.old) (W.taken sink.new) }
     ensures faults { (old new : ℕ) → HasRisen (ending_of result) old new (W.faults sink.old) (W.faults sink.new) }
 {
     let lines = read_script(alloc, bytes)?;
@@ -132,9 +128,7 @@ fn draw_script<W: Sink, B: Build>(
     requires within { length bytes.now ≤ 16777216 }
     ensures ends { EndsOn commands.Draw bytes.now (ending_of result) }
     ensures unwritten { OnUnwritten (ending_of result) (sink.new ≡ sink.old) }
-    ensures written { WritesOn commands.Draw bytes.now
-        (record { old = B.refusals build.old; new = B.refusals build.new; told_old = B.refused build.old; told_new = B.refused build.new })
-        (ending_of result) (W.taken sink.old) (W.taken sink.new) }
+    ensures written { WritesOn commands.Draw bytes.now (B.log build.old) (B.log build.new) (ending_of result) (W.taken sink.old) (W.taken sink.new) }
     ensures faults { (old new : ℕ) → HasRisen (ending_of result) old new (W.faults sink.old) (W.faults sink.new) }
 {
     let lines = read_script(alloc, bytes)?;
@@ -153,9 +147,7 @@ fn answer_frames<W: Sink, B: Build>(
     requires within { length bytes.now ≤ 16777216 }
     ensures ends { EndsOn commands.Ipc bytes.now (ending_of result) }
     ensures unwritten { OnUnwritten (ending_of result) (sink.new ≡ sink.old) }
-    ensures written { WritesOn commands.Ipc bytes.now
-        (record { old = B.refusals build.old; new = B.refusals build.new; told_old = B.refused build.old; told_new = B.refused build.new })
-        (ending_of result) (W.taken sink.old) (W.taken sink.new) }
+    ensures written { WritesOn commands.Ipc bytes.now (B.log build.old) (B.log build.new) (ending_of result) (W.taken sink.old) (W.taken sink.new) }
     ensures faults { (old new : ℕ) → HasRisen (ending_of result) old new (W.faults sink.old) (W.faults sink.new) }
 {
     let mut decoder = Decoder::new(alloc);
@@ -174,9 +166,7 @@ fn answer_fed<W: Sink, B: Build>(
     requires within { length bytes.now ≤ 16777216 }
     ensures ends { EndsOn commands.Ipc bytes.now (ending_of result) }
     ensures unwritten { OnUnwritten (ending_of result) (sink.new ≡ sink.old) }
-    ensures written { WritesOn commands.Ipc bytes.now
-        (record { old = B.refusals build.old; new = B.refusals build.new; told_old = B.refused build.old; told_new = B.refused build.new })
-        (ending_of result) (W.taken sink.old) (W.taken sink.new) }
+    ensures written { WritesOn commands.Ipc bytes.now (B.log build.old) (B.log build.new) (ending_of result) (W.taken sink.old) (W.taken sink.new) }
     ensures faults { (old new : ℕ) → HasRisen (ending_of result) old new (W.faults sink.old) (W.faults sink.new) }
 {
     let end = feed_all(decoder, bytes)?;

@@ -1,5 +1,5 @@
-use Rattle.std.proofs.Common.{◌≡◌, ◌+◌, ◌≤◌, ◌++◌, [], length}
-use Rattle.wm_criteria.specs.Building.{Tells}
+use Rattle.std.proofs.Common.{◌≡◌, ◌+◌, ◌++◌, [], length}
+use Rattle.wm_criteria.specs.Building.{Grew}
 use Rattle.wm_criteria.specs.Forms.{forms_of}
 use Rattle.wm_criteria.specs.Patterns.{patterns_of}
 use Rattle.wm_criteria.proofs.NumberLemmas.{IsAmong}
@@ -11,8 +11,7 @@ invariant-loop-rest g l = record {
   forms : l.all.items ++ forms_of l.rest ≡ forms_of l.groups;
   number : l.number + length (patterns_of l.rest) ≡ length (patterns_of l.groups);
   among : IsAmong 0 (patterns_of l.groups) l.number (patterns_of l.rest);
-  told : Tells (g.B.Build.refused l.initial.build) (g.B.Build.refused l.build) [];
-  counted : g.B.Build.refusals l.initial.build ≤ g.B.Build.refusals l.build;
+  grew : Grew (g.B.Build.log l.initial.build) (g.B.Build.log l.build) [];
 }
 
 abbrev pub decreases-loop-rest : goal.decreases-loop-rest

@@ -1,5 +1,5 @@
 use Rattle.std.proofs.Common.{◌≤◌, arith, length, subst, ap, ◌∙◌}
-use Rattle.wm_criteria.specs.Building.{Tells}
+use Rattle.wm_criteria.specs.Building.{Grew}
 use Rattle.wm_criteria.specs.Patterns.{patterns_of}
 use Rattle.wm_criteria.specs.Stop.{IsStop, stop_texts}
 use Rattle.wm_criteria.specs.declared.forms.Stop.TheVariants.{Refused}
@@ -20,8 +20,8 @@ invariant_of-result g c =
       fitting = λ x e. cc;
     }
 
-pub returns-in-Err-Refused-clause-told : goal.returns-in-Err-Refused-clause-told
-returns-in-Err-Refused-clause-told g c =
-    let here : Tells (g.B.Build.refused c.args.build.now) (g.B.Build.refused c.group_forms.new.build) (stop_texts 0 (patterns_of c.args.batch.groups) c.in-Err-Refused.field-0) = rw (← c.items-then-not-are_plain.ensures) c.in-Err-Refused.ensures.told in
+pub returns-in-Err-Refused-clause-grew : goal.returns-in-Err-Refused-clause-grew
+returns-in-Err-Refused-clause-grew g c =
+    let here : Grew (g.B.Build.log c.args.build.now) (g.B.Build.log c.group_forms.new.build) (stop_texts 0 (patterns_of c.args.batch.groups) c.in-Err-Refused.field-0) = rw (← c.items-then-not-are_plain.ensures) c.in-Err-Refused.ensures.grew in
     let texts = ap (stop_texts 0 (patterns_of c.args.batch.groups)) c.in-Err-Refused.field-0-is ∙ texts_read c.args.text c.args.batch c.in-Err-Refused.pattern c.requires.read in
-    subst (λ t. Tells (g.B.Build.refused c.args.build.now) (g.B.Build.refused c.group_forms.new.build) t) texts here
+    subst (λ t. Grew (g.B.Build.log c.args.build.now) (g.B.Build.log c.group_forms.new.build) t) texts here

@@ -1,86 +1,43 @@
-use Rattle.std.proofs.Common.{ap, refl, sym, subst, []}
+use Rattle.std.proofs.Common.{ap, refl, sym, subst}
 use Rattle.wm_core.specs.History.{opening_of}
 use Rattle.wm_ports.specs.Told.{TakesAll, TakesPart}
 use Rattle.wm_tool.specs.declared.replay.Stop.TheVariants.{NoMemory}
-use Rattle.wm_tool.specs.Drawing.{drawn_from}
-use Rattle.wm_tool.specs.Output.{line_texts}
-use Rattle.wm_tool.proofs.DrawLemmas.{begun, drawn_is, from_opening}
+use Rattle.wm_tool.proofs.DrawLemmas.{drawn_is, from_opening}
 use Rattle.wm_tool.proofs.EndLemmas.{nothing_taken}
-use Rattle.wm_tool.proofs.RunLemmas.{on_err, stopped_as}
+use Rattle.wm_tool.proofs.RunLemmas.{begins, on_err, stopped_as}
 use Rattle.wm_tool.proofs.drawing.draw_on.Goals as goal
 
 pub returns-in_err-play_lines-clause-backed : goal.returns-in_err-play_lines-clause-backed
-returns-in_err-play_lines-clause-backed g c =
-    let start = opening_of c.args.desk.now.plan in
-    let texts = line_texts c.args.lines.now in
-    let count = g.B.Build.refusals c.args.build.now in
-    let refused = g.B.Build.refused c.args.build.now in
-    let first = begun start c.args.lines.now c.args.desk.now c.args.refused.now.items texts count refused c.requires.none c.requires.stands in
-    c.in_err-play_lines.ensures.part (λ rs. drawn_from start c.args.lines.now rs []) texts count refused first
+returns-in_err-play_lines-clause-backed g c = c.in_err-play_lines.ensures.part _ _ _ (begins _ _ _ _ _ _ _ c.requires.none refl c.requires.stands)
 
 pub picture-requires : goal.picture-requires
 picture-requires g c =
-    let start = opening_of c.args.desk.now.plan in
-    let texts = line_texts c.args.lines.now in
-    let count = g.B.Build.refusals c.args.build.now in
-    let refused = g.B.Build.refused c.args.build.now in
-    let first = begun start c.args.lines.now c.args.desk.now c.args.refused.now.items texts count refused c.requires.none c.requires.stands in
-    let drawn = c.in_ok-play_lines.ensures.ok (λ rs. drawn_from start c.args.lines.now rs []) texts count refused first in
+    let drawn = c.in_ok-play_lines.ensures.ok _ _ _ (begins _ _ _ _ _ _ _ c.requires.none refl c.requires.stands) in
     (drawn.runs.history, drawn.runs.stands)
 
 pub returns-in_err-bytes-clause-backed : goal.returns-in_err-bytes-clause-backed
-returns-in_err-bytes-clause-backed g c =
-    let start = opening_of c.args.desk.now.plan in
-    let texts = line_texts c.args.lines.now in
-    let count = g.B.Build.refusals c.args.build.now in
-    let refused = g.B.Build.refused c.args.build.now in
-    let first = begun start c.args.lines.now c.args.desk.now c.args.refused.now.items texts count refused c.requires.none c.requires.stands in
-    (c.in_ok-play_lines.ensures.ok (λ rs. drawn_from start c.args.lines.now rs []) texts count refused first).backed.backed
+returns-in_err-bytes-clause-backed g c = (c.in_ok-play_lines.ensures.ok _ _ _ (begins _ _ _ _ _ _ _ c.requires.none refl c.requires.stands)).backed.backed
 
 pub returns-in_err-write_all-clause-part : goal.returns-in_err-write_all-clause-part
 returns-in_err-write_all-clause-part g c =
-    let start = opening_of c.args.desk.now.plan in
-    let texts = line_texts c.args.lines.now in
-    let count = g.B.Build.refusals c.args.build.now in
-    let refused = g.B.Build.refused c.args.build.now in
-    let first = begun start c.args.lines.now c.args.desk.now c.args.refused.now.items texts count refused c.requires.none c.requires.stands in
-    let drawn = c.in_ok-play_lines.ensures.ok (λ rs. drawn_from start c.args.lines.now rs []) texts count refused first in
-    let is = drawn_is start c.args.lines.now c.play_lines.new.desk c.play_lines.new.refused.items texts [] count (g.B.Build.refusals c.play_lines.new.build) refused (g.B.Build.refused c.play_lines.new.build) c.in_ok-bytes.bytes.items
-    (ap opening_of (sym c.in_ok-play_lines.ensures.plan)) drawn c.in_ok-bytes.ensures in
+    let drawn = c.in_ok-play_lines.ensures.ok _ _ _ (begins _ _ _ _ _ _ _ c.requires.none refl c.requires.stands) in
+    let is = drawn_is (opening_of c.args.desk.now.plan) c.args.lines.now _ _ _ _ _ _ c.in_ok-bytes.bytes.items (ap opening_of (sym c.in_ok-play_lines.ensures.plan)) drawn c.in_ok-bytes.ensures in
     on_err c.from_residual-in_err-write_all.result
-    (from_opening (TakesPart (g.W.Sink.taken c.args.sink.now) (g.W.Sink.taken c.write_all.new.sink)) start _ c.args.lines.now c.play_lines.new.refused.items c.in_ok-bytes.bytes.items refl is
+    (from_opening (TakesPart (g.W.Sink.taken c.args.sink.now) (g.W.Sink.taken c.write_all.new.sink)) (opening_of c.args.desk.now.plan) _ c.args.lines.now c.play_lines.new.refused.items c.in_ok-bytes.bytes.items refl is
     (subst (TakesPart (g.W.Sink.taken c.args.sink.now) (g.W.Sink.taken c.write_all.new.sink)) c.deref.ensures.value c.in_err-write_all.ensures.part))
 
 pub returns-in_err-write_all-clause-backed : goal.returns-in_err-write_all-clause-backed
-returns-in_err-write_all-clause-backed g c =
-    let start = opening_of c.args.desk.now.plan in
-    let texts = line_texts c.args.lines.now in
-    let count = g.B.Build.refusals c.args.build.now in
-    let refused = g.B.Build.refused c.args.build.now in
-    let first = begun start c.args.lines.now c.args.desk.now c.args.refused.now.items texts count refused c.requires.none c.requires.stands in
-    (c.in_ok-play_lines.ensures.ok (λ rs. drawn_from start c.args.lines.now rs []) texts count refused first).backed.backed
+returns-in_err-write_all-clause-backed g c = (c.in_ok-play_lines.ensures.ok _ _ _ (begins _ _ _ _ _ _ _ c.requires.none refl c.requires.stands)).backed.backed
 
 pub returns-clause-ok : goal.returns-clause-ok
 returns-clause-ok g c =
-    let start = opening_of c.args.desk.now.plan in
-    let texts = line_texts c.args.lines.now in
-    let count = g.B.Build.refusals c.args.build.now in
-    let refused = g.B.Build.refused c.args.build.now in
-    let first = begun start c.args.lines.now c.args.desk.now c.args.refused.now.items texts count refused c.requires.none c.requires.stands in
-    let drawn = c.in_ok-play_lines.ensures.ok (λ rs. drawn_from start c.args.lines.now rs []) texts count refused first in
-    let is = drawn_is start c.args.lines.now c.play_lines.new.desk c.play_lines.new.refused.items texts [] count (g.B.Build.refusals c.play_lines.new.build) refused (g.B.Build.refused c.play_lines.new.build) c.in_ok-bytes.bytes.items
-    (ap opening_of (sym c.in_ok-play_lines.ensures.plan)) drawn c.in_ok-bytes.ensures in
-    from_opening (TakesAll (g.W.Sink.taken c.args.sink.now) (g.W.Sink.taken c.write_all.new.sink)) start _ c.args.lines.now c.play_lines.new.refused.items c.in_ok-bytes.bytes.items refl is
+    let drawn = c.in_ok-play_lines.ensures.ok _ _ _ (begins _ _ _ _ _ _ _ c.requires.none refl c.requires.stands) in
+    let is = drawn_is (opening_of c.args.desk.now.plan) c.args.lines.now _ _ _ _ _ _ c.in_ok-bytes.bytes.items (ap opening_of (sym c.in_ok-play_lines.ensures.plan)) drawn c.in_ok-bytes.ensures in
+    from_opening (TakesAll (g.W.Sink.taken c.args.sink.now) (g.W.Sink.taken c.write_all.new.sink)) (opening_of c.args.desk.now.plan) _ c.args.lines.now c.play_lines.new.refused.items c.in_ok-bytes.bytes.items refl is
     (subst (TakesAll (g.W.Sink.taken c.args.sink.now) (g.W.Sink.taken c.write_all.new.sink)) c.deref.ensures.value c.in_ok-write_all.ensures.ok)
 
 pub returns-clause-backed : goal.returns-clause-backed
-returns-clause-backed g c =
-    let start = opening_of c.args.desk.now.plan in
-    let texts = line_texts c.args.lines.now in
-    let count = g.B.Build.refusals c.args.build.now in
-    let refused = g.B.Build.refused c.args.build.now in
-    let first = begun start c.args.lines.now c.args.desk.now c.args.refused.now.items texts count refused c.requires.none c.requires.stands in
-    (c.in_ok-play_lines.ensures.ok (λ rs. drawn_from start c.args.lines.now rs []) texts count refused first).backed.backed
+returns-clause-backed g c = (c.in_ok-play_lines.ensures.ok _ _ _ (begins _ _ _ _ _ _ _ c.requires.none refl c.requires.stands)).backed.backed
 
 -- want of memory is no fault of the sink
 pub returns-in_err-play_lines-clause-err : goal.returns-in_err-play_lines-clause-err

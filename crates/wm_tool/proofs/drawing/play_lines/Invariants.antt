@@ -1,5 +1,6 @@
 use Rattle.std.proofs.Common.{◌≡◌, ℕ, ◌+◌, ◌≤◌, List, Option, All, length}
 use Rattle.wm_core.specs.History.{opening_of}
+use Rattle.wm_criteria.specs.Building.{Log}
 use Rattle.wm_tool.specs.declared.status.Refused.{Refused}
 use Rattle.wm_tool.specs.Drawing.{drawn_from}
 use Rattle.wm_tool.specs.Output.{line_texts}
@@ -13,9 +14,9 @@ invariant-loop-rest g l = record {
   few : l.desk.steps + length l.rest ≤ 16777216;
   fit : All IsFitLine l.rest;
   plan : l.desk.plan ≡ l.initial.desk.plan;
-  draws : (whole : List Refused → List ℕ) (texts : List (Option (List ℕ))) (count : ℕ) (told : Option (List (List ℕ)))
-      → Draws l.initial.desk l.initial.refused.items (drawn_from (opening_of l.initial.desk.plan) l.lines) whole texts (line_texts l.lines) count (g.B.Build.refusals l.initial.build) told (g.B.Build.refused l.initial.build)
-      → Draws l.desk l.refused.items (drawn_from (opening_of l.initial.desk.plan) l.rest) whole texts (line_texts l.rest) count (g.B.Build.refusals l.build) told (g.B.Build.refused l.build);
+  draws : (whole : List Refused → List ℕ) (texts : List (Option (List ℕ))) (first : Log)
+      → Draws l.initial.desk l.initial.refused.items (drawn_from (opening_of l.initial.desk.plan) l.lines) whole texts (line_texts l.lines) first (g.B.Build.log l.initial.build)
+      → Draws l.desk l.refused.items (drawn_from (opening_of l.initial.desk.plan) l.rest) whole texts (line_texts l.rest) first (g.B.Build.log l.build);
 }
 
 abbrev pub decreases-loop-rest : goal.decreases-loop-rest

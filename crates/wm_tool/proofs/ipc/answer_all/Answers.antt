@@ -1,51 +1,23 @@
-use Rattle.std.proofs.Common.{ℕ, [], List, refl, subst, sym}
+use Rattle.std.proofs.Common.{[], refl}
 use Rattle.wm_ports.specs.Told.{TakesAll, TakesPart}
 use Rattle.wm_tool.specs.Ipc.{message_texts, replies_from}
-use Rattle.wm_tool.specs.declared.status.Refused.{Refused}
 use Rattle.wm_tool.specs.Refusals.{IsBacked}
-use Rattle.wm_tool.specs.Running.{Plays}
 use Rattle.wm_tool.proofs.RunLemmas.{begins, either_way, ends_written, err_weaker, ok_weaker}
 use Rattle.wm_tool.proofs.ipc.answer_all.Goals as goal
 
 pub returns-clause-ok : goal.returns-clause-ok
 returns-clause-ok g c =
-    let told = g.W.Sink.taken c.args.sink.now in
-    let tells = replies_from c.args.decoder.now.queue in
-    let texts = message_texts c.args.decoder.now.queue in
-    let count = g.B.Build.refusals c.args.build.now in
-    let refused = g.B.Build.refused c.args.build.now in
-    let whole : List Refused → List ℕ = λ rs. tells rs [] in
-    let begun : Plays told told c.in_ok-desk.desk c.args.refused.now.items [] tells whole texts texts count count refused refused =
-    subst (λ rs. Plays told told c.in_ok-desk.desk rs [] tells whole texts texts count count refused refused) (sym c.requires.none)
-    (begins told c.in_ok-desk.desk tells texts count refused c.in_ok-desk.ensures.stands) in
-    ok_weaker {Q = TakesAll told (g.W.Sink.taken c.answer_queue-end.new.sink) (replies_from c.args.decoder.now.queue c.answer_queue-end.new.refused.items [])} c.answer_queue-end.result (c.answer_queue-end.ensures.ok told whole texts count refused begun)
-    (λ plays. ends_written told (g.W.Sink.taken c.answer_queue-end.new.sink) c.answer_queue-end.new.desk c.answer_queue-end.new.refused.items (replies_from []) whole (λ rs history. refl) plays.runs)
+    let Written : Type 0 = TakesAll (g.W.Sink.taken c.args.sink.now) (g.W.Sink.taken c.answer_queue-end.new.sink) (replies_from c.args.decoder.now.queue c.answer_queue-end.new.refused.items []) in
+    ok_weaker {Q = Written} c.answer_queue-end.result (c.answer_queue-end.ensures.ok _ _ _ _ (begins _ _ _ _ _ _ _ c.requires.none refl c.in_ok-desk.ensures.stands)) (λ plays. ends_written _ _ _ _ (replies_from []) _ (λ rs history. refl) plays.runs)
 
 pub returns-clause-part : goal.returns-clause-part
 returns-clause-part g c =
-    let told = g.W.Sink.taken c.args.sink.now in
-    let tells = replies_from c.args.decoder.now.queue in
-    let texts = message_texts c.args.decoder.now.queue in
-    let count = g.B.Build.refusals c.args.build.now in
-    let refused = g.B.Build.refused c.args.build.now in
-    let whole : List Refused → List ℕ = λ rs. tells rs [] in
-    let begun : Plays told told c.in_ok-desk.desk c.args.refused.now.items [] tells whole texts texts count count refused refused =
-    subst (λ rs. Plays told told c.in_ok-desk.desk rs [] tells whole texts texts count count refused refused) (sym c.requires.none)
-    (begins told c.in_ok-desk.desk tells texts count refused c.in_ok-desk.ensures.stands) in
-    err_weaker {Q = TakesPart told (g.W.Sink.taken c.answer_queue-end.new.sink) (replies_from c.args.decoder.now.queue c.answer_queue-end.new.refused.items [])} c.answer_queue-end.result (c.answer_queue-end.ensures.part told whole texts count refused begun) (λ stops. stops.0)
+    let Written : Type 0 = TakesPart (g.W.Sink.taken c.args.sink.now) (g.W.Sink.taken c.answer_queue-end.new.sink) (replies_from c.args.decoder.now.queue c.answer_queue-end.new.refused.items []) in
+    err_weaker {Q = Written} c.answer_queue-end.result (c.answer_queue-end.ensures.part _ _ _ _ (begins _ _ _ _ _ _ _ c.requires.none refl c.in_ok-desk.ensures.stands)) (λ stops. stops.0)
 
 pub returns-clause-backed : goal.returns-clause-backed
 returns-clause-backed g c =
-    let told = g.W.Sink.taken c.args.sink.now in
-    let tells = replies_from c.args.decoder.now.queue in
-    let texts = message_texts c.args.decoder.now.queue in
-    let count = g.B.Build.refusals c.args.build.now in
-    let refused = g.B.Build.refused c.args.build.now in
-    let whole : List Refused → List ℕ = λ rs. tells rs [] in
-    let begun : Plays told told c.in_ok-desk.desk c.args.refused.now.items [] tells whole texts texts count count refused refused =
-    subst (λ rs. Plays told told c.in_ok-desk.desk rs [] tells whole texts texts count count refused refused) (sym c.requires.none)
-    (begins told c.in_ok-desk.desk tells texts count refused c.in_ok-desk.ensures.stands) in
-    let Backed : Type 0 = IsBacked (message_texts c.args.decoder.now.queue) c.answer_queue-end.new.refused.items (g.B.Build.refusals c.args.build.now) (g.B.Build.refusals c.answer_queue-end.new.build) (g.B.Build.refused c.args.build.now) (g.B.Build.refused c.answer_queue-end.new.build) in
+    let Backed : Type 0 = IsBacked (message_texts c.args.decoder.now.queue) c.answer_queue-end.new.refused.items (g.B.Build.log c.args.build.now) (g.B.Build.log c.answer_queue-end.new.build) in
     either_way {P = Backed} c.answer_queue-end.result
-    (ok_weaker {Q = Backed} c.answer_queue-end.result (c.answer_queue-end.ensures.ok told whole texts count refused begun) (λ plays. plays.backed.backed))
-    (err_weaker {Q = Backed} c.answer_queue-end.result (c.answer_queue-end.ensures.part told whole texts count refused begun) (λ stops. stops.1))
+    (ok_weaker {Q = Backed} c.answer_queue-end.result (c.answer_queue-end.ensures.ok _ _ _ _ (begins _ _ _ _ _ _ _ c.requires.none refl c.in_ok-desk.ensures.stands)) (λ plays. plays.backed.backed))
+    (err_weaker {Q = Backed} c.answer_queue-end.result (c.answer_queue-end.ensures.part _ _ _ _ (begins _ _ _ _ _ _ _ c.requires.none refl c.in_ok-desk.ensures.stands)) (λ stops. stops.1))

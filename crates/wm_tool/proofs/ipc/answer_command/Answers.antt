@@ -7,7 +7,7 @@ use Rattle.wm_json.specs.Replies.{replies_text}
 use Rattle.wm_json.specs.declared.replies.Reply.TheVariants as reply
 use Rattle.wm_tool.specs.Ipc.{Request, ask, entry_by, framed, no_text, payload, request_of, text_of_request, text_step}
 use Rattle.wm_tool.specs.Output.{after_entry}
-use Rattle.wm_tool.specs.Running.{Backs, Grows, Leads}
+use Rattle.wm_tool.specs.Running.{Leads, Notes}
 use Rattle.wm_tool.proofs.RunLemmas.{ok_weaker, on_ok, unchanged}
 use Rattle.wm_tool.proofs.AskLemmas.{asks, asks_no_text}
 use Rattle.wm_tool.proofs.ipc.answer_command.Goals as goal
@@ -26,15 +26,10 @@ returns-in-Ok-clause-steps g c =
     let is : request_of c.args.message.now ≡ ask c.in-Ok.text.now = asks c.args.message.now c.requires.runs (subst IsUtf8 c.items.ensures c.in-Ok.ensures.cases.1) ∙ ap ask (sym (c.in-Ok.ensures.cases.0 ∙ c.items.ensures)) in
     subst (λ r. OnOk c.answer_text.result (c.answer_text.new.desk.steps ≡ c.args.desk.now.steps + length (text_step (text_of_request r)))) (sym is) c.answer_text.ensures.steps
 
-pub returns-in-Ok-clause-grows : goal.returns-in-Ok-clause-grows
-returns-in-Ok-clause-grows g c =
+pub returns-in-Ok-clause-notes : goal.returns-in-Ok-clause-notes
+returns-in-Ok-clause-notes g c =
     let is : request_of c.args.message.now ≡ ask c.in-Ok.text.now = asks c.args.message.now c.requires.runs (subst IsUtf8 c.items.ensures c.in-Ok.ensures.cases.1) ∙ ap ask (sym (c.in-Ok.ensures.cases.0 ∙ c.items.ensures)) in
-    subst (λ r. Grows c.args.desk.now.steps (text_step (text_of_request r)) c.args.refused.now.items c.answer_text.new.refused.items) (sym is) c.answer_text.ensures.grows
-
-pub returns-in-Ok-clause-backs : goal.returns-in-Ok-clause-backs
-returns-in-Ok-clause-backs g c =
-    let is : request_of c.args.message.now ≡ ask c.in-Ok.text.now = asks c.args.message.now c.requires.runs (subst IsUtf8 c.items.ensures c.in-Ok.ensures.cases.1) ∙ ap ask (sym (c.in-Ok.ensures.cases.0 ∙ c.items.ensures)) in
-    subst (λ r. Backs c.args.desk.now.steps (text_step (text_of_request r)) c.args.refused.now.items c.answer_text.new.refused.items (g.B.Build.refusals c.args.build.now) (g.B.Build.refusals c.answer_text.new.build) (g.B.Build.refused c.args.build.now) (g.B.Build.refused c.answer_text.new.build)) (sym is) c.answer_text.ensures.backs
+    subst (λ r. Notes c.args.desk.now.steps (text_step (text_of_request r)) c.args.refused.now.items c.answer_text.new.refused.items (g.B.Build.log c.args.build.now) (g.B.Build.log c.answer_text.new.build)) (sym is) c.answer_text.ensures.notes
 
 pub returns-in_ok-replies-in-Err-clause-ok : goal.returns-in_ok-replies-in-Err-clause-ok
 returns-in_ok-replies-in-Err-clause-ok g c = λ none.
@@ -55,5 +50,5 @@ returns-in_ok-replies-in-Err-clause-steps g c =
     let is : request_of m ≡ no_text (utf8_valid_len m.payload) = asks_no_text m c.requires.runs (λ u. c.in-Err.ensures.cases.0 (subst IsUtf8 (sym c.items.ensures) u)) in
     subst (λ r. OnOk c.push_reply.result (c.args.desk.now.steps ≡ c.args.desk.now.steps + length (text_step (text_of_request r)))) (sym is) (on_ok c.push_reply.result (omega arith))
 
-pub returns-in_ok-replies-in-Err-clause-backs : goal.returns-in_ok-replies-in-Err-clause-backs
-returns-in_ok-replies-in-Err-clause-backs g c = unchanged c.args.desk.now.steps (text_step (text_of_request (request_of c.args.message.now))) c.args.refused.now.items (g.B.Build.refusals c.args.build.now) (g.B.Build.refused c.args.build.now)
+pub returns-in_ok-replies-in-Err-clause-notes : goal.returns-in_ok-replies-in-Err-clause-notes
+returns-in_ok-replies-in-Err-clause-notes g c = unchanged c.args.desk.now.steps (text_step (text_of_request (request_of c.args.message.now))) c.args.refused.now.items (g.B.Build.log c.args.build.now)

@@ -11,21 +11,21 @@ use Rattle.wm_tool.proofs.RunLemmas.{fails, on_err, writes, writes_all}
 use Rattle.wm_tool.proofs.ipc.answer_queue.Goals as goal
 
 pub returns-in_err-answered-clause-part : goal.returns-in_err-answered-clause-part
-returns-in_err-answered-clause-part g c = λ old whole texts count told p.
+returns-in_err-answered-clause-part g c = λ old whole texts first p.
     let now = g.W.Sink.taken c.loop-message.sink in
     let desk = c.loop-message.desk in
     on_err c.from_residual.result
-    (stops_message old now desk c.loop-message.refused.items c.answer_message-answered.new.refused.items [] whole texts count (g.B.Build.refusals c.loop-message.build) (g.B.Build.refusals c.answer_message-answered.new.build) told (g.B.Build.refused c.loop-message.build) (g.B.Build.refused c.answer_message-answered.new.build)
-    c.in-Some.message c.loop-message.decoder.queue c.next.new.self.queue c.in-Some.ensures.queue (c.loop-message.invariant.plays old whole texts count told p) c.answer_message-answered.ensures.grows c.answer_message-answered.ensures.backs)
+    (stops_message old now desk c.loop-message.refused.items c.answer_message-answered.new.refused.items [] whole texts first (g.B.Build.log c.loop-message.build) (g.B.Build.log c.answer_message-answered.new.build)
+    c.in-Some.message c.loop-message.decoder.queue c.next.new.self.queue c.in-Some.ensures.queue (c.loop-message.invariant.plays old whole texts first p) c.answer_message-answered.ensures.notes)
 
 pub returns-in_err-write_all-clause-part : goal.returns-in_err-write_all-clause-part
-returns-in_err-write_all-clause-part g c = λ old whole texts count told p.
+returns-in_err-write_all-clause-part g c = λ old whole texts first p.
     let now = g.W.Sink.taken c.loop-message.sink in
     let desk = c.loop-message.desk in
     on_err c.from_residual-in_err-write_all.result
-    (fails old now (g.W.Sink.taken c.write_all.new.sink) c.answer_message-answered.new.desk c.answer_message-answered.new.refused.items c.answer_message-answered.new.piece.items (replies_from c.next.new.self.queue) whole texts (message_texts c.next.new.self.queue) count (g.B.Build.refusals c.answer_message-answered.new.build) told (g.B.Build.refused c.answer_message-answered.new.build)
-    (plays_message old now desk c.loop-message.refused.items c.answer_message-answered.new.refused.items [] whole texts count (g.B.Build.refusals c.loop-message.build) (g.B.Build.refusals c.answer_message-answered.new.build) told (g.B.Build.refused c.loop-message.build) (g.B.Build.refused c.answer_message-answered.new.build)
-    c.in-Some.message c.loop-message.decoder.queue c.next.new.self.queue c.in-Some.ensures.queue (c.loop-message.invariant.plays old whole texts count told p) c.answer_message-answered.ensures.grows c.answer_message-answered.ensures.backs
+    (fails old now (g.W.Sink.taken c.write_all.new.sink) c.answer_message-answered.new.desk c.answer_message-answered.new.refused.items c.answer_message-answered.new.piece.items (replies_from c.next.new.self.queue) whole texts (message_texts c.next.new.self.queue) first (g.B.Build.log c.answer_message-answered.new.build)
+    (plays_message old now desk c.loop-message.refused.items c.answer_message-answered.new.refused.items [] whole texts first (g.B.Build.log c.loop-message.build) (g.B.Build.log c.answer_message-answered.new.build)
+    c.in-Some.message c.loop-message.decoder.queue c.next.new.self.queue c.in-Some.ensures.queue (c.loop-message.invariant.plays old whole texts first p) c.answer_message-answered.ensures.notes
     c.answer_message-answered.new.desk c.answer_message-answered.new.piece.items c.loop-message.invariant.plan
     (λ none. subst (λ before. Leads desk c.answer_message-answered.new.desk (after_message c.in-Some.message c.answer_message-answered.new.refused.items) (replied (opening_of desk.plan) c.in-Some.message c.answer_message-answered.new.refused.items) before c.answer_message-answered.new.piece.items) c.loop-message.invariant.empty (c.in_ok-answered.ensures.ok none))
     c.in_ok-answered.ensures.steps)
@@ -41,10 +41,10 @@ loop-message-preserved g c =
       plan = subst IsStandard (sym c.in_ok-answered.ensures.plan) kept.plan;
       short = (subst (AllByRecursion IsShort) c.in-Some.ensures.queue kept.short).1;
       empty = c.clear.ensures.items;
-      plays = λ old whole texts count told p.
-          writes old now (g.W.Sink.taken c.write_all.new.sink) c.answer_message-answered.new.desk c.answer_message-answered.new.refused.items c.answer_message-answered.new.piece.items (replies_from c.next.new.self.queue) whole texts (message_texts c.next.new.self.queue) count (g.B.Build.refusals c.answer_message-answered.new.build) told (g.B.Build.refused c.answer_message-answered.new.build)
-          (plays_message old now desk c.loop-message.refused.items c.answer_message-answered.new.refused.items [] whole texts count (g.B.Build.refusals c.loop-message.build) (g.B.Build.refusals c.answer_message-answered.new.build) told (g.B.Build.refused c.loop-message.build) (g.B.Build.refused c.answer_message-answered.new.build)
-          c.in-Some.message c.loop-message.decoder.queue c.next.new.self.queue c.in-Some.ensures.queue (c.loop-message.invariant.plays old whole texts count told p) c.answer_message-answered.ensures.grows c.answer_message-answered.ensures.backs
+      plays = λ old whole texts first p.
+          writes old now (g.W.Sink.taken c.write_all.new.sink) c.answer_message-answered.new.desk c.answer_message-answered.new.refused.items c.answer_message-answered.new.piece.items (replies_from c.next.new.self.queue) whole texts (message_texts c.next.new.self.queue) first (g.B.Build.log c.answer_message-answered.new.build)
+          (plays_message old now desk c.loop-message.refused.items c.answer_message-answered.new.refused.items [] whole texts first (g.B.Build.log c.loop-message.build) (g.B.Build.log c.answer_message-answered.new.build)
+          c.in-Some.message c.loop-message.decoder.queue c.next.new.self.queue c.in-Some.ensures.queue (c.loop-message.invariant.plays old whole texts first p) c.answer_message-answered.ensures.notes
           c.answer_message-answered.new.desk c.answer_message-answered.new.piece.items c.loop-message.invariant.plan
           (λ none. subst (λ before. Leads desk c.answer_message-answered.new.desk (after_message c.in-Some.message c.answer_message-answered.new.refused.items) (replied (opening_of desk.plan) c.in-Some.message c.answer_message-answered.new.refused.items) before c.answer_message-answered.new.piece.items) c.loop-message.invariant.empty (c.in_ok-answered.ensures.ok none))
           c.in_ok-answered.ensures.steps)
@@ -53,10 +53,10 @@ loop-message-preserved g c =
     }
 
 pub returns-clause-ok : goal.returns-clause-ok
-returns-clause-ok g c = λ old whole texts count told p.
+returns-clause-ok g c = λ old whole texts first p.
     let now = g.W.Sink.taken c.loop-message.sink in
-    subst (λ queue. Plays old now c.loop-message.desk c.loop-message.refused.items [] (replies_from queue) whole texts (message_texts queue) count (g.B.Build.refusals c.loop-message.build) told (g.B.Build.refused c.loop-message.build))
-    c.in_default.ensures.none (c.loop-message.invariant.plays old whole texts count told p)
+    subst (λ queue. Plays old now c.loop-message.desk c.loop-message.refused.items [] (replies_from queue) whole texts (message_texts queue) first (g.B.Build.log c.loop-message.build))
+    c.in_default.ensures.none (c.loop-message.invariant.plays old whole texts first p)
 
 pub answer_message-answered-requires : goal.answer_message-answered-requires
 answer_message-answered-requires g c =

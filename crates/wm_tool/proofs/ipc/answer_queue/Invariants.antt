@@ -1,5 +1,6 @@
 use Rattle.std.proofs.Common.{◌≡◌, ℕ, ◌+◌, ◌≤◌, List, [], Option, length}
 use Rattle.std.specs.List.{AllByRecursion}
+use Rattle.wm_criteria.specs.Building.{Log}
 use Rattle.wm_frames.specs.Frame.{IsShort}
 use Rattle.wm_layouts.specs.Plan.{IsStandard}
 use Rattle.wm_tool.specs.declared.status.Refused.{Refused}
@@ -14,9 +15,9 @@ invariant-loop-message g l = record {
   plan : IsStandard l.desk.plan;
   short : AllByRecursion IsShort l.decoder.queue;
   empty : l.piece.items ≡ [];
-  plays : (old : Option (List ℕ)) (whole : List Refused → List ℕ) (texts : List (Option (List ℕ))) (count : ℕ) (told : Option (List (List ℕ)))
-      → Plays old (g.W.Sink.taken l.initial.sink) l.initial.desk l.initial.refused.items [] (replies_from l.initial.decoder.queue) whole texts (message_texts l.initial.decoder.queue) count (g.B.Build.refusals l.initial.build) told (g.B.Build.refused l.initial.build)
-      → Plays old (g.W.Sink.taken l.sink) l.desk l.refused.items [] (replies_from l.decoder.queue) whole texts (message_texts l.decoder.queue) count (g.B.Build.refusals l.build) told (g.B.Build.refused l.build);
+  plays : (old : Option (List ℕ)) (whole : List Refused → List ℕ) (texts : List (Option (List ℕ))) (first : Log)
+      → Plays old (g.W.Sink.taken l.initial.sink) l.initial.desk l.initial.refused.items [] (replies_from l.initial.decoder.queue) whole texts (message_texts l.initial.decoder.queue) first (g.B.Build.log l.initial.build)
+      → Plays old (g.W.Sink.taken l.sink) l.desk l.refused.items [] (replies_from l.decoder.queue) whole texts (message_texts l.decoder.queue) first (g.B.Build.log l.build);
   counted : g.W.Sink.faults l.initial.sink ≤ g.W.Sink.faults l.sink;
 }
 

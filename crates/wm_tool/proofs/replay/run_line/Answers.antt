@@ -1,9 +1,9 @@
-use Rattle.std.proofs.Common.{◌≡◌, ◌+◌, ℕ, List, [], ◌∷◌, Option, None, Some, inl, length, refl, subst, sym}
+use Rattle.std.proofs.Common.{◌≡◌, ◌+◌, ℕ, List, [], ◌∷◌, Option, None, Some, length, subst, sym}
 use Rattle.std.specs.Option.{option_map}
 use Rattle.std.specs.Prelude.{OnOk}
 use Rattle.wm_core.specs.Act.{act_of}
 use Rattle.wm_core.specs.History.{History, opening_of}
-use Rattle.wm_tool.specs.Running.{Backs, Grows, Leads}
+use Rattle.wm_tool.specs.Running.{Leads, Notes}
 use Rattle.wm_tool.specs.Output.{act_in, after_effect, deed_step, Effect, effect_of, effect_text, line_step, run_entry, Takes}
 use Rattle.wm_tool.proofs.LineLemmas.{step_count, step_leads}
 use Rattle.wm_tool.proofs.RunLemmas.{ok_weaker, unchanged}
@@ -18,16 +18,14 @@ returns-in-Run g c =
     let before = c.args.refused.now.items in
     let refused = c.run_and_tell.new.refused.items in
     let Led : (History → Effect) → Type 0 = λ effect. OnOk c.run_and_tell.result (Leads desk next (λ h. after_effect (effect h) h) (λ h. effect_text start h (effect h)) c.args.piece.now.items c.run_and_tell.new.piece.items) in
-    let Grown : List (Option (List ℕ)) → Type 0 = λ steps. Grows desk.steps steps before refused in
-    let Kept : List (Option (List ℕ)) → Type 0 = λ steps. Backs desk.steps steps before refused (g.B.Build.refusals c.args.build.now) (g.B.Build.refusals c.run_and_tell.new.build) (g.B.Build.refused c.args.build.now) (g.B.Build.refused c.run_and_tell.new.build) in
+    let Noted : List (Option (List ℕ)) → Type 0 = λ steps. Notes desk.steps steps before refused (g.B.Build.log c.args.build.now) (g.B.Build.log c.run_and_tell.new.build) in
     record {
       ok = λ none.
           subst (λ d. Led (λ h. effect_of line.who refused h d)) (sym c.in-Run.is)
           (subst (λ t. Led (λ h. Takes (run_entry line.who refused h t))) c.as_str.ensures (c.run_and_tell.ensures.ok none));
       steps = subst (λ d. OnOk c.run_and_tell.result (next.steps ≡ desk.steps + length (deed_step d))) (sym c.in-Run.is) c.run_and_tell.ensures.steps;
       plan = c.run_and_tell.ensures.plan;
-      grows = subst (λ d. Grown (deed_step d)) (sym c.in-Run.is) (subst (λ t. Grown (Some t ∷ [])) c.as_str.ensures c.run_and_tell.ensures.grows);
-      backs = subst (λ d. Kept (deed_step d)) (sym c.in-Run.is) (subst (λ t. Kept (Some t ∷ [])) c.as_str.ensures c.run_and_tell.ensures.backs);
+      notes = subst (λ d. Noted (deed_step d)) (sym c.in-Run.is) (subst (λ t. Noted (Some t ∷ [])) c.as_str.ensures c.run_and_tell.ensures.notes);
     }
 
 pub returns-in-Some : goal.returns-in-Some
@@ -42,6 +40,5 @@ returns-in-Some g c =
           step_leads (opening_of desk.plan) desk c.take.new.desk line (act_of c.in-Some.step) refused c.args.piece.now.items c.take.new.piece.items act leads);
       steps = subst (λ steps. OnOk c.take.result (c.take.new.desk.steps ≡ desk.steps + length steps)) one c.take.ensures.steps;
       plan = c.take.ensures.plan;
-      grows = inl refl;
-      backs = unchanged desk.steps (line_step line) refused (g.B.Build.refusals c.args.build.now) (g.B.Build.refused c.args.build.now);
+      notes = unchanged desk.steps (line_step line) refused (g.B.Build.log c.args.build.now);
     }

@@ -9,21 +9,21 @@ use Rattle.wm_tool.proofs.RunLemmas.{fails, on_err, writes}
 use Rattle.wm_tool.proofs.replay.run_lines.Goals as goal
 
 pub returns-in_err-run_line-clause-part : goal.returns-in_err-run_line-clause-part
-returns-in_err-run_line-clause-part g c = λ old whole texts count told p.
+returns-in_err-run_line-clause-part g c = λ old whole texts first p.
     let now = g.W.Sink.taken c.loop-rest.sink in
     let desk = c.loop-rest.desk in
     on_err c.from_residual.result
-    (stops_line (opening_of c.args.desk.now.plan) old now desk c.loop-rest.refused.items c.run_line.new.refused.items c.loop-rest.piece.items whole texts count (g.B.Build.refusals c.loop-rest.build) (g.B.Build.refusals c.run_line.new.build) told (g.B.Build.refused c.loop-rest.build) (g.B.Build.refused c.run_line.new.build)
-    c.line-item.result _ c.loop-rest.rest.now c.in-len1-up.len_at_least c.line-item.is (c.loop-rest.invariant.plays old whole texts count told p) c.run_line.ensures.grows c.run_line.ensures.backs)
+    (stops_line (opening_of c.args.desk.now.plan) old now desk c.loop-rest.refused.items c.run_line.new.refused.items c.loop-rest.piece.items whole texts first (g.B.Build.log c.loop-rest.build) (g.B.Build.log c.run_line.new.build)
+    c.line-item.result _ c.loop-rest.rest.now c.in-len1-up.len_at_least c.line-item.is (c.loop-rest.invariant.plays old whole texts first p) c.run_line.ensures.notes)
 
 pub returns-in_err-write_long-clause-part : goal.returns-in_err-write_long-clause-part
-returns-in_err-write_long-clause-part g c = λ old whole texts count told p.
+returns-in_err-write_long-clause-part g c = λ old whole texts first p.
     let now = g.W.Sink.taken c.loop-rest.sink in
     let desk = c.loop-rest.desk in
     on_err c.from_residual-in_err-write_long.result
-    (fails old now (g.W.Sink.taken c.write_long.new.sink) c.run_line.new.desk c.run_line.new.refused.items c.run_line.new.piece.items (out_from (opening_of c.args.desk.now.plan) (take (length c.loop-rest.rest.now - 1) (drop 1 c.loop-rest.rest.now))) whole texts (line_texts (take (length c.loop-rest.rest.now - 1) (drop 1 c.loop-rest.rest.now))) count (g.B.Build.refusals c.run_line.new.build) told (g.B.Build.refused c.run_line.new.build)
-    (plays_line (opening_of c.args.desk.now.plan) old now desk c.loop-rest.refused.items c.run_line.new.refused.items c.loop-rest.piece.items whole texts count (g.B.Build.refusals c.loop-rest.build) (g.B.Build.refusals c.run_line.new.build) told (g.B.Build.refused c.loop-rest.build) (g.B.Build.refused c.run_line.new.build)
-    c.line-item.result _ c.loop-rest.rest.now c.in-len1-up.len_at_least c.line-item.is (c.loop-rest.invariant.plays old whole texts count told p) c.run_line.ensures.grows c.run_line.ensures.backs
+    (fails old now (g.W.Sink.taken c.write_long.new.sink) c.run_line.new.desk c.run_line.new.refused.items c.run_line.new.piece.items (out_from (opening_of c.args.desk.now.plan) (take (length c.loop-rest.rest.now - 1) (drop 1 c.loop-rest.rest.now))) whole texts (line_texts (take (length c.loop-rest.rest.now - 1) (drop 1 c.loop-rest.rest.now))) first (g.B.Build.log c.run_line.new.build)
+    (plays_line (opening_of c.args.desk.now.plan) old now desk c.loop-rest.refused.items c.run_line.new.refused.items c.loop-rest.piece.items whole texts first (g.B.Build.log c.loop-rest.build) (g.B.Build.log c.run_line.new.build)
+    c.line-item.result _ c.loop-rest.rest.now c.in-len1-up.len_at_least c.line-item.is (c.loop-rest.invariant.plays old whole texts first p) c.run_line.ensures.notes
     c.run_line.new.desk c.run_line.new.piece.items (ap opening_of (sym c.loop-rest.invariant.plan)) c.in_ok-run_line.ensures.ok c.in_ok-run_line.ensures.steps)
     c.in_err-write_long.ensures.part)
 
@@ -36,16 +36,16 @@ loop-rest-preserved g c =
       few = omega (arith, kept.few, c.in_ok-run_line.ensures.steps, one_step c.line-item.result, c.in-len1-up.len_at_least);
       fit = All-take IsFitLine _ _ (All-drop IsFitLine 1 c.loop-rest.rest.now kept.fit);
       plan = c.in_ok-run_line.ensures.plan ∙ kept.plan;
-      plays = λ old whole texts count told p.
-          writes old now (g.W.Sink.taken c.write_long.new.sink) c.run_line.new.desk c.run_line.new.refused.items c.run_line.new.piece.items (out_from (opening_of c.args.desk.now.plan) (take (length c.loop-rest.rest.now - 1) (drop 1 c.loop-rest.rest.now))) whole texts (line_texts (take (length c.loop-rest.rest.now - 1) (drop 1 c.loop-rest.rest.now))) count (g.B.Build.refusals c.run_line.new.build) told (g.B.Build.refused c.run_line.new.build)
-          (plays_line (opening_of c.args.desk.now.plan) old now desk c.loop-rest.refused.items c.run_line.new.refused.items c.loop-rest.piece.items whole texts count (g.B.Build.refusals c.loop-rest.build) (g.B.Build.refusals c.run_line.new.build) told (g.B.Build.refused c.loop-rest.build) (g.B.Build.refused c.run_line.new.build)
-          c.line-item.result _ c.loop-rest.rest.now c.in-len1-up.len_at_least c.line-item.is (c.loop-rest.invariant.plays old whole texts count told p) c.run_line.ensures.grows c.run_line.ensures.backs
+      plays = λ old whole texts first p.
+          writes old now (g.W.Sink.taken c.write_long.new.sink) c.run_line.new.desk c.run_line.new.refused.items c.run_line.new.piece.items (out_from (opening_of c.args.desk.now.plan) (take (length c.loop-rest.rest.now - 1) (drop 1 c.loop-rest.rest.now))) whole texts (line_texts (take (length c.loop-rest.rest.now - 1) (drop 1 c.loop-rest.rest.now))) first (g.B.Build.log c.run_line.new.build)
+          (plays_line (opening_of c.args.desk.now.plan) old now desk c.loop-rest.refused.items c.run_line.new.refused.items c.loop-rest.piece.items whole texts first (g.B.Build.log c.loop-rest.build) (g.B.Build.log c.run_line.new.build)
+          c.line-item.result _ c.loop-rest.rest.now c.in-len1-up.len_at_least c.line-item.is (c.loop-rest.invariant.plays old whole texts first p) c.run_line.ensures.notes
           c.run_line.new.desk c.run_line.new.piece.items (ap opening_of (sym c.loop-rest.invariant.plan)) c.in_ok-run_line.ensures.ok c.in_ok-run_line.ensures.steps)
           c.write_long.new.piece.items c.in_ok-write_long.ensures.ok;
       counted = omega (arith, kept.counted, c.write_long.ensures.counted);
     }
 
 pub returns-clause-ok : goal.returns-clause-ok
-returns-clause-ok g c = λ old whole texts count told p.
-    subst (λ rest. Plays old (g.W.Sink.taken c.loop-rest.sink) c.loop-rest.desk c.loop-rest.refused.items c.loop-rest.piece.items (out_from (opening_of c.args.desk.now.plan) rest) whole texts (line_texts rest) count (g.B.Build.refusals c.loop-rest.build) told (g.B.Build.refused c.loop-rest.build))
-    (none_left c.loop-rest.rest.now c.in_default.len_below) (c.loop-rest.invariant.plays old whole texts count told p)
+returns-clause-ok g c = λ old whole texts first p.
+    subst (λ rest. Plays old (g.W.Sink.taken c.loop-rest.sink) c.loop-rest.desk c.loop-rest.refused.items c.loop-rest.piece.items (out_from (opening_of c.args.desk.now.plan) rest) whole texts (line_texts rest) first (g.B.Build.log c.loop-rest.build))
+    (none_left c.loop-rest.rest.now c.in_default.len_below) (c.loop-rest.invariant.plays old whole texts first p)

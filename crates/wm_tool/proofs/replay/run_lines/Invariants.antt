@@ -1,5 +1,6 @@
 use Rattle.std.proofs.Common.{◌≡◌, ℕ, ◌+◌, ◌≤◌, List, Option, All, length}
 use Rattle.wm_core.specs.History.{opening_of}
+use Rattle.wm_criteria.specs.Building.{Log}
 use Rattle.wm_tool.specs.declared.status.Refused.{Refused}
 use Rattle.wm_tool.specs.Output.{line_texts, out_from}
 use Rattle.wm_tool.specs.Running.{Plays}
@@ -12,9 +13,9 @@ invariant-loop-rest g l = record {
   few : l.desk.steps + length l.rest ≤ 16777216;
   fit : All IsFitLine l.rest;
   plan : l.desk.plan ≡ l.initial.desk.plan;
-  plays : (old : Option (List ℕ)) (whole : List Refused → List ℕ) (texts : List (Option (List ℕ))) (count : ℕ) (told : Option (List (List ℕ)))
-      → Plays old (g.W.Sink.taken l.initial.sink) l.initial.desk l.initial.refused.items l.initial.piece.items (out_from (opening_of l.initial.desk.plan) l.lines) whole texts (line_texts l.lines) count (g.B.Build.refusals l.initial.build) told (g.B.Build.refused l.initial.build)
-      → Plays old (g.W.Sink.taken l.sink) l.desk l.refused.items l.piece.items (out_from (opening_of l.initial.desk.plan) l.rest) whole texts (line_texts l.rest) count (g.B.Build.refusals l.build) told (g.B.Build.refused l.build);
+  plays : (old : Option (List ℕ)) (whole : List Refused → List ℕ) (texts : List (Option (List ℕ))) (first : Log)
+      → Plays old (g.W.Sink.taken l.initial.sink) l.initial.desk l.initial.refused.items l.initial.piece.items (out_from (opening_of l.initial.desk.plan) l.lines) whole texts (line_texts l.lines) first (g.B.Build.log l.initial.build)
+      → Plays old (g.W.Sink.taken l.sink) l.desk l.refused.items l.piece.items (out_from (opening_of l.initial.desk.plan) l.rest) whole texts (line_texts l.rest) first (g.B.Build.log l.build);
   counted : g.W.Sink.faults l.initial.sink ≤ g.W.Sink.faults l.sink;
 }
 
