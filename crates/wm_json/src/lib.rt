@@ -1,10 +1,12 @@
-//! JSON of replies, compact and with keys in byte order.
+//! JSON of replies, views and events, compact and with keys in byte order.
 #![tactic(auto)]
 
 mod replies;
 mod values;
+mod views;
 mod write;
 
 pub use replies::{Reply, replies_value};
 pub use values::{VERSION, success_value, texts_value, version_value};
+pub use views::{EventBody, EventView, NodeView, OutputView, WorkspaceView};
 pub use write::{compact, replies_json, texts_json};
