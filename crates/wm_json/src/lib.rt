@@ -1,6 +1,7 @@
 //! JSON of replies, views and events, compact and with keys in byte order.
 #![tactic(auto)]
 
+mod fields;
 mod replies;
 mod values;
 mod views;
