@@ -1,3 +1,4 @@
 pub mod Arrays
 pub mod Objects
 pub mod Replies
+pub mod Spaces

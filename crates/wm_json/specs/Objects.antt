@@ -45,13 +45,17 @@ whole_number n = number (unsigned n)
 abbrev pub integer : ℤ → Data
 integer z = number (of_integer z)
 
-abbrev pub rect_data : Rect → Data
-rect_data r = object_with (
+abbrev pub rect_fields : Rect → List (Field Data)
+rect_fields r =
     always (codes "height") (whole_number r.h)
     ∷ always (codes "width") (whole_number r.w)
     ∷ always (codes "x") (integer r.x)
     ∷ always (codes "y") (integer r.y)
-    ∷ [])
+    ∷ []
+
+-- a rectangle, in pixels
+abbrev pub rect_data : Rect → Data
+rect_data r = object_with (rect_fields r)
 
 -- ---- texts
 
@@ -75,8 +79,16 @@ abbrev pub flag_text : Bool → List ℕ
 flag_text true = codes "true"
 flag_text false = codes "false"
 
+abbrev pub rect_texts : Rect → List (Field (List ℕ))
+rect_texts r =
+    always (codes "height") (decimal r.h)
+    ∷ always (codes "width") (decimal r.w)
+    ∷ always (codes "x") (signed_decimal r.x)
+    ∷ always (codes "y") (signed_decimal r.y)
+    ∷ []
+
 abbrev pub rect_text : Rect → List ℕ
-rect_text r = codes "{\"height\":" ++ decimal r.h ++ codes ",\"width\":" ++ decimal r.w ++ codes ",\"x\":" ++ signed_decimal r.x ++ codes ",\"y\":" ++ signed_decimal r.y ++ codes "}"
+rect_text r = object_text (rect_texts r)
 
 -- ---- for private clauses: members to which fields are added
 

@@ -3,11 +3,13 @@
 
 mod fields;
 mod replies;
+mod spaces;
 mod values;
 mod views;
 mod write;
 
 pub use replies::{Reply, replies_value};
+pub use spaces::{outputs_value, workspaces_value};
 pub use values::{VERSION, success_value, texts_value, version_value};
 pub use views::{EventBody, EventView, NodeView, OutputView, WorkspaceView};
 pub use write::{compact, replies_json, texts_json};
