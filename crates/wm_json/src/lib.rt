@@ -2,6 +2,7 @@
 #![tactic(auto)]
 
 mod fields;
+mod nodes;
 mod replies;
 mod spaces;
 mod values;
