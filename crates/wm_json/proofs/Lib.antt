@@ -1,3 +1,5 @@
+pub mod FieldLemmas
+pub mod NodeLemmas
 pub mod PrintLemmas
 pub mod SpaceLemmas
 pub mod TextLemmas

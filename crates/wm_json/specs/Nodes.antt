@@ -1,12 +1,10 @@
 -- A node of the tree as replies and events show it.
-use Rattle.std.specs.Prelude.{ℕ, List, [], ◌∷◌, ◌++◌, option_map, codes, decimal}
-use Rattle.std.specs.Fmt.{signed_decimal}
-use Rattle.json.specs.Print.{quoted}
+use Rattle.std.specs.Prelude.{List, [], ◌∷◌, ◌++◌, option_map, codes}
 use Rattle.serde_json.specs.Data.{Data, array, boolean, string}
 use Rattle.serde_json.specs.View.{items_of}
 use Rattle.wm_base.specs.declared.properties.Props.{Props}
-use Rattle.wm_json.specs.Arrays.{array_text, texts_data, texts_text}
-use Rattle.wm_json.specs.Objects.{Field, always, array_with, flag_text, integer, null_or, object_text, object_with, or_null, rect_data, rect_text, whole_number}
+use Rattle.wm_json.specs.Arrays.{texts_data}
+use Rattle.wm_json.specs.Objects.{Field, always, array_with, integer, object_with, or_null, rect_data, whole_number}
 use Rattle.wm_json.specs.declared.views.NodeView.{NodeView}
 use Rattle.wm_json.specs.declared.views.NodeView.TheOpen.{NodeView-F}
 use Rattle.wm_json.specs.declared.views.NodeView.TheFolds.{fold-NodeView}

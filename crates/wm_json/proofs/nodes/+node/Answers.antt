@@ -1,0 +1,18 @@
+use Rattle.std.proofs.Common.{codes, ap, ◌∙◌}
+use Rattle.serde_json.specs.Data.{put as with_member}
+use Rattle.serde_json.specs.View.{members_view}
+use Rattle.wm_json.specs.Nodes.{nodes_data}
+use Rattle.wm_json.proofs.NodeLemmas.{added}
+use Rattle.wm_json.proofs.nodes.+node.Goals as goal
+
+pub put_node-returns : goal.put_node-returns
+put_node-returns t c = added c.args.n.now _ _ _ _ _ _ _ _ _
+    (ap members_view c.requires)
+    c.in_ok-put_window.ensures
+    c.in_ok-put_share.ensures
+    c.in_ok-put_place.ensures
+    (c.in_ok-put_nodes.ensures ∙ ap (λ ns. with_member (codes "nodes") (nodes_data ns) (members_view c.put_place.new.members.entries)) c.items.ensures)
+    c.in_ok-put_name.ensures
+    c.in_ok-put_focus.ensures
+    (c.in_ok-put_nodes-2.ensures ∙ ap (λ ns. with_member (codes "floating_nodes") (nodes_data ns) (members_view c.put_focus.new.members.entries)) c.items-2.ensures)
+    c.in_ok-put_border.ensures
