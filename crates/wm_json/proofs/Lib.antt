@@ -1,5 +1,6 @@
 pub mod FieldLemmas
 pub mod NodeLemmas
+pub mod NodeTextLemmas
 pub mod PrintLemmas
 pub mod SpaceLemmas
 pub mod TextLemmas

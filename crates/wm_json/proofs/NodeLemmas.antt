@@ -9,7 +9,7 @@ use Rattle.wm_json.specs.declared.views.NodeView.TheViews.{out-NodeView}
 use Rattle.wm_json.specs.declared.views.NodeView.TheFolds.{fold_out-NodeView}
 use Rattle.wm_json.proofs.FieldLemmas.{are_in_order, put_in_order}
 
-abbrev all_fields : NodeView-F NodeView → List (Field Data)
+abbrev pub all_fields : NodeView-F NodeView → List (Field Data)
 all_fields n =
     border_fields n
     ++ (always (codes "floating_nodes") (nodes_data n.floating_nodes) ∷ focus_fields n)

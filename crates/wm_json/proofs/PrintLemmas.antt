@@ -103,3 +103,17 @@ pub prints_rect : (r : Rect) → Prints (rect_data r) (rect_text r)
 prints_rect r =
     let fields : Print (rect_fields r) (rect_texts r) = search (rules, prints_number, prints_integer) in
     prints_object (rect_fields r) (rect_texts r) fields
+
+print_both : (fs : List (Field Data)) (ts : List (Field (List ℕ))) (gs : List (Field Data)) (us : List (Field (List ℕ))) → Print fs ts → Print gs us → Print (fs ++ gs) (ts ++ us)
+print_both [] [] gs us h k = k
+print_both [] (t ∷ ts) gs us h k = absurd h
+print_both (f ∷ fs) [] gs us h k = absurd h
+print_both (f ∷ fs) (t ∷ ts) gs us h k = (h.0, h.1, print_both fs ts gs us h.2 k)
+
+-- `Print` by a name that shows the fields
+pub record PrintsGroup (fs : List (Field Data)) (ts : List (Field (List ℕ))) : Type 0 where
+  pub fields : Print fs ts
+
+-- the fields of one group and then those of another
+pub prints_both : {fs : List (Field Data)} {ts : List (Field (List ℕ))} {gs : List (Field Data)} {us : List (Field (List ℕ))} → PrintsGroup fs ts → PrintsGroup gs us → PrintsGroup (fs ++ gs) (ts ++ us)
+prints_both {fs} {ts} {gs} {us} h k = record { fields = print_both fs ts gs us h.fields k.fields }

@@ -1,10 +1,12 @@
 -- A node of the tree as replies and events show it.
-use Rattle.std.specs.Prelude.{List, [], ◌∷◌, ◌++◌, option_map, codes}
+use Rattle.std.specs.Prelude.{ℕ, List, [], ◌∷◌, ◌++◌, option_map, codes, decimal}
+use Rattle.std.specs.Fmt.{signed_decimal}
+use Rattle.json.specs.Print.{quoted}
 use Rattle.serde_json.specs.Data.{Data, array, boolean, string}
 use Rattle.serde_json.specs.View.{items_of}
 use Rattle.wm_base.specs.declared.properties.Props.{Props}
-use Rattle.wm_json.specs.Arrays.{texts_data}
-use Rattle.wm_json.specs.Objects.{Field, always, array_with, integer, object_with, or_null, rect_data, whole_number}
+use Rattle.wm_json.specs.Arrays.{array_text, list_text, texts_data, texts_text}
+use Rattle.wm_json.specs.Objects.{Field, always, array_with, flag_text, integer, null_or, object_text, object_with, or_null, rect_data, rect_text, whole_number}
 use Rattle.wm_json.specs.declared.views.NodeView.{NodeView}
 use Rattle.wm_json.specs.declared.views.NodeView.TheOpen.{NodeView-F}
 use Rattle.wm_json.specs.declared.views.NodeView.TheFolds.{fold-NodeView}
@@ -100,3 +102,94 @@ node_data = fold-NodeView Data node_object
 
 abbrev pub nodes_data : List NodeView → Data
 nodes_data ns = array_with node_data ns
+
+-- ---- texts
+
+abbrev pub properties_texts : Props → List (Field (List ℕ))
+properties_texts p =
+    always (codes "class") (quoted p.class)
+    ∷ always (codes "instance") (quoted p.instance)
+    ∷ always (codes "machine") (quoted p.machine)
+    ∷ always (codes "title") (quoted p.title)
+    ∷ always (codes "window_role") (quoted p.role)
+    ∷ []
+
+abbrev pub properties_text : Props → List ℕ
+properties_text p = object_text (properties_texts p)
+
+-- from `active` to `deco_rect`
+abbrev pub border_texts : {A : Type 0} → NodeView-F A → List (Field (List ℕ))
+border_texts n =
+    (codes "active", option_map flag_text n.active)
+    ∷ always (codes "border") (quoted n.border)
+    ∷ always (codes "current_border_width") (decimal n.current_border_width)
+    ∷ (codes "current_workspace", option_map quoted n.current_workspace)
+    ∷ always (codes "deco_rect") (rect_text n.deco_rect)
+    ∷ []
+
+-- from `focus` to `id`
+abbrev pub focus_texts : {A : Type 0} → NodeView-F A → List (Field (List ℕ))
+focus_texts n =
+    always (codes "focus") (array_text decimal n.focus)
+    ∷ always (codes "focused") (flag_text n.focused)
+    ∷ always (codes "fullscreen_mode") (decimal n.fullscreen_mode)
+    ∷ always (codes "geometry") (rect_text n.geometry)
+    ∷ always (codes "id") (decimal n.id)
+    ∷ []
+
+-- from `layout` to `name`
+abbrev pub name_texts : {A : Type 0} → NodeView-F A → List (Field (List ℕ))
+name_texts n =
+    always (codes "layout") (quoted n.layout)
+    ∷ always (codes "marks") (texts_text n.marks)
+    ∷ always (codes "name") (quoted n.name)
+    ∷ []
+
+-- from `num` to `rect`
+abbrev pub place_texts : {A : Type 0} → NodeView-F A → List (Field (List ℕ))
+place_texts n =
+    (codes "num", option_map signed_decimal n.num)
+    ∷ always (codes "orientation") (quoted n.orientation)
+    ∷ (codes "output", option_map quoted n.output)
+    ∷ (codes "primary", option_map flag_text n.primary)
+    ∷ always (codes "rect") (rect_text n.rect)
+    ∷ []
+
+-- from `share` to `urgent`
+abbrev pub share_texts : {A : Type 0} → NodeView-F A → List (Field (List ℕ))
+share_texts n =
+    always (codes "share") (decimal n.share)
+    ∷ always (codes "share_sum") (decimal n.share_sum)
+    ∷ always (codes "sticky") (flag_text n.sticky)
+    ∷ always (codes "type") (quoted n.kind)
+    ∷ always (codes "urgent") (flag_text n.urgent)
+    ∷ []
+
+-- from `visible` to `window_type`
+abbrev pub window_texts : {A : Type 0} → NodeView-F A → List (Field (List ℕ))
+window_texts n =
+    (codes "visible", option_map flag_text n.visible)
+    ∷ always (codes "window") (null_or decimal n.window)
+    ∷ always (codes "window_properties") (null_or properties_text n.window_properties)
+    ∷ always (codes "window_rect") (rect_text n.window_rect)
+    ∷ always (codes "window_type") (null_or quoted n.window_type)
+    ∷ []
+
+-- the fields of a node whose children are given as texts
+abbrev pub node_texts : NodeView-F (List ℕ) → List (Field (List ℕ))
+node_texts n =
+    border_texts n
+    ++ (always (codes "floating_nodes") (list_text n.floating_nodes) ∷ focus_texts n)
+    ++ name_texts n
+    ++ (always (codes "nodes") (list_text n.nodes) ∷ place_texts n)
+    ++ share_texts n
+    ++ window_texts n
+
+abbrev pub node_object_text : NodeView-F (List ℕ) → List ℕ
+node_object_text n = object_text (node_texts n)
+
+abbrev pub node_text : NodeView → List ℕ
+node_text = fold-NodeView (List ℕ) node_object_text
+
+abbrev pub nodes_text : List NodeView → List ℕ
+nodes_text ns = array_text node_text ns

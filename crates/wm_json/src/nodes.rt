@@ -4,7 +4,7 @@ ghost use Rattle.serde_json.specs.Data.{object, put as with_member};
 ghost use Rattle.serde_json.specs.View.{members_view, view};
 ghost use Rattle.serde_json.specs.Written.{has_float, compact_text};
 ghost use Rattle.wm_json.specs.Arrays.{texts_data};
-ghost use Rattle.wm_json.specs.Nodes.{border_fields, focus_fields, name_fields, node_data, nodes_data, place_fields, properties_data, share_fields, window_fields};
+ghost use Rattle.wm_json.specs.Nodes.{border_fields, focus_fields, name_fields, node_data, node_text, nodes_data, place_fields, properties_data, share_fields, window_fields};
 ghost use Rattle.wm_json.specs.Objects.{array_with, or_null, put_fields, whole_number};
 ghost use Rattle.wm_json.specs.declared.views.NodeView.TheViews.{out-NodeView};
 
@@ -154,6 +154,8 @@ fn put_window(
 #[cycle(node)]
 pub fn node_value(alloc: Global, n: &NodeView) -> Result<Value, NoMemory>
     ensures value { IfOk result (λ v. view v ≡ node_data n.now) }
+    ensures text { IfOk result (λ v. compact_text (view v) ≡ node_text n.now) }
+    ensures whole { IfOk result (λ v. has_float (view v) ≡ false) }
 {
     let mut members = Map::new(alloc);
     put_node(alloc, n, &mut members)?;
