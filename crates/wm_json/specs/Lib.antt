@@ -1,4 +1,5 @@
 pub mod Arrays
+pub mod Events
 pub mod Nodes
 pub mod Objects
 pub mod Replies

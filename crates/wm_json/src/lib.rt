@@ -1,6 +1,7 @@
 //! JSON of replies, views and events, compact and with keys in byte order.
 #![tactic(auto)]
 
+mod events;
 mod fields;
 mod nodes;
 mod replies;
@@ -9,6 +10,8 @@ mod values;
 mod views;
 mod write;
 
+pub use events::event_value;
+pub use nodes::node_value;
 pub use replies::{Reply, replies_value};
 pub use spaces::{outputs_value, workspaces_value};
 pub use values::{VERSION, success_value, texts_value, version_value};
