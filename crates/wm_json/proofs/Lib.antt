@@ -1,3 +1,4 @@
+pub mod EventLemmas
 pub mod FieldLemmas
 pub mod NodeLemmas
 pub mod NodeTextLemmas

@@ -39,12 +39,12 @@ pub added : (n : NodeView) (m0 m1 m2 m3 m4 m5 m6 m7 m8 : Members)
 added n m0 m1 m2 m3 m4 m5 m6 m7 m8 e0 e1 e2 e3 e4 e5 e6 e7 e8 =
     let x = out-NodeView n in
     let e : m8 ≡ put_fields (all_fields x) no_members = e8
-        ∙ ap (put_fields (border_fields x)) (e7
-        ∙ ap (with_member (codes "floating_nodes") (nodes_data x.floating_nodes)) (e6
-        ∙ ap (put_fields (focus_fields x)) (e5
-        ∙ ap (put_fields (name_fields x)) (e4
-        ∙ ap (with_member (codes "nodes") (nodes_data x.nodes)) (e3
-        ∙ ap (put_fields (place_fields x)) (e2
-        ∙ ap (put_fields (share_fields x)) (e1
-        ∙ ap (put_fields (window_fields x)) e0))))))) in
+    ∙ ap (put_fields (border_fields x)) (e7
+    ∙ ap (with_member (codes "floating_nodes") (nodes_data x.floating_nodes)) (e6
+    ∙ ap (put_fields (focus_fields x)) (e5
+    ∙ ap (put_fields (name_fields x)) (e4
+    ∙ ap (with_member (codes "nodes") (nodes_data x.nodes)) (e3
+    ∙ ap (put_fields (place_fields x)) (e2
+    ∙ ap (put_fields (share_fields x)) (e1
+    ∙ ap (put_fields (window_fields x)) e0))))))) in
     ap object (e ∙ put_in_order (all_fields x) (ordered x)) ∙ sym (node_is n)

@@ -79,11 +79,7 @@ fn put_window_change(
 }
 
 /// Adds the fields of a change of the mode to no members.
-fn put_mode(
-    alloc: Global,
-    members: &mut Map<String, Value>,
-    change: &str,
-) -> Result<(), NoMemory>
+fn put_mode(alloc: Global, members: &mut Map<String, Value>, change: &str) -> Result<(), NoMemory>
     requires { members.old.entries ≡ [] }
     ensures { OnOk result (object (members_view members.new.entries)
         ≡ object_with (body_fields (body.Mode change.now))) }
@@ -113,12 +109,7 @@ fn put_bound(
 }
 
 /// The object of what is bound to a key.
-fn bound_value(
-    alloc: Global,
-    command: &str,
-    mask: &[Text],
-    symbol: &str,
-) -> Result<Value, NoMemory>
+fn bound_value(alloc: Global, command: &str, mask: &[Text], symbol: &str) -> Result<Value, NoMemory>
     ensures { IfOk result (λ v. view v ≡ object_with (binding_fields command.now mask.now symbol.now)) }
 {
     let mut members = Map::new(alloc);
@@ -159,11 +150,7 @@ fn put_tick(
 }
 
 /// Adds the fields of an event to no members.
-fn put_body(
-    alloc: Global,
-    members: &mut Map<String, Value>,
-    b: &EventBody,
-) -> Result<(), NoMemory>
+fn put_body(alloc: Global, members: &mut Map<String, Value>, b: &EventBody) -> Result<(), NoMemory>
     requires { members.old.entries ≡ [] }
     ensures { OnOk result (object (members_view members.new.entries) ≡ object_with (body_fields b.now)) }
 {

@@ -8,7 +8,10 @@ ghost use Rattle.wm_json.specs.Nodes.{border_fields, focus_fields, name_fields, 
 ghost use Rattle.wm_json.specs.Objects.{array_with, or_null, put_fields, whole_number};
 ghost use Rattle.wm_json.specs.declared.views.NodeView.TheViews.{out-NodeView};
 
-use crate::fields::{put_flag, put_flag_if, put_integer_if, put_number, put_number_or_null, put_rect, put_text, put_text_if, put_text_or_null};
+use crate::fields::{
+    put_flag, put_flag_if, put_integer_if, put_number, put_number_or_null, put_rect, put_text,
+    put_text_if, put_text_or_null,
+};
 use crate::values::texts_value;
 use crate::views::NodeView;
 use serde_json::{Map, Value, json, put};
@@ -26,7 +29,12 @@ fn put_border(
 {
     put_rect(alloc, members, "deco_rect", &n.deco_rect)?;
     put_text_if(alloc, members, "current_workspace", &n.current_workspace)?;
-    put_number(alloc, members, "current_border_width", n.current_border_width.into())?;
+    put_number(
+        alloc,
+        members,
+        "current_border_width",
+        n.current_border_width.into(),
+    )?;
     put_text(alloc, members, "border", n.border.as_str())?;
     put_flag_if(alloc, members, "active", n.active)
 }
@@ -55,15 +63,16 @@ fn put_focus(
     put_rect(alloc, members, "geometry", &n.geometry)?;
     put_number(alloc, members, "fullscreen_mode", n.fullscreen_mode.into())?;
     put_flag(alloc, members, "focused", n.focused)?;
-    put(members, alloc, "focus", numbers_value(alloc, n.focus.items())?)
+    put(
+        members,
+        alloc,
+        "focus",
+        numbers_value(alloc, n.focus.items())?,
+    )
 }
 
 /// Adds the fields from `layout` to `name`, the last first.
-fn put_name(
-    alloc: Global,
-    n: &NodeView,
-    members: &mut Map<String, Value>,
-) -> Result<(), NoMemory>
+fn put_name(alloc: Global, n: &NodeView, members: &mut Map<String, Value>) -> Result<(), NoMemory>
     ensures { OnOk result (members_view members.new.entries
         ≡ put_fields (name_fields (out-NodeView n.now)) (members_view members.old.entries)) }
 {
@@ -129,7 +138,12 @@ fn put_properties(
         (members_view members.old.entries)) }
 {
     match properties {
-        Some(p) => put(members, alloc, "window_properties", properties_value(alloc, p)?),
+        Some(p) => put(
+            members,
+            alloc,
+            "window_properties",
+            properties_value(alloc, p)?,
+        ),
         None => put(members, alloc, "window_properties", Value::Null),
     }
 }
@@ -164,11 +178,7 @@ pub fn node_value(alloc: Global, n: &NodeView) -> Result<Value, NoMemory>
 
 /// Adds the fields of a node to no members, the last first.
 #[cycle(node)]
-fn put_node(
-    alloc: Global,
-    n: &NodeView,
-    members: &mut Map<String, Value>,
-) -> Result<(), NoMemory>
+fn put_node(alloc: Global, n: &NodeView, members: &mut Map<String, Value>) -> Result<(), NoMemory>
     requires { members.old.entries ≡ [] }
     ensures { OnOk result (object (members_view members.new.entries) ≡ node_data n.now) }
 {

@@ -62,7 +62,12 @@ fn put_output(
     ensures { OnOk result (object (members_view members.new.entries) ≡ output_data o.now) }
 {
     put_flag(alloc, members, "active", o.active)?;
-    put_text(alloc, members, "current_workspace", o.current_workspace.as_str())?;
+    put_text(
+        alloc,
+        members,
+        "current_workspace",
+        o.current_workspace.as_str(),
+    )?;
     put_text(alloc, members, "name", o.name.as_str())?;
     put_flag(alloc, members, "primary", o.primary)?;
     put_rect(alloc, members, "rect", &o.rect)
