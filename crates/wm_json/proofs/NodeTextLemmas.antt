@@ -7,7 +7,7 @@ use Rattle.serde_json.specs.Data.{Data, array, boolean, string}
 use Rattle.serde_json.specs.View.{items_of}
 use Rattle.wm_base.specs.declared.properties.Props.{Props}
 use Rattle.wm_json.specs.Arrays.{array_text, list_text, texts_data, texts_text}
-use Rattle.wm_json.specs.Nodes.{border_fields, border_texts, focus_fields, focus_texts, name_fields, name_texts, node_data, node_object, node_object_text, node_text, nodes_data, nodes_text, place_fields, place_texts, properties_data, properties_fields, properties_text, properties_texts, share_fields, share_texts, window_fields, window_texts}
+use Rattle.wm_json.specs.Nodes.{border_fields, border_texts, focus_fields, focus_texts, last_fields, last_texts, middle_fields, middle_texts, name_fields, name_texts, node_data, node_object, node_object_text, node_text, nodes_data, nodes_text, place_fields, place_texts, properties_data, properties_fields, properties_text, properties_texts, share_fields, share_texts, window_fields, window_texts}
 use Rattle.wm_json.specs.Objects.{Field, always, array_with, flag_text, integer, null_or, object_text, object_with, or_null, whole_number}
 use Rattle.wm_json.specs.declared.views.NodeView.{NodeView}
 use Rattle.wm_json.specs.declared.views.NodeView.TheOpen.{NodeView-F}
@@ -67,17 +67,16 @@ module _ (n : NodeView-F NodeView) where
   abbrev all_texts : List (Field (List ℕ))
   all_texts =
       border_texts n
-      ++ (always (codes "floating_nodes") (nodes_text n.floating_nodes) ∷ focus_texts n)
-      ++ name_texts n
-      ++ (always (codes "nodes") (nodes_text n.nodes) ∷ place_texts n)
-      ++ share_texts n
-      ++ window_texts n
+      ++ (always (codes "floating_nodes") (nodes_text n.floating_nodes) ∷ middle_texts n)
+      ++ (always (codes "nodes") (nodes_text n.nodes) ∷ last_texts n)
 
   print_node : Prints (nodes_data n.floating_nodes) (nodes_text n.floating_nodes) → Prints (nodes_data n.nodes) (nodes_text n.nodes) → PrintsGroup (all_fields n) all_texts
   print_node floats kids =
-      let floating : PrintsGroup (always (codes "floating_nodes") (nodes_data n.floating_nodes) ∷ focus_fields n) (always (codes "floating_nodes") (nodes_text n.floating_nodes) ∷ focus_texts n) = record { fields = (refl, floats, print_focus.fields) } in
-      let tiled : PrintsGroup (always (codes "nodes") (nodes_data n.nodes) ∷ place_fields n) (always (codes "nodes") (nodes_text n.nodes) ∷ place_texts n) = record { fields = (refl, kids, print_place.fields) } in
-      prints_both (prints_both (prints_both (prints_both (prints_both print_border floating) print_name) tiled) print_share) print_window
+      let middle = prints_both print_focus print_name in
+      let last = prints_both (prints_both print_place print_share) print_window in
+      let floating : PrintsGroup (always (codes "floating_nodes") (nodes_data n.floating_nodes) ∷ middle_fields n) (always (codes "floating_nodes") (nodes_text n.floating_nodes) ∷ middle_texts n) = record { fields = (refl, floats, middle.fields) } in
+      let tiled : PrintsGroup (always (codes "nodes") (nodes_data n.nodes) ∷ last_fields n) (always (codes "nodes") (nodes_text n.nodes) ∷ last_texts n) = record { fields = (refl, kids, last.fields) } in
+      prints_both (prints_both print_border floating) tiled
 
 abbrev PrintsNode : NodeView → Type 0
 PrintsNode n = Prints (node_data n) (node_text n)

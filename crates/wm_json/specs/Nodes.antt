@@ -83,15 +83,20 @@ window_fields n =
     ∷ always (codes "window_type") (or_null string n.window_type)
     ∷ []
 
+-- from `focus` to `name`
+abbrev pub middle_fields : {A : Type 0} → NodeView-F A → List (Field Data)
+middle_fields n = focus_fields n ++ name_fields n
+
+-- from `num` to `window_type`
+abbrev pub last_fields : {A : Type 0} → NodeView-F A → List (Field Data)
+last_fields n = place_fields n ++ share_fields n ++ window_fields n
+
 -- the fields of a node whose children are given as values
 abbrev pub node_fields : NodeView-F Data → List (Field Data)
 node_fields n =
     border_fields n
-    ++ (always (codes "floating_nodes") (array (items_of n.floating_nodes)) ∷ focus_fields n)
-    ++ name_fields n
-    ++ (always (codes "nodes") (array (items_of n.nodes)) ∷ place_fields n)
-    ++ share_fields n
-    ++ window_fields n
+    ++ (always (codes "floating_nodes") (array (items_of n.floating_nodes)) ∷ middle_fields n)
+    ++ (always (codes "nodes") (array (items_of n.nodes)) ∷ last_fields n)
 
 abbrev pub node_object : NodeView-F Data → Data
 node_object n = object_with (node_fields n)
@@ -175,15 +180,20 @@ window_texts n =
     ∷ always (codes "window_type") (null_or quoted n.window_type)
     ∷ []
 
+-- from `focus` to `name`
+abbrev pub middle_texts : {A : Type 0} → NodeView-F A → List (Field (List ℕ))
+middle_texts n = focus_texts n ++ name_texts n
+
+-- from `num` to `window_type`
+abbrev pub last_texts : {A : Type 0} → NodeView-F A → List (Field (List ℕ))
+last_texts n = place_texts n ++ share_texts n ++ window_texts n
+
 -- the fields of a node whose children are given as texts
 abbrev pub node_texts : NodeView-F (List ℕ) → List (Field (List ℕ))
 node_texts n =
     border_texts n
-    ++ (always (codes "floating_nodes") (list_text n.floating_nodes) ∷ focus_texts n)
-    ++ name_texts n
-    ++ (always (codes "nodes") (list_text n.nodes) ∷ place_texts n)
-    ++ share_texts n
-    ++ window_texts n
+    ++ (always (codes "floating_nodes") (list_text n.floating_nodes) ∷ middle_texts n)
+    ++ (always (codes "nodes") (list_text n.nodes) ∷ last_texts n)
 
 abbrev pub node_object_text : NodeView-F (List ℕ) → List ℕ
 node_object_text n = object_text (node_texts n)

@@ -1,5 +1,5 @@
 -- Workspaces and outputs as the lists of them show each.
-use Rattle.std.specs.Prelude.{ℕ, List, [], ◌∷◌, codes, decimal}
+use Rattle.std.specs.Prelude.{ℕ, List, [], ◌∷◌, ◌++◌, codes, decimal}
 use Rattle.std.specs.Fmt.{signed_decimal}
 use Rattle.json.specs.Print.{quoted}
 use Rattle.serde_json.specs.Data.{Data, boolean, string}
@@ -10,17 +10,26 @@ use Rattle.wm_json.specs.declared.views.WorkspaceView.{WorkspaceView}
 
 -- ---- values
 
-abbrev pub workspace_fields : WorkspaceView → List (Field Data)
-workspace_fields w =
+-- from `focused` to `num`
+abbrev pub name_fields : WorkspaceView → List (Field Data)
+name_fields w =
     always (codes "focused") (boolean w.focused)
     ∷ always (codes "id") (whole_number w.id)
     ∷ always (codes "name") (string w.name)
     ∷ always (codes "num") (integer w.num)
-    ∷ always (codes "output") (string w.output)
+    ∷ []
+
+-- from `output` to `visible`
+abbrev pub place_fields : WorkspaceView → List (Field Data)
+place_fields w =
+    always (codes "output") (string w.output)
     ∷ always (codes "rect") (rect_data w.rect)
     ∷ always (codes "urgent") (boolean w.urgent)
     ∷ always (codes "visible") (boolean w.visible)
     ∷ []
+
+abbrev pub workspace_fields : WorkspaceView → List (Field Data)
+workspace_fields w = name_fields w ++ place_fields w
 
 abbrev pub workspace_data : WorkspaceView → Data
 workspace_data w = object_with (workspace_fields w)
@@ -45,17 +54,26 @@ outputs_data os = array_with output_data os
 
 -- ---- texts
 
-abbrev pub workspace_texts : WorkspaceView → List (Field (List ℕ))
-workspace_texts w =
+-- from `focused` to `num`
+abbrev pub name_texts : WorkspaceView → List (Field (List ℕ))
+name_texts w =
     always (codes "focused") (flag_text w.focused)
     ∷ always (codes "id") (decimal w.id)
     ∷ always (codes "name") (quoted w.name)
     ∷ always (codes "num") (signed_decimal w.num)
-    ∷ always (codes "output") (quoted w.output)
+    ∷ []
+
+-- from `output` to `visible`
+abbrev pub place_texts : WorkspaceView → List (Field (List ℕ))
+place_texts w =
+    always (codes "output") (quoted w.output)
     ∷ always (codes "rect") (rect_text w.rect)
     ∷ always (codes "urgent") (flag_text w.urgent)
     ∷ always (codes "visible") (flag_text w.visible)
     ∷ []
+
+abbrev pub workspace_texts : WorkspaceView → List (Field (List ℕ))
+workspace_texts w = name_texts w ++ place_texts w
 
 abbrev pub workspace_text : WorkspaceView → List ℕ
 workspace_text w = object_text (workspace_texts w)

@@ -1,10 +1,10 @@
 //! Adding fields to the members of an object.
-ghost use Rattle.std.specs.Prelude.{◌≡◌, option_map, IfOk, OnOk};
-ghost use Rattle.serde_json.specs.Data.{boolean, put as with_member, string};
+ghost use Rattle.std.specs.Prelude.{◌≡◌, [], option_map, IfOk, OnOk};
+ghost use Rattle.serde_json.specs.Data.{boolean, object, put as with_member, string};
 ghost use Rattle.serde_json.specs.View.{members_view, view};
 ghost use Rattle.wm_json.specs.Objects.{integer, or_null, put_if, rect_data, whole_number};
 
-use serde_json::{Map, Value, json, put};
+use serde_json::{Map, Value, put};
 use std::alloc::{AllocError, Global};
 use wm_base::{Rect, Text};
 
@@ -140,11 +140,28 @@ pub(crate) fn put_flag_if(
     }
 }
 
+/// Adds the fields of a rectangle to no members.
+fn put_sides(
+    alloc: Global,
+    members: &mut Map<String, Value>,
+    r: &Rect,
+) -> Result<(), AllocError>
+    requires { members.old.entries ≡ [] }
+    ensures { OnOk result (object (members_view members.new.entries) ≡ rect_data r.now) }
+{
+    put_number(alloc, members, "height", r.h.into())?;
+    put_number(alloc, members, "width", r.w.into())?;
+    put_integer(alloc, members, "x", r.x)?;
+    put_integer(alloc, members, "y", r.y)
+}
+
 /// The object of a rectangle.
 fn rect_value(alloc: Global, r: &Rect) -> Result<Value, AllocError>
     ensures { IfOk result (λ v. view v ≡ rect_data r.now) }
 {
-    json!(in alloc; {"height": r.h, "width": r.w, "x": r.x, "y": r.y})
+    let mut members = Map::new(alloc);
+    put_sides(alloc, &mut members, r)?;
+    Ok(Value::Object(members))
 }
 
 /// Adds a field that is a rectangle.

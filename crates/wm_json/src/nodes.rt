@@ -4,7 +4,7 @@ ghost use Rattle.serde_json.specs.Data.{object, put as with_member};
 ghost use Rattle.serde_json.specs.View.{members_view, view};
 ghost use Rattle.serde_json.specs.Written.{has_float, compact_text};
 ghost use Rattle.wm_json.specs.Arrays.{texts_data};
-ghost use Rattle.wm_json.specs.Nodes.{border_fields, focus_fields, name_fields, node_data, node_text, nodes_data, place_fields, properties_data, share_fields, window_fields};
+ghost use Rattle.wm_json.specs.Nodes.{border_fields, focus_fields, last_fields, middle_fields, name_fields, node_data, node_text, nodes_data, place_fields, properties_data, share_fields, window_fields};
 ghost use Rattle.wm_json.specs.Objects.{array_with, or_null, put_fields, whole_number};
 ghost use Rattle.wm_json.specs.declared.views.NodeView.TheViews.{out-NodeView};
 
@@ -14,7 +14,7 @@ use crate::fields::{
 };
 use crate::values::texts_value;
 use crate::views::NodeView;
-use serde_json::{Map, Value, json, put};
+use serde_json::{Map, Value, put};
 use std::alloc::{AllocError, Global};
 use wm_base::{NoMemory, Props};
 
@@ -114,17 +114,29 @@ fn put_share(
     put_number(alloc, members, "share", n.share.into())
 }
 
+/// Adds the fields of a window's properties to no members.
+fn put_props(
+    alloc: Global,
+    p: &Props,
+    members: &mut Map<String, Value>,
+) -> Result<(), AllocError>
+    requires { members.old.entries ≡ [] }
+    ensures { OnOk result (object (members_view members.new.entries) ≡ properties_data p.now) }
+{
+    put_text(alloc, members, "class", p.class.as_str())?;
+    put_text(alloc, members, "instance", p.instance.as_str())?;
+    put_text(alloc, members, "machine", p.machine.as_str())?;
+    put_text(alloc, members, "title", p.title.as_str())?;
+    put_text(alloc, members, "window_role", p.role.as_str())
+}
+
 /// The object of a window's properties.
 fn properties_value(alloc: Global, p: &Props) -> Result<Value, AllocError>
     ensures { IfOk result (λ v. view v ≡ properties_data p.now) }
 {
-    json!(in alloc; {
-        "class": p.class.as_str(),
-        "instance": p.instance.as_str(),
-        "machine": p.machine.as_str(),
-        "title": p.title.as_str(),
-        "window_role": p.role.as_str(),
-    })
+    let mut members = Map::new(alloc);
+    put_props(alloc, p, &mut members)?;
+    Ok(Value::Object(members))
 }
 
 /// Adds the field `window_properties`, null where there are none.
@@ -164,6 +176,33 @@ fn put_window(
     put_flag_if(alloc, members, "visible", n.visible)
 }
 
+/// Adds the fields from `num` to `window_type`, the last first.
+fn put_last(
+    alloc: Global,
+    n: &NodeView,
+    members: &mut Map<String, Value>,
+) -> Result<(), AllocError>
+    ensures { OnOk result (members_view members.new.entries
+        ≡ put_fields (last_fields (out-NodeView n.now)) (members_view members.old.entries)) }
+{
+    put_window(alloc, n, members)?;
+    put_share(alloc, n, members)?;
+    put_place(alloc, n, members)
+}
+
+/// Adds the fields from `focus` to `name`, the last first.
+fn put_middle(
+    alloc: Global,
+    n: &NodeView,
+    members: &mut Map<String, Value>,
+) -> Result<(), NoMemory>
+    ensures { OnOk result (members_view members.new.entries
+        ≡ put_fields (middle_fields (out-NodeView n.now)) (members_view members.old.entries)) }
+{
+    put_name(alloc, n, members)?;
+    Ok(put_focus(alloc, n, members)?)
+}
+
 /// The object of a node, with those of its children in it.
 #[cycle(node)]
 pub fn node_value(alloc: Global, n: &NodeView) -> Result<Value, NoMemory>
@@ -182,12 +221,9 @@ fn put_node(alloc: Global, n: &NodeView, members: &mut Map<String, Value>) -> Re
     requires { members.old.entries ≡ [] }
     ensures { OnOk result (object (members_view members.new.entries) ≡ node_data n.now) }
 {
-    put_window(alloc, n, members)?;
-    put_share(alloc, n, members)?;
-    put_place(alloc, n, members)?;
+    put_last(alloc, n, members)?;
     put_nodes(alloc, n.nodes.items(), "nodes", members)?;
-    put_name(alloc, n, members)?;
-    put_focus(alloc, n, members)?;
+    put_middle(alloc, n, members)?;
     put_nodes(alloc, n.floating_nodes.items(), "floating_nodes", members)?;
     Ok(put_border(alloc, n, members)?)
 }

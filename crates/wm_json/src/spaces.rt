@@ -3,7 +3,8 @@ ghost use Rattle.std.specs.Prelude.{◌≡◌, [], false, IfOk, OnOk};
 ghost use Rattle.serde_json.specs.Data.{object};
 ghost use Rattle.serde_json.specs.View.{members_view, view};
 ghost use Rattle.serde_json.specs.Written.{has_float, compact_text};
-ghost use Rattle.wm_json.specs.Spaces.{output_data, outputs_data, outputs_text, workspace_data, workspaces_data, workspaces_text};
+ghost use Rattle.wm_json.specs.Objects.{put_fields};
+ghost use Rattle.wm_json.specs.Spaces.{name_fields, place_fields, output_data, outputs_data, outputs_text, workspace_data, workspaces_data, workspaces_text};
 
 use crate::fields::{put_flag, put_integer, put_number, put_rect, put_text};
 use crate::views::{OutputView, WorkspaceView};
@@ -11,23 +12,47 @@ use serde_json::{Map, Value};
 use std::alloc::{AllocError, Global};
 use wm_base::NoMemory;
 
+/// Adds the fields from `focused` to `num`, the last first.
+fn put_name(
+    alloc: Global,
+    w: &WorkspaceView,
+    members: &mut Map<String, Value>,
+) -> Result<(), AllocError>
+    ensures { OnOk result (members_view members.new.entries
+        ≡ put_fields (name_fields w.now) (members_view members.old.entries)) }
+{
+    put_integer(alloc, members, "num", w.num)?;
+    put_text(alloc, members, "name", w.name.as_str())?;
+    put_number(alloc, members, "id", w.id.into())?;
+    put_flag(alloc, members, "focused", w.focused)
+}
+
+/// Adds the fields from `output` to `visible`, the last first.
+fn put_place(
+    alloc: Global,
+    w: &WorkspaceView,
+    members: &mut Map<String, Value>,
+) -> Result<(), AllocError>
+    ensures { OnOk result (members_view members.new.entries
+        ≡ put_fields (place_fields w.now) (members_view members.old.entries)) }
+{
+    put_flag(alloc, members, "visible", w.visible)?;
+    put_flag(alloc, members, "urgent", w.urgent)?;
+    put_rect(alloc, members, "rect", &w.rect)?;
+    put_text(alloc, members, "output", w.output.as_str())
+}
+
 /// Adds the fields of a workspace to no members.
 fn put_workspace(
     alloc: Global,
-    members: &mut Map<String, Value>,
     w: &WorkspaceView,
+    members: &mut Map<String, Value>,
 ) -> Result<(), AllocError>
     requires { members.old.entries ≡ [] }
     ensures { OnOk result (object (members_view members.new.entries) ≡ workspace_data w.now) }
 {
-    put_flag(alloc, members, "focused", w.focused)?;
-    put_number(alloc, members, "id", w.id.into())?;
-    put_text(alloc, members, "name", w.name.as_str())?;
-    put_integer(alloc, members, "num", w.num)?;
-    put_text(alloc, members, "output", w.output.as_str())?;
-    put_rect(alloc, members, "rect", &w.rect)?;
-    put_flag(alloc, members, "urgent", w.urgent)?;
-    put_flag(alloc, members, "visible", w.visible)
+    put_place(alloc, w, members)?;
+    put_name(alloc, w, members)
 }
 
 /// The object of a workspace.
@@ -35,7 +60,7 @@ fn workspace_value(alloc: Global, w: &WorkspaceView) -> Result<Value, NoMemory>
     ensures { IfOk result (λ v. view v ≡ workspace_data w.now) }
 {
     let mut members = Map::new(alloc);
-    put_workspace(alloc, &mut members, w)?;
+    put_workspace(alloc, w, &mut members)?;
     Ok(Value::Object(members))
 }
 
@@ -55,8 +80,8 @@ pub fn workspaces_value(alloc: Global, w: &[WorkspaceView]) -> Result<Value, NoM
 /// Adds the fields of an output to no members.
 fn put_output(
     alloc: Global,
-    members: &mut Map<String, Value>,
     o: &OutputView,
+    members: &mut Map<String, Value>,
 ) -> Result<(), AllocError>
     requires { members.old.entries ≡ [] }
     ensures { OnOk result (object (members_view members.new.entries) ≡ output_data o.now) }
@@ -78,7 +103,7 @@ fn output_value(alloc: Global, o: &OutputView) -> Result<Value, NoMemory>
     ensures { IfOk result (λ v. view v ≡ output_data o.now) }
 {
     let mut members = Map::new(alloc);
-    put_output(alloc, &mut members, o)?;
+    put_output(alloc, o, &mut members)?;
     Ok(Value::Object(members))
 }
 

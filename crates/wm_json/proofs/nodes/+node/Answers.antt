@@ -9,15 +9,12 @@ use Rattle.wm_json.proofs.NodeTextLemmas.{node_prints}
 use Rattle.wm_json.proofs.nodes.+node.Goals as goal
 
 pub put_node-returns : goal.put_node-returns
-put_node-returns t c = added c.args.n.now _ _ _ _ _ _ _ _ _
+put_node-returns t c = added c.args.n.now _ _ _ _ _ _
     (ap members_view c.requires)
-    c.in_ok-put_window.ensures
-    c.in_ok-put_share.ensures
-    c.in_ok-put_place.ensures
-    (c.in_ok-put_nodes.ensures ∙ ap (λ ns. with_member (codes "nodes") (nodes_data ns) (members_view c.put_place.new.members.entries)) c.items.ensures)
-    c.in_ok-put_name.ensures
-    c.in_ok-put_focus.ensures
-    (c.in_ok-put_nodes-2.ensures ∙ ap (λ ns. with_member (codes "floating_nodes") (nodes_data ns) (members_view c.put_focus.new.members.entries)) c.items-2.ensures)
+    c.in_ok-put_last.ensures
+    (c.in_ok-put_nodes.ensures ∙ ap (λ ns. with_member (codes "nodes") (nodes_data ns) (members_view c.put_last.new.members.entries)) c.items.ensures)
+    c.in_ok-put_middle.ensures
+    (c.in_ok-put_nodes-2.ensures ∙ ap (λ ns. with_member (codes "floating_nodes") (nodes_data ns) (members_view c.put_middle.new.members.entries)) c.items-2.ensures)
     c.in_ok-put_border.ensures
 
 pub node_value-returns-clause-value : goal.node_value-returns-clause-value
