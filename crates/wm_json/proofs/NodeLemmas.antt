@@ -33,9 +33,9 @@ pub added : (n : NodeView) (m0 m1 m2 m3 m4 m5 : Members)
 added n m0 m1 m2 m3 m4 m5 e0 e1 e2 e3 e4 e5 =
     let x = out-NodeView n in
     let e : m5 ≡ put_fields (all_fields x) no_members = e5
-        ∙ ap (put_fields (border_fields x)) (e4
-        ∙ ap (with_member (codes "floating_nodes") (nodes_data x.floating_nodes)) (e3
-        ∙ ap (put_fields (middle_fields x)) (e2
-        ∙ ap (with_member (codes "nodes") (nodes_data x.nodes)) (e1
-        ∙ ap (put_fields (last_fields x)) e0)))) in
+    ∙ ap (put_fields (border_fields x)) (e4
+    ∙ ap (with_member (codes "floating_nodes") (nodes_data x.floating_nodes)) (e3
+    ∙ ap (put_fields (middle_fields x)) (e2
+    ∙ ap (with_member (codes "nodes") (nodes_data x.nodes)) (e1
+    ∙ ap (put_fields (last_fields x)) e0)))) in
     ap object (e ∙ put_in_order (all_fields x) (ordered x)) ∙ sym (node_is n)

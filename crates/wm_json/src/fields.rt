@@ -141,11 +141,7 @@ pub(crate) fn put_flag_if(
 }
 
 /// Adds the fields of a rectangle to no members.
-fn put_sides(
-    alloc: Global,
-    members: &mut Map<String, Value>,
-    r: &Rect,
-) -> Result<(), AllocError>
+fn put_sides(alloc: Global, members: &mut Map<String, Value>, r: &Rect) -> Result<(), AllocError>
     requires { members.old.entries ≡ [] }
     ensures { OnOk result (object (members_view members.new.entries) ≡ rect_data r.now) }
 {

@@ -115,11 +115,7 @@ fn put_share(
 }
 
 /// Adds the fields of a window's properties to no members.
-fn put_props(
-    alloc: Global,
-    p: &Props,
-    members: &mut Map<String, Value>,
-) -> Result<(), AllocError>
+fn put_props(alloc: Global, p: &Props, members: &mut Map<String, Value>) -> Result<(), AllocError>
     requires { members.old.entries ≡ [] }
     ensures { OnOk result (object (members_view members.new.entries) ≡ properties_data p.now) }
 {
@@ -177,11 +173,7 @@ fn put_window(
 }
 
 /// Adds the fields from `num` to `window_type`, the last first.
-fn put_last(
-    alloc: Global,
-    n: &NodeView,
-    members: &mut Map<String, Value>,
-) -> Result<(), AllocError>
+fn put_last(alloc: Global, n: &NodeView, members: &mut Map<String, Value>) -> Result<(), AllocError>
     ensures { OnOk result (members_view members.new.entries
         ≡ put_fields (last_fields (out-NodeView n.now)) (members_view members.old.entries)) }
 {
@@ -191,11 +183,7 @@ fn put_last(
 }
 
 /// Adds the fields from `focus` to `name`, the last first.
-fn put_middle(
-    alloc: Global,
-    n: &NodeView,
-    members: &mut Map<String, Value>,
-) -> Result<(), NoMemory>
+fn put_middle(alloc: Global, n: &NodeView, members: &mut Map<String, Value>) -> Result<(), NoMemory>
     ensures { OnOk result (members_view members.new.entries
         ≡ put_fields (middle_fields (out-NodeView n.now)) (members_view members.old.entries)) }
 {
