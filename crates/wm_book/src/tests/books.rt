@@ -1,5 +1,5 @@
 //! Books that two callers share, and what of them goes to other threads.
-ghost use Rattle.std.specs.Prelude.{◌≡◌, [], IfOk};
+ghost use Rattle.std.specs.Prelude.{◌≡◌, [], ◌∷◌, length, IfOk, IfSome};
 ghost use Rattle.wm_book.specs.Carried.{IsReady};
 
 use crate::{Book, Kept};
@@ -31,7 +31,7 @@ pub(super) fn crossed<T: Send + Sync>(value: T) -> T
 }
 
 /// A book and its seats may go to other threads where its value may, and other threads may use the book.
-pub(super) fn sent_together<V: Kept + Send>(
+fn sent_together<V: Kept + Send>(
     book: Book<V>,
     first: Seat<V>,
     second: Seat<V>,
@@ -43,8 +43,18 @@ pub(super) fn sent_together<V: Kept + Send>(
     (book, sent(first), sent(second))
 }
 
+/// The two seats of a list of two.
+fn both<V: Kept>(mut seats: Vec<Seat<V>>) -> Option<(Seat<V>, Seat<V>)>
+    requires { length seats.items ≡ 2 }
+    ensures { IfSome result (λ both. seats.items ≡ both.0 ∷ both.1 ∷ []) }
+{
+    let second = seats.pop()?;
+    let first = seats.pop()?;
+    Some((first, second))
+}
+
 /// A book of the value, and its two seats.
-pub(super) fn shared_by_two<V: Kept + Drop>(
+pub(super) fn shared_by_two<V: Kept + Send + Drop>(
     alloc: Global,
     value: V,
 ) -> Result<(Book<V>, Seat<V>, Seat<V>), Fail>
@@ -54,10 +64,9 @@ pub(super) fn shared_by_two<V: Kept + Drop>(
     ensures second { IfOk result (λ made. IsReady made.0 made.2 × (made.2.parts ≡ 1)) }
 {
     let started = Book::start(alloc, value, 2);
-    let (book, mut seats) = started.map_err(|_refused| "no memory")?;
-    let second = seats.pop().ok_or("a second seat")?;
-    let first = seats.pop().ok_or("a first seat")?;
-    Ok((book, first, second))
+    let (book, seats) = started.map_err(|_refused| "no memory")?;
+    let (first, second) = both(seats).ok_or("two seats")?;
+    Ok(sent_together(book, first, second))
 }
 
 /// Ends the book by its two seats: the value, and how many steps it stands for.

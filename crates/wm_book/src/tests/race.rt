@@ -3,7 +3,7 @@ ghost use Rattle.std.specs.Prelude.{◌≤◌, [], IfOk};
 ghost use Rattle.wm_book.specs.Carried.{IsBack, IsReady};
 ghost use Rattle.wm_book.specs.Recorded.{IsRecord};
 
-use super::books::{close_both, crossed, sent_together, shared_by_two};
+use super::books::{close_both, crossed, shared_by_two};
 use super::callers::{open, take};
 use crate::{Book, Kept, Recorded};
 use std::alloc::Global;
@@ -113,7 +113,6 @@ fn raced<V: Kept + Send + Sync + Drop, R: Threads + Wait + Sync>(
     requires { V.stands value [] }
 {
     let (book, first, second) = shared_by_two(alloc, crossed(value))?;
-    let (book, first, second) = sent_together(book, first, second);
     let ((first, done), (second, more)) = race(rt, alloc, &book, first, second);
     let (value, steps) = close_both(alloc, book, first, second)?;
     Ok((value, steps, (done, more)))
@@ -135,11 +134,18 @@ fn told(recorded: Recorded) -> (u32, bool, bool) {
     (windows, in_order, no_others)
 }
 
+/// How many steps a recorded desk stands for after the race, how many each thread did, and what the desk tells.
+fn race_told<R: Threads + Wait + Sync>(
+    rt: &R,
+    alloc: Global,
+) -> Result<(u64, (u32, u32), (u32, bool, bool)), Fail> {
+    let (recorded, steps, done) = raced(rt, alloc, opened_recorded(alloc)?)?;
+    Ok((steps, done, told(recorded)))
+}
+
 #[test]
 fn two_threads_take_a_hundred_steps_each(rt: HostRuntime) -> Result<(), Fail> {
-    let recorded = opened_recorded(rt.alloc())?;
-    let (recorded, steps, done) = raced(&rt, rt.alloc(), recorded)?;
-    let told = told(recorded);
+    let (steps, done, told) = race_told(&rt, rt.alloc())?;
     assert_eq!(rt; (steps, done), (200, (100, 100)));
     assert_eq!(rt; told, (0, true, true));
     Ok(())

@@ -3,7 +3,7 @@ ghost use Rattle.std.specs.Prelude.{[], IfOk};
 ghost use Rattle.wm_book.specs.Carried.{IsBack, IsReady};
 ghost use Rattle.wm_core.specs.DeskValue.{Stands};
 
-use super::books::{close_joined, crossed, sent_together, shared_by_two};
+use super::books::{close_joined, crossed, shared_by_two};
 use super::callers::open;
 use crate::{Book, Kept};
 use std::alloc::Global;
@@ -94,8 +94,7 @@ fn told<V: Kept + Send + Sync + Drop, R: Wait>(
 ) -> Result<((Option<ConId>, bool, bool), u64), Fail>
     requires { V.stands value [] }
 {
-    let (book, seat, other) = shared_by_two(alloc, crossed(value))?;
-    let (book, mut seat, other) = sent_together(book, seat, other);
+    let (book, mut seat, other) = shared_by_two(alloc, crossed(value))?;
     let told = look_at_new_window(rt, alloc, &book, &mut seat);
     book.join(&mut seat, other);
     let steps = close_joined(alloc, book, seat)?;
