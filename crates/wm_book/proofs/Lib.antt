@@ -1,2 +1,4 @@
+pub mod DeskCrossing
 pub mod RecordLemmas
+pub mod RegexCrossing
 pub mod SeatLemmas

@@ -5,6 +5,8 @@ mod book;
 mod entry;
 mod kept;
 mod recorded;
+#[cfg(test)]
+mod tests;
 
 pub use book::Book;
 pub use entry::Entry;

@@ -1,0 +1,81 @@
+-- Desks, steps and recorded desks may go to other threads, and other threads may use them.
+use denote.Param.Send.{IsSend, IsSync, sendable}
+use Rattle.std.proofs.Crossing.{crosses}
+use Rattle.std.proofs.MapsCrossing as maps
+use Rattle.std.proofs.option.Option.TheSendSync as option
+use Rattle.wm_base.proofs.geometry.Edges.TheSendSync as edges
+use Rattle.wm_base.proofs.ids.Buffer.TheSendSync as buffer
+use Rattle.wm_base.proofs.ids.ConId.TheSendSync as con
+use Rattle.wm_base.proofs.list.List.TheSendSync as list
+use Rattle.wm_base.proofs.list.Str.TheSendSync as str
+use Rattle.wm_base.proofs.plan.Border.TheSendSync as border
+use Rattle.wm_base.proofs.plan.OutputPlan.TheSendSync as output
+use Rattle.wm_base.proofs.properties.Props.TheSendSync as props
+use Rattle.wm_base.proofs.text.Text.TheSendSync as text
+use Rattle.wm_book.proofs.RegexCrossing.{prepared_send, prepared_sync}
+use Rattle.wm_book.specs.contracts.entry.Entry as Entry
+use Rattle.wm_book.specs.contracts.recorded.Recorded as Recorded
+use Rattle.wm_core.below.wm_ids.proofs.map.IdMap.TheSendSync as ids
+use Rattle.wm_core.below.wm_txn.proofs.txn.Txn.TheSendSync as txn
+use Rattle.wm_core.proofs.client.ClientStep.TheSendSync as client
+use Rattle.wm_core.specs.contracts.desk.Desk as Desk
+use Rattle.wm_core.specs.contracts.step.Choice as Choice
+use Rattle.wm_core.specs.contracts.step.Step as Step
+use Rattle.wm_layouts.proofs.plan.Plan.TheSendSync as plan
+use Rattle.wm_tree.below.wm_forest.proofs.part.Part.TheSendSync as part
+use Rattle.wm_tree.below.wm_forest.proofs.row.Row.TheLaws.TheKnot as row
+use Rattle.wm_tree.below.wm_forest.specs.contracts.row.Cell as Cell
+use Rattle.wm_tree.below.wm_forest.specs.contracts.row.Row as Row
+use Rattle.wm_tree.specs.contracts.tree.Tree as Tree
+
+-- the types of which it is known
+ruleset known = (option.the_field_send, option.the_field_sync, edges.the_field_send, edges.the_field_sync, buffer.the_field_send, buffer.the_field_sync, con.the_field_send, con.the_field_sync, border.the_field_send, border.the_field_sync, output.the_field_send, output.the_field_sync, props.the_field_send, props.the_field_sync, part.the_field_send, part.the_field_sync, plan.the_field_send, plan.the_field_sync, client.the_field_send, client.the_field_sync, text.the_send, text.the_sync, list.the_send, list.the_sync, str.the_send, str.the_sync, ids.the_send, ids.the_sync, txn.the_send, txn.the_sync, maps.crosses, sendable, crosses)
+
+-- a row of nodes, which holds itself
+row_send : IsSend (Row.the_field).row
+row_send = search (row.send-Row, known) depth 20
+
+row_sync : IsSync (Row.the_field).row
+row_sync = search (row.sync-Row, known) depth 20
+
+cell_send : IsSend (Cell.the_field).row
+cell_send = row.send-Cell part.the_field_send row_send
+
+cell_sync : IsSync (Cell.the_field).row
+cell_sync = row.sync-Cell part.the_field_sync row_sync
+
+tree_send : IsSend Tree.the_row
+tree_send = search (row_send, cell_send, known) depth 20
+
+tree_sync : IsSync Tree.the_row
+tree_sync = search (row_sync, cell_sync, known) depth 20
+
+pub desk_send : IsSend Desk.the_row
+desk_send = search (tree_send, known) depth 20
+
+pub desk_sync : IsSync Desk.the_row
+desk_sync = search (tree_sync, known) depth 20
+
+choice_send : IsSend (Choice.the_field).row
+choice_send = search (prepared_send, known) depth 20
+
+choice_sync : IsSync (Choice.the_field).row
+choice_sync = search (prepared_sync, known) depth 20
+
+step_send : IsSend (Step.the_field).row
+step_send = search (prepared_send, choice_send, known) depth 20
+
+step_sync : IsSync (Step.the_field).row
+step_sync = search (prepared_sync, choice_sync, known) depth 20
+
+entry_send : IsSend (Entry.the_field).row
+entry_send = search (step_send, known) depth 20
+
+pub recorded_send : IsSend Recorded.the_row
+recorded_send = search (desk_send, entry_send, known) depth 20
+
+entry_sync : IsSync (Entry.the_field).row
+entry_sync = search (step_sync, known) depth 20
+
+pub recorded_sync : IsSync Recorded.the_row
+recorded_sync = search (desk_sync, entry_sync, known) depth 20
