@@ -21,6 +21,7 @@ binding_fields command mask symbol =
     ∷ always (codes "symbol") (string symbol)
     ∷ []
 
+-- what changed and how; `old` is the workspace that was focused before
 abbrev pub body_fields : EventBody → List (Field Data)
 body_fields body.Output = always (codes "change") (string (codes "unspecified")) ∷ []
 body_fields (body.Workspace change current before) =
@@ -43,6 +44,7 @@ event_data e = object_with (body_fields e.body)
 
 -- ---- texts
 
+-- what is bound to a key, and the modifiers that are held with it
 abbrev pub binding_texts : List ℕ → List (List ℕ) → List ℕ → List (Field (List ℕ))
 binding_texts command mask symbol =
     always (codes "command") (quoted command)
@@ -52,6 +54,7 @@ binding_texts command mask symbol =
     ∷ always (codes "symbol") (quoted symbol)
     ∷ []
 
+-- what changed and how
 abbrev pub body_texts : EventBody → List (Field (List ℕ))
 body_texts body.Output = always (codes "change") (quoted (codes "unspecified")) ∷ []
 body_texts (body.Workspace change current before) =
@@ -68,5 +71,6 @@ body_texts (body.Binding command mask symbol) =
 body_texts (body.Tick first payload) = always (codes "first") (flag_text first) ∷ always (codes "payload") (quoted payload) ∷ []
 body_texts body.Shutdown = always (codes "change") (quoted (codes "exit")) ∷ []
 
+-- the object of an event
 abbrev pub event_text : EventView → List ℕ
 event_text e = object_text (body_texts e.body)

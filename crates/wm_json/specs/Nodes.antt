@@ -13,6 +13,7 @@ use Rattle.wm_json.specs.declared.views.NodeView.TheFolds.{fold-NodeView}
 
 -- ---- values
 
+-- what a client says of its window; its kind is written as the type of the window
 abbrev pub properties_fields : Props → List (Field Data)
 properties_fields p =
     always (codes "class") (string p.class)
@@ -22,6 +23,7 @@ properties_fields p =
     ∷ always (codes "window_role") (string p.role)
     ∷ []
 
+-- the object of a window's properties
 abbrev pub properties_data : Props → Data
 properties_data p = object_with (properties_fields p)
 
@@ -98,6 +100,7 @@ node_fields n =
     ++ (always (codes "floating_nodes") (array (items_of n.floating_nodes)) ∷ middle_fields n)
     ++ (always (codes "nodes") (array (items_of n.nodes)) ∷ last_fields n)
 
+-- the object of such a node
 abbrev pub node_object : NodeView-F Data → Data
 node_object n = object_with (node_fields n)
 
@@ -105,11 +108,13 @@ node_object n = object_with (node_fields n)
 abbrev pub node_data : NodeView → Data
 node_data = fold-NodeView Data node_object
 
+-- the array of the nodes
 abbrev pub nodes_data : List NodeView → Data
 nodes_data ns = array_with node_data ns
 
 -- ---- texts
 
+-- the properties of a window
 abbrev pub properties_texts : Props → List (Field (List ℕ))
 properties_texts p =
     always (codes "class") (quoted p.class)
@@ -119,6 +124,7 @@ properties_texts p =
     ∷ always (codes "window_role") (quoted p.role)
     ∷ []
 
+-- the object of a window's properties
 abbrev pub properties_text : Props → List ℕ
 properties_text p = object_text (properties_texts p)
 
@@ -195,11 +201,14 @@ node_texts n =
     ++ (always (codes "floating_nodes") (list_text n.floating_nodes) ∷ middle_texts n)
     ++ (always (codes "nodes") (list_text n.nodes) ∷ last_texts n)
 
+-- the object of such a node
 abbrev pub node_object_text : NodeView-F (List ℕ) → List ℕ
 node_object_text n = object_text (node_texts n)
 
+-- the object of a node, with those of its children in it
 abbrev pub node_text : NodeView → List ℕ
 node_text = fold-NodeView (List ℕ) node_object_text
 
+-- the array of the nodes
 abbrev pub nodes_text : List NodeView → List ℕ
 nodes_text ns = array_text node_text ns

@@ -18,10 +18,12 @@ always key value = (key, Some value)
 
 -- ---- values
 
+-- a member in front of others, where there is a value
 abbrev pub member_if : List ℕ → Option Data → Members → Members
 member_if key None rest = rest
 member_if key (Some value) rest = member key value rest
 
+-- the members that the fields are
 abbrev pub members_with : List (Field Data) → Members
 members_with [] = no_members
 members_with (field ∷ more) = member_if field.0 field.1 (members_with more)
@@ -39,12 +41,15 @@ abbrev pub or_null : {A : Type 0} → (A → Data) → Option A → Data
 or_null value None = null
 or_null value (Some x) = value x
 
+-- a number that is 0 or above
 abbrev pub whole_number : ℕ → Data
 whole_number n = number (unsigned n)
 
+-- a number that may be below 0
 abbrev pub integer : ℤ → Data
 integer z = number (of_integer z)
 
+-- the height and the width of a rectangle and its place, in pixels
 abbrev pub rect_fields : Rect → List (Field Data)
 rect_fields r =
     always (codes "height") (whole_number r.h)
@@ -53,32 +58,37 @@ rect_fields r =
     ∷ always (codes "y") (integer r.y)
     ∷ []
 
--- a rectangle, in pixels
+-- the object of a rectangle
 abbrev pub rect_data : Rect → Data
 rect_data r = object_with (rect_fields r)
 
 -- ---- texts
 
+-- a key with a colon and its text in front of others, where there is a text
 abbrev pub text_if : List ℕ → Option (List ℕ) → List (List ℕ) → List (List ℕ)
 text_if key None rest = rest
 text_if key (Some text) rest = (quoted key ++ 58 ∷ text) ∷ rest
 
+-- the texts of the fields that are there
 abbrev pub texts_with : List (Field (List ℕ)) → List (List ℕ)
 texts_with [] = []
 texts_with (field ∷ more) = text_if field.0 field.1 (texts_with more)
 
--- the object whose fields have these texts: each key with a colon and its text, and a comma between two
+-- the object whose fields have these texts: in braces, with a comma between two
 abbrev pub object_text : List (Field (List ℕ)) → List ℕ
 object_text fields = 123 ∷ (join_with_byte 44 (texts_with fields) ++ 125 ∷ [])
 
+-- the text, or that of null where there is none
 abbrev pub null_or : {A : Type 0} → (A → List ℕ) → Option A → List ℕ
 null_or text None = codes "null"
 null_or text (Some x) = text x
 
+-- true or false
 abbrev pub flag_text : Bool → List ℕ
 flag_text true = codes "true"
 flag_text false = codes "false"
 
+-- the height and the width of a rectangle and its place
 abbrev pub rect_texts : Rect → List (Field (List ℕ))
 rect_texts r =
     always (codes "height") (decimal r.h)
@@ -87,16 +97,18 @@ rect_texts r =
     ∷ always (codes "y") (signed_decimal r.y)
     ∷ []
 
+-- the object of a rectangle
 abbrev pub rect_text : Rect → List ℕ
 rect_text r = object_text (rect_texts r)
 
 -- ---- for private clauses: members to which fields are added
 
+-- a member at its place, where there is a value
 abbrev pub put_if : List ℕ → Option Data → Members → Members
 put_if key None members = members
 put_if key (Some value) members = with_member key value members
 
--- the last field is added first
+-- the fields at their places; the last one is added first
 abbrev pub put_fields : List (Field Data) → Members → Members
 put_fields [] members = members
 put_fields (field ∷ more) members = put_if field.0 field.1 (put_fields more members)

@@ -28,15 +28,19 @@ place_fields w =
     ∷ always (codes "visible") (boolean w.visible)
     ∷ []
 
+-- the fields of a workspace
 abbrev pub workspace_fields : WorkspaceView → List (Field Data)
 workspace_fields w = name_fields w ++ place_fields w
 
+-- the object of a workspace
 abbrev pub workspace_data : WorkspaceView → Data
 workspace_data w = object_with (workspace_fields w)
 
+-- the array of the workspaces
 abbrev pub workspaces_data : List WorkspaceView → Data
 workspaces_data ws = array_with workspace_data ws
 
+-- the fields of an output
 abbrev pub output_fields : OutputView → List (Field Data)
 output_fields o =
     always (codes "active") (boolean o.active)
@@ -46,9 +50,11 @@ output_fields o =
     ∷ always (codes "rect") (rect_data o.rect)
     ∷ []
 
+-- the object of an output
 abbrev pub output_data : OutputView → Data
 output_data o = object_with (output_fields o)
 
+-- the array of the outputs
 abbrev pub outputs_data : List OutputView → Data
 outputs_data os = array_with output_data os
 
@@ -72,9 +78,11 @@ place_texts w =
     ∷ always (codes "visible") (flag_text w.visible)
     ∷ []
 
+-- the fields of a workspace
 abbrev pub workspace_texts : WorkspaceView → List (Field (List ℕ))
 workspace_texts w = name_texts w ++ place_texts w
 
+-- the object of a workspace
 abbrev pub workspace_text : WorkspaceView → List ℕ
 workspace_text w = object_text (workspace_texts w)
 
@@ -82,6 +90,7 @@ workspace_text w = object_text (workspace_texts w)
 abbrev pub workspaces_text : List WorkspaceView → List ℕ
 workspaces_text ws = array_text workspace_text ws
 
+-- the fields of an output
 abbrev pub output_texts : OutputView → List (Field (List ℕ))
 output_texts o =
     always (codes "active") (flag_text o.active)
@@ -91,6 +100,7 @@ output_texts o =
     ∷ always (codes "rect") (rect_text o.rect)
     ∷ []
 
+-- the object of an output
 abbrev pub output_text : OutputView → List ℕ
 output_text o = object_text (output_texts o)
 
