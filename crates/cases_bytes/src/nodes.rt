@@ -9,8 +9,19 @@ use wm_json::NodeView;
 /// where their kind is `floating_con`.
 pub fn node_of(words: &mut Words<'_>) -> Result<NodeView, Fault> {
     let mut node = single(words.alloc, words.until(" | "))?;
-    put_children(words.alloc, words.rest(), &mut node)?;
-    Ok(node)
+    let put = put_children(words.alloc, words.rest(), &mut node);
+    node_or(put, node)
+}
+
+/// The node, unless something went wrong.
+fn node_or(put: Result<(), Fault>, node: NodeView) -> Result<NodeView, Fault> {
+    match put {
+        Ok(()) => Ok(node),
+        Err(fault) => {
+            drop(node);
+            Err(fault)
+        }
+    }
 }
 
 fn put_children(alloc: Global, parts: &str, node: &mut NodeView) -> Result<(), Fault> {
@@ -58,8 +69,8 @@ fn single(alloc: Global, part: &str) -> Result<NodeView, Fault> {
     let kind = words.word();
     let id = words.number()?;
     let mut node = bare(alloc, id, text_of(alloc, words.rest())?);
-    put_kind(alloc, kind, &mut node)?;
-    Ok(node)
+    let put = put_kind(alloc, kind, &mut node);
+    node_or(put, node)
 }
 
 fn put_kind(alloc: Global, kind: &str, node: &mut NodeView) -> Result<(), Fault> {

@@ -13,8 +13,14 @@ use wm_json::{
 /// A node with its children.
 pub fn tell_node(words: &mut Words<'_>, out: &mut String) -> Result<(), Fault> {
     let node = node_of(words)?;
-    let value = node_value(words.alloc, &node)?;
-    push_value(words.alloc, &value, out)
+    let told = push_node(words.alloc, &node, out);
+    drop(node);
+    told
+}
+
+fn push_node(alloc: Global, node: &NodeView, out: &mut String) -> Result<(), Fault> {
+    let value = node_value(alloc, node)?;
+    push_value(alloc, &value, out)
 }
 
 /// The workspaces of a text `ID NAME NUMBER OUTPUT | ..`.
@@ -96,13 +102,23 @@ fn push_output(alloc: Global, part: &str, outputs: &mut Vec<OutputView>) -> Resu
 
 /// An event.
 pub fn tell_event(words: &mut Words<'_>, out: &mut String) -> Result<(), Fault> {
-    let event = EventView {
+    let event = event(body_of(words)?);
+    let told = push_event(words.alloc, &event, out);
+    drop(event);
+    told
+}
+
+fn event(body: EventBody) -> EventView {
+    EventView {
         number: 1,
         kind: 0,
-        body: body_of(words)?,
-    };
-    let value = event_value(words.alloc, &event)?;
-    push_value(words.alloc, &value, out)
+        body,
+    }
+}
+
+fn push_event(alloc: Global, event: &EventView, out: &mut String) -> Result<(), Fault> {
+    let value = event_value(alloc, event)?;
+    push_value(alloc, &value, out)
 }
 
 /// What an event tells: `output`, `workspace CHANGE NODE` or `workspace CHANGE NODE || NODE`, `window CHANGE NODE`,
@@ -122,13 +138,23 @@ fn body_of(words: &mut Words<'_>) -> Result<EventBody, Fault> {
 
 fn workspace_change(words: &mut Words<'_>) -> Result<EventBody, Fault> {
     let change = string(words.alloc, words.word())?;
-    let current = node_of(&mut Words::of(words.alloc, words.until(" || ")))?;
-    let before = before(words)?;
+    let (current, before) = current_and_before(words)?;
     Ok(EventBody::Workspace {
         change,
         current,
         before,
     })
+}
+
+fn current_and_before(words: &mut Words<'_>) -> Result<(NodeView, Option<NodeView>), Fault> {
+    let current = node_of(&mut Words::of(words.alloc, words.until(" || ")))?;
+    match before(words) {
+        Ok(before) => Ok((current, before)),
+        Err(fault) => {
+            drop(current);
+            Err(fault)
+        }
+    }
 }
 
 fn before(words: &mut Words<'_>) -> Result<Option<NodeView>, Fault> {
