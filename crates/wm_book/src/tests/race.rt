@@ -81,16 +81,18 @@ fn race<V: Kept + Send, R: Threads + Wait + Sync>(
     )
 }
 
-/// Whether the caller's steps among the first 200 are in its order: it opens a window and closes it, again and again,
-/// and each window has a greater id than the one before.
+/// Whether the caller's steps among the first 200 are a hundred in its order: it opens a window and closes it, again and
+/// again, and each window has a greater id than the one before.
 fn are_in_order(recorded: &Recorded, caller: u32) -> bool {
     let mut open = false;
     let mut last = 0;
+    let mut count = 0_u32;
     for place in 0..200 {
         let Some(entry) = recorded.entry(place) else {
             return false;
         };
         if entry.who == caller {
+            count += 1;
             match &entry.step {
                 Step::Map { .. } if !open => open = true,
                 Step::Close { con } if open && last < con.0 => {
@@ -101,7 +103,7 @@ fn are_in_order(recorded: &Recorded, caller: u32) -> bool {
             }
         }
     }
-    !open && last > 0
+    !open && count == 100
 }
 
 /// The value after two threads took a hundred steps each, how many steps it stands for, and how many were done by each.
