@@ -1,5 +1,5 @@
-//! The program cases_bytes: frames, replies, texts, rectangles, sources and sinks, pictures and maps, from files of such
-//! cases.
+//! The program cases_bytes: frames, replies, views, texts, rectangles, sources and sinks, pictures and maps, from files of
+//! such cases.
 #![tactic(auto)]
 
 mod fields;
@@ -8,11 +8,13 @@ mod limits;
 mod lists;
 mod maps;
 mod memory;
+mod nodes;
 mod pictures;
 mod quads;
 mod rects;
 mod replies;
 mod streams;
+mod views;
 mod whole;
 
 use case_data::{Fault, Words};
@@ -100,6 +102,17 @@ fn tell_reply(word: &str, words: &mut Words<'_>, out: &mut String) -> Result<(),
         "success" => replies::tell_success(words, out),
         "version" => replies::tell_version(words, out),
         "texts" => replies::tell_texts(words, out),
+        _ => tell_view(word, words, out),
+    }
+}
+
+/// The same, of nodes, workspaces, outputs and events.
+fn tell_view(word: &str, words: &mut Words<'_>, out: &mut String) -> Result<(), Fault> {
+    match word {
+        "node" => views::tell_node(words, out),
+        "workspaces" => views::tell_workspaces(words, out),
+        "outputs" => views::tell_outputs(words, out),
+        "event" => views::tell_event(words, out),
         _ => tell_port(word, words, out),
     }
 }

@@ -65,7 +65,8 @@ pub fn tell_version(words: &mut Words<'_>, out: &mut String) -> Result<(), Fault
     push_value(words.alloc, &value, out)
 }
 
-fn push_value(alloc: Global, value: &Value, out: &mut String) -> Result<(), Fault> {
+/// Writes a line with the bytes of a value.
+pub fn push_value(alloc: Global, value: &Value, out: &mut String) -> Result<(), Fault> {
     let bytes = compact(alloc, value)?;
     push_bytes(out, &bytes)
 }

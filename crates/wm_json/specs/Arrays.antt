@@ -5,9 +5,13 @@ use Rattle.json.specs.Print.{quoted}
 use Rattle.serde_json.specs.Data.{Data, array, string}
 use Rattle.serde_json.specs.View.{items_of}
 
+-- the array of the items that are written so
+abbrev pub list_text : List (List ℕ) → List ℕ
+list_text texts = 91 ∷ (join_with_byte 44 texts ++ 93 ∷ [])
+
 -- the array of items with these texts
 abbrev pub array_text : {A : Type 0} → (A → List ℕ) → List A → List ℕ
-array_text text xs = 91 ∷ (join_with_byte 44 (map text xs) ++ 93 ∷ [])
+array_text text xs = list_text (map text xs)
 
 -- the array of texts, each a JSON string
 abbrev pub texts_text : List (List ℕ) → List ℕ

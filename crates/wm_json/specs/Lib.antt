@@ -1,2 +1,6 @@
 pub mod Arrays
+pub mod Events
+pub mod Nodes
+pub mod Objects
 pub mod Replies
+pub mod Spaces

@@ -1,5 +1,5 @@
 -- The replies to the commands of one text, as values and as texts.
-use Rattle.std.specs.Prelude.{ℕ, List, [], ◌∷◌, ◌++◌, map, codes, decimal, Bool, true, false}
+use Rattle.std.specs.Prelude.{ℕ, List, [], ◌++◌, map, codes, decimal, Bool, true, false}
 use Rattle.serde_json.specs.Data.{Data, boolean, unsigned, number, string, array, object, member, no_members}
 use Rattle.serde_json.specs.View.{items_of}
 use Rattle.wm_base.specs.ErrorText.{text_of}

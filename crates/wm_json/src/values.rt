@@ -1,12 +1,13 @@
 //! The values of single replies.
 ghost use Rattle.std.specs.Prelude.{◌≡◌, [], false, IfOk, OnOk};
-ghost use Rattle.serde_json.specs.Data.{number, object, put as with_member, string, unsigned};
+ghost use Rattle.serde_json.specs.Data.{object};
 ghost use Rattle.serde_json.specs.View.{members_view, view};
 ghost use Rattle.serde_json.specs.Written.{has_float, compact_text};
 ghost use Rattle.wm_json.specs.Arrays.{texts_data, texts_text};
 ghost use Rattle.wm_json.specs.Replies.{success_data, success_text, error_data, parse_error_data, version_data, VERSION_TEXT};
 
-use serde_json::{Map, Value, json, put};
+use crate::fields::{put_number, put_text};
+use serde_json::{Map, Value, json};
 use std::alloc::{AllocError, Global};
 use wm_base::{NoMemory, Text};
 
@@ -57,32 +58,6 @@ fn put_version(alloc: Global, members: &mut Map<String, Value>) -> Result<(), Al
     put_number(alloc, members, "major", 1)?;
     put_number(alloc, members, "minor", 0)?;
     put_number(alloc, members, "patch", 0)
-}
-
-/// Adds a member that is a text.
-fn put_text(
-    alloc: Global,
-    members: &mut Map<String, Value>,
-    key: &str,
-    text: &str,
-) -> Result<(), AllocError>
-    ensures { OnOk result (members_view members.new.entries
-        ≡ with_member key.now (string text.now) (members_view members.old.entries)) }
-{
-    put(members, alloc, key, Value::try_from_str(alloc, text)?)
-}
-
-/// Adds a member that is a whole number.
-fn put_number(
-    alloc: Global,
-    members: &mut Map<String, Value>,
-    key: &str,
-    value: u64,
-) -> Result<(), AllocError>
-    ensures { OnOk result (members_view members.new.entries
-        ≡ with_member key.now (number (unsigned value)) (members_view members.old.entries)) }
-{
-    put(members, alloc, key, Value::from(value))
 }
 
 /// The array of these texts.

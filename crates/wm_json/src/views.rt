@@ -1,9 +1,10 @@
 //! What a query or an event tells: nodes, workspaces, outputs and events, with the fields of their JSON.
+use std::fmt;
 use wm_base::{List, Props, Rect, Str, Text};
 
 /// A node of the tree as replies and events show it. Rectangles are in pixels, all 0 where the node is not placed.
 /// The last six fields are none where its kind has no such key, and the key is then not written.
-#[derive(Debug, Drop)]
+#[derive(Drop)]
 pub struct NodeView {
     /// `normal`, `pixel` or `none`.
     pub border: Str,
@@ -56,6 +57,17 @@ pub struct NodeView {
     pub active: Option<bool>,
     pub current_workspace: Option<Text>,
     pub primary: Option<bool>,
+}
+
+impl fmt::Debug for NodeView {
+    /// Its kind, id and name; its JSON shows all of it.
+    fn fmt<W: fmt::Write>(&self, f: &mut fmt::Formatter<W>) -> fmt::Result {
+        f.debug_struct("NodeView")
+            .field("kind", &self.kind)
+            .field("id", &self.id)
+            .field("name", &self.name)
+            .finish_non_exhaustive()
+    }
 }
 
 /// A workspace as the list of workspaces shows it.
