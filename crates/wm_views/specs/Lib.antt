@@ -1,0 +1,4 @@
+pub mod Maps
+pub mod Outputs
+pub mod Sight
+pub mod Workspaces

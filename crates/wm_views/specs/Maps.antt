@@ -1,0 +1,59 @@
+-- What is looked up by id: the rectangles of parts, and whether an id is listed.
+use Rattle.std.specs.Prelude.{ℕ, Bool, true, false, if◌then◌else◌, List, [], ◌∷◌, Option, None, Some, is_some, pos}
+use Rattle.std.specs.BTreeMap.{is_at}
+use Rattle.std.specs.Map.{lookup}
+use Rattle.std.specs.Option.{option_or}
+use Rattle.std.specs.Ordering.{nat_cmp}
+use Rattle.wm_arrange.specs.declared.parts.Placed.{Placed}
+use Rattle.wm_arrange.specs.declared.parts.PlacedPart.{PlacedPart}
+use Rattle.wm_arrange.specs.declared.parts.PlacedPart.TheVariants.{Back, Area, Title, Border, Content}
+use Rattle.wm_base.specs.declared.geometry.Rect.{Rect}
+use Rattle.wm_base.specs.declared.ids.ConId.{ConId}
+use Rattle.wm_forest.specs.Look.{same}
+
+abbrev pub is_area : PlacedPart → Bool
+is_area Back = false
+is_area Area = true
+is_area (Title ink text) = false
+is_area (Border ink) = false
+is_area Content = false
+
+-- a part's rectangle, where it is an area
+abbrev pub area_of : Placed → Option Rect
+area_of p = if is_area p.part then Some p.rect else None
+
+-- what c has, where a node has this
+abbrev pub of_node : {A : Type 0} → ConId → ConId → Option A → Option A
+of_node c id None = None
+of_node c id (Some x) = if same id c then Some x else None
+
+-- the rectangle of the first part that is an area of the node c
+abbrev pub area_at : ConId → List Placed → Option Rect
+area_at c [] = None
+area_at c (p ∷ ps) = option_or (of_node c p.con (area_of p)) (area_at c ps)
+
+-- no pixels, at 0,0
+abbrev pub nowhere : Rect
+nowhere = record { x = pos 0; y = pos 0; w = 0; h = 0 }
+
+abbrev pub or_nowhere : Option Rect → Rect
+or_nowhere None = nowhere
+or_nowhere (Some rect) = rect
+
+-- the area of the node c, without pixels at 0,0 where it is not placed
+abbrev pub area : List Placed → ConId → Rect
+area parts c = or_nowhere (area_at c parts)
+
+-- ---- maps
+
+-- what a map has for c
+abbrev pub value_at : {A : Type 0} → List (ℕ × A) → ConId → Option A
+value_at map c = lookup (is_at (nat_cmp c.0)) map
+
+-- whether a map has c
+abbrev pub holds : {A : Type 0} → List (ℕ × A) → ConId → Bool
+holds map c = is_some (value_at map c)
+
+-- what c has after the node was given a value
+abbrev pub put_at : {A : Type 0} → ConId → A → ConId → Option A → Option A
+put_at id x c before = if same id c then Some x else before

@@ -1,0 +1,11 @@
+//! Views: what queries tell of a tree and its arrangement.
+#![tactic(auto)]
+
+mod maps;
+mod numbers;
+mod outputs;
+mod sight;
+mod spaces;
+
+pub use outputs::outputs_view;
+pub use spaces::workspaces_view;
