@@ -1,6 +1,7 @@
 #!/bin/sh
 # Takes what an acknowledgement, a buffer and a deadline cost with 20, 200 and 4,000 open windows, each alone and where each step
-# is followed by its answers or by its deadline, and how that grows; and with i3replay 10,000 windows that come and go with 200 open, and 1,000,000
+# is followed by its answers or by its deadline, what the state costs with a deadline before it, where nothing waits and where all
+# windows on the screen are awaited, and how that grows; and with i3replay 10,000 windows that come and go with 200 open, and 1,000,000
 # that come and go by twenties: steps a second, and the memory.
 # usage: bench/clients.sh [PROGRAM]
 set -eu
@@ -25,7 +26,7 @@ def answered(windows, call):
     return min(float(subprocess.run(words, capture_output=True, check=True).stdout) for _ in range(5))
 
 
-for call in ["acknowledge", "give", "time-out", "follow", "expire"]:
+for call in ["acknowledge", "give", "time-out", "follow", "expire", "state", "waiting"]:
     costs = [answered(windows, call) for windows in [20, 200, 4000]]
     print("%s: %.0f, %.0f and %.0f nanoseconds with 20, 200 and 4,000 open windows, %.2f times as long at the end"
           % (call, *costs, costs[2] / costs[0]))

@@ -1,4 +1,4 @@
-//! Answers of clients on a desk with 20, 200 or 4,000 open windows, and what each took.
+//! Answers of clients and looks on a desk with 20, 200 or 4,000 open windows, and what each took.
 ghost use Rattle.std.specs.Prelude.{◌<◌, ◌^◌, IfOk};
 ghost use Rattle.wm_core.specs.Sizes.{IsFitStep};
 
@@ -43,6 +43,10 @@ enum Call {
     Acknowledge,
     Give,
     TimeOut,
+    /// How far the desk is, is asked after each deadline that is nobody's, where nothing waits.
+    State,
+    /// The same, where each window on the screen is awaited.
+    Waiting,
 }
 
 /// Opens so many windows, and writes how many nanoseconds an answer took.
@@ -65,6 +69,8 @@ fn named(word: &str) -> Result<Call, Fault> {
         "acknowledge" => Ok(Call::Acknowledge),
         "give" => Ok(Call::Give),
         "time-out" => Ok(Call::TimeOut),
+        "state" => Ok(Call::State),
+        "waiting" => Ok(Call::Waiting),
         _ => Err(Fault::BadWords),
     }
 }
@@ -90,6 +96,8 @@ fn time_answers(
     match call {
         Call::Follow => end_steps(rt, desk, shown(&cons)),
         Call::Expire => end_steps(rt, desk, &[]),
+        Call::State => ask_all(rt, desk, false),
+        Call::Waiting => ask_all(rt, desk, true),
         _ => Ok(answer_all(rt, desk, &cons, call)?.as_nanos() / u128::from(ANSWERS)),
     }
 }
@@ -203,10 +211,41 @@ fn answer(desk: &mut Desk, con: ConId, call: Call, serial: u64) -> Result<(), Fa
     let step = match call {
         Call::Acknowledge => ClientStep::Ack { con, serial },
         Call::Give | Call::Follow => ClientStep::Buffer { con, buffer: AMBER },
-        Call::TimeOut | Call::Expire => ClientStep::Deadline { number: serial },
+        Call::TimeOut | Call::Expire | Call::State | Call::Waiting => ClientStep::Deadline {
+            number: serial,
+        },
     };
     desk.answer_client(CALLER, &step);
     Ok(())
+}
+
+/// Asks again and again how far the desk is, each time after a deadline that is nobody's, where nothing waits or all windows
+/// on the screen are awaited, and tells how many nanoseconds both took.
+fn ask_all(rt: &HostRuntime, desk: &mut Desk, awaited: bool) -> Result<u128, Fault> {
+    time_out_all(desk)?;
+    if awaited {
+        run(rt.alloc(), desk, "layout toggle split")?;
+    }
+    let before = rt.thread_cpu_time()?;
+    let mut greatest = 0;
+    for _ in 0..ANSWERS {
+        answer(desk, ConId(0), Call::State, 0)?;
+        greatest = told(desk).max(greatest);
+    }
+    let took = between(before, rt.thread_cpu_time()?)?;
+    if greatest == 0 {
+        return Err(Fault::Refused);
+    }
+    Ok(took.as_nanos() / u128::from(ANSWERS))
+}
+
+/// What is told of a desk, in one number.
+fn told(desk: &Desk) -> u64 {
+    let state = desk.state();
+    let waiting = state
+        .waiting
+        .map_or(0, |waiting| u64::from(waiting.least.0));
+    state.steps.max(waiting)
 }
 
 /// The windows on the screen: those that were opened last.
