@@ -3,6 +3,7 @@ ghost use Rattle.std.specs.Prelude.{◌<◌, ◌^◌, IfOk};
 ghost use Rattle.wm_core.specs.Sizes.{IsFitStep};
 
 use crate::fault::Fault;
+use crate::states::ask_all;
 use crate::texts::props;
 use std::alloc::Global;
 use std::time::{CpuClock, Duration};
@@ -12,7 +13,7 @@ use wm_criteria::prepare_bare;
 use wm_layouts::Plan;
 
 /// How many answers are given without a step between them.
-const ANSWERS: u32 = 10_000_000;
+pub(crate) const ANSWERS: u32 = 10_000_000;
 
 /// How many answers follow steps.
 const FOLLOWING: u32 = 400_000;
@@ -34,7 +35,7 @@ const AMBER: Buffer = Buffer {
 
 /// What clients do again and again.
 #[derive(Clone, Copy)]
-enum Call {
+pub(crate) enum Call {
     /// Each window on the screen acknowledges its new size and gives a buffer, after each step.
     Follow,
     /// The time of the transaction is over, after each step.
@@ -121,7 +122,7 @@ fn show_workspace(alloc: Global, desk: &mut Desk, number: u32) -> Result<(), Fau
 }
 
 /// Takes the step that runs a text.
-fn run(alloc: Global, desk: &mut Desk, text: &str) -> Result<(), Fault> {
+pub(crate) fn run(alloc: Global, desk: &mut Desk, text: &str) -> Result<(), Fault> {
     let step = running(alloc, text)?;
     let answer = take(desk, &step);
     drop(step);
@@ -181,7 +182,7 @@ fn window(alloc: Global) -> Result<Step, Fault>
 }
 
 /// The time from one reading of the clock to a later one.
-fn between(before: Duration, after: Duration) -> Result<Duration, Fault> {
+pub(crate) fn between(before: Duration, after: Duration) -> Result<Duration, Fault> {
     after.checked_sub(before).ok_or(Fault::Refused)
 }
 
@@ -204,7 +205,7 @@ fn answer_all(
     between(before, rt.thread_cpu_time()?)
 }
 
-fn answer(desk: &mut Desk, con: ConId, call: Call, serial: u64) -> Result<(), Fault> {
+pub(crate) fn answer(desk: &mut Desk, con: ConId, call: Call, serial: u64) -> Result<(), Fault> {
     if desk.steps() >= 1 << 48 {
         return Err(Fault::Refused);
     }
@@ -217,35 +218,6 @@ fn answer(desk: &mut Desk, con: ConId, call: Call, serial: u64) -> Result<(), Fa
     };
     desk.answer_client(CALLER, &step);
     Ok(())
-}
-
-/// Asks again and again how far the desk is, each time after a deadline that is nobody's, where nothing waits or all windows
-/// on the screen are awaited, and tells how many nanoseconds both took.
-fn ask_all(rt: &HostRuntime, desk: &mut Desk, awaited: bool) -> Result<u128, Fault> {
-    time_out_all(desk)?;
-    if awaited {
-        run(rt.alloc(), desk, "layout toggle split")?;
-    }
-    let before = rt.thread_cpu_time()?;
-    let mut greatest = 0;
-    for _ in 0..ANSWERS {
-        answer(desk, ConId(0), Call::State, 0)?;
-        greatest = told(desk).max(greatest);
-    }
-    let took = between(before, rt.thread_cpu_time()?)?;
-    if greatest == 0 {
-        return Err(Fault::Refused);
-    }
-    Ok(took.as_nanos() / u128::from(ANSWERS))
-}
-
-/// What is told of a desk, in one number.
-fn told(desk: &Desk) -> u64 {
-    let state = desk.state();
-    let waiting = state
-        .waiting
-        .map_or(0, |waiting| u64::from(waiting.least.0));
-    state.steps.max(waiting)
 }
 
 /// The windows on the screen: those that were opened last.
@@ -306,7 +278,7 @@ fn end(desk: &mut Desk, shown: &[ConId], number: u64) -> Result<(), Fault> {
 }
 
 /// Ends the transactions that wait since windows were opened.
-fn time_out_all(desk: &mut Desk) -> Result<(), Fault> {
+pub(crate) fn time_out_all(desk: &mut Desk) -> Result<(), Fault> {
     for _ in 0..4 {
         let Some(waiting) = desk.state().waiting else {
             return Ok(());

@@ -3,6 +3,7 @@
 
 mod desk;
 mod fault;
+mod states;
 mod texts;
 mod tree;
 
