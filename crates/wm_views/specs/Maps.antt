@@ -1,9 +1,10 @@
 -- What is looked up by id: the rectangles of parts, and whether an id is listed.
-use Rattle.std.specs.Prelude.{ℕ, Bool, true, false, if◌then◌else◌, List, [], ◌∷◌, Option, None, Some, is_some, pos}
+use Rattle.std.specs.Prelude.{ℕ, Bool, true, false, if◌then◌else◌, List, [], ◌∷◌, Option, None, Some, is_some}
 use Rattle.std.specs.BTreeMap.{is_at}
 use Rattle.std.specs.Map.{lookup}
 use Rattle.std.specs.Option.{option_or}
 use Rattle.std.specs.Ordering.{nat_cmp}
+use Rattle.wm_arrange.specs.AreaOf.{or_nowhere}
 use Rattle.wm_arrange.specs.declared.parts.Placed.{Placed}
 use Rattle.wm_arrange.specs.declared.parts.PlacedPart.{PlacedPart}
 use Rattle.wm_arrange.specs.declared.parts.PlacedPart.TheVariants.{Back, Area, Title, Border, Content}
@@ -31,14 +32,6 @@ of_node c id (Some x) = if same id c then Some x else None
 abbrev pub area_at : ConId → List Placed → Option Rect
 area_at c [] = None
 area_at c (p ∷ ps) = option_or (of_node c p.con (area_of p)) (area_at c ps)
-
--- no pixels, at 0,0
-abbrev pub nowhere : Rect
-nowhere = record { x = pos 0; y = pos 0; w = 0; h = 0 }
-
-abbrev pub or_nowhere : Option Rect → Rect
-or_nowhere None = nowhere
-or_nowhere (Some rect) = rect
 
 -- the area of the node c, without pixels at 0,0 where it is not placed
 abbrev pub area : List Placed → ConId → Rect
