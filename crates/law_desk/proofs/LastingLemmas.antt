@@ -11,7 +11,9 @@ use Rattle.wm_core.proofs.OpeningLemmas.{fit_plans}
 use Rattle.wm_core.specs.Act.{Act, Run, Map, Close, Retitle, Urgent, Gone, OutputAdd, OutputRemove, Reserve, Key, Tick, Ack, Give, Deadline}
 use Rattle.wm_core.specs.declared.step.Answer.{Answer}
 use Rattle.wm_core.specs.declared.step.Answer.TheVariants as answers
-use Rattle.wm_core.specs.Effect.{Effect, ack_said, done_or_refused, effect, has_no_pixels, limit_of, map_effect, refused, run_effect, telling, window_answer}
+use Rattle.wm_apply.specs.Batches.{outcome}
+use Rattle.wm_apply.specs.Quiet.{is_quiet}
+use Rattle.wm_core.specs.Effect.{Effect, ack_said, done_or_refused, effect, has_no_pixels, idled, limit_of, map_effect, ran, refused, run_effect, telling, window_answer}
 use Rattle.wm_core.specs.History.{Entry, Start, opening_of, tree}
 use Rattle.wm_criteria.specs.declared.verdict.Verdict.{Verdict}
 use Rattle.wm_criteria.specs.declared.verdict.Verdict.TheVariants.{Ready, Bad, PatternRefused}
@@ -80,7 +82,11 @@ module _ {P : TreeValue → Type 0} (k : Lasts P) where
   has_done other new t g h = g
 
   has_run : (env : Env) (verdict : Verdict) (t : TreeValue) → HasLast P t → HasLast P (run_effect env verdict t).tree
-  has_run env (Ready batch) t g = has_outcome k env (Ready batch) None t g
+  has_run env (Ready batch) t g = by (is_quiet batch.groups)
+    where
+      by : (b : Bool) → HasLast P (cond b (idled (outcome env (Ready batch) None t)) (ran t (outcome env (Ready batch) None t))).tree
+      by true = has_outcome k env (Ready batch) None t g
+      by false = has_outcome k env (Ready batch) None t g
   has_run env (Bad at) t g = g
   has_run env (PatternRefused pattern) t g = g
 

@@ -132,7 +132,7 @@ module _ {P : TreeValue → Type 0} (k : Lasts P) where
 
   has_commands : (env : Env) (found : Targets) (cs : List Command) (o : Outcome) → HasLast P o.tree → HasLast P (commands_done env found cs o).tree
   has_commands env found [] o g = g
-  has_commands env found (c ∷ cs) o g = has_commands env found cs (command_done env found c o) (has_course env (course found c o.tree) c o.tree g)
+  has_commands env found (c ∷ cs) o g = has_commands env found cs (command_done env found c o) (has_course env (course env found c o.tree) c o.tree g)
 
   has_groups : (env : Env) (subject : Option ConId) (gs : List Group) (o : Outcome) → HasLast P o.tree → HasLast P (groups_done env subject gs o).tree
   has_groups env subject [] o g = g
@@ -140,7 +140,7 @@ module _ {P : TreeValue → Type 0} (k : Lasts P) where
 
   -- what a text leaves of a sound tree that has the property has it
   pub has_outcome : (env : Env) (verdict : Verdict) (subject : Option ConId) (t : TreeValue) → HasLast P t → HasLast P (outcome env verdict subject t).tree
-  has_outcome env verdict subject t g = has_groups env subject (groups_of verdict) (record { tree = t; replies = []; exit = false; kills = [] }) g
+  has_outcome env verdict subject t g = has_groups env subject (groups_of verdict) (record { tree = t; replies = []; mode = None; exit = false; kills = [] }) g
 
   pub texts_last : (env : Env) (verdict : Verdict) (subject : Option ConId) (t : TreeValue) → IsSound t → P t → P (outcome env verdict subject t).tree
   texts_last env verdict subject t s p = (has_outcome env verdict subject t (record { sound = s; held = p })).held

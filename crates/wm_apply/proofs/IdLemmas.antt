@@ -239,7 +239,7 @@ ids_course env whole command t =
 ids_commands : (env : Env) (found : Targets) (cs : List Command) (o : Outcome) → IdsRise o.tree (commands_done env found cs o).tree
 ids_commands env found [] o = ids_refl o.tree
 ids_commands env found (c ∷ cs) o =
-    ids_trans o.tree (command_done env found c o).tree (commands_done env found (c ∷ cs) o).tree (ids_course env (course found c o.tree) c o.tree) (ids_commands env found cs (command_done env found c o))
+    ids_trans o.tree (command_done env found c o).tree (commands_done env found (c ∷ cs) o).tree (ids_course env (course env found c o.tree) c o.tree) (ids_commands env found cs (command_done env found c o))
 
 ids_groups : (env : Env) (subject : Option ConId) (gs : List Group) (o : Outcome) → IdsRise o.tree (groups_done env subject gs o).tree
 ids_groups env subject [] o = ids_refl o.tree
@@ -247,7 +247,7 @@ ids_groups env subject (g ∷ gs) o =
     ids_trans o.tree (group_done env subject g o).tree (groups_done env subject (g ∷ gs) o).tree (ids_commands env (targets g.criteria subject o.tree) g.commands o) (ids_groups env subject gs (group_done env subject g o))
 
 pub ids_outcome : (env : Env) (verdict : Verdict) (subject : Option ConId) (t : TreeValue) → IdsRise t (outcome env verdict subject t).tree
-ids_outcome env verdict subject t = ids_groups env subject (groups_of verdict) (record { tree = t; replies = []; exit = false; kills = [] })
+ids_outcome env verdict subject t = ids_groups env subject (groups_of verdict) (record { tree = t; replies = []; mode = None; exit = false; kills = [] })
 
 -- a tree that a text leaves
 pub ids_left : (env : Env) (verdict : Verdict) (subject : Option ConId) (t new : TreeValue) → new ≡ (outcome env verdict subject t).tree → IdsRise t new

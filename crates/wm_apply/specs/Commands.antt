@@ -1,5 +1,7 @@
 -- What one command of a group does, and its reply.
-use Rattle.std.specs.Prelude.{Bool, true, false, not, ◌&&◌, ◌==◌, if◌then◌else◌, nat_le, List, [], ◌∷◌, length, filter}
+use Rattle.std.specs.Prelude.{ℕ, Bool, true, false, not, ◌&&◌, ◌||◌, ◌==◌, if◌then◌else◌, nat_le, List, [], ◌∷◌, length, filter, Option, None, Some, codes}
+use Rattle.std.specs.List.{list_any}
+use Rattle.std.specs.Str.{bytes_eq}
 use Rattle.std.specs.Option.{option_map}
 use Rattle.wm_base.specs.declared.errors.ErrorText.{ErrorText}
 use Rattle.wm_base.specs.declared.errors.ErrorText.TheVariants as errors
@@ -58,6 +60,7 @@ is_built (commands.Rename was name) = true
 is_built commands.Nop = true
 is_built commands.Idle = true
 is_built commands.Exit = true
+is_built (commands.Mode mode) = true
 is_built other = false
 
 -- the command changes no tree, runs once, whatever the criteria, and has no subject
@@ -65,6 +68,7 @@ abbrev pub runs_once : Command → Bool
 runs_once commands.Nop = true
 runs_once commands.Idle = true
 runs_once commands.Exit = true
+runs_once (commands.Mode mode) = true
 runs_once other = false
 
 -- the command runs once on the tree as a whole, whatever the criteria, and has no subject
@@ -80,6 +84,22 @@ is_mark other = false
 abbrev pub is_exit : Command → Bool
 is_exit commands.Exit = true
 is_exit other = false
+
+-- ---- modes
+
+-- a mode that can be set: `default`, or one of the plan
+abbrev pub is_mode : Env → List ℕ → Bool
+is_mode env mode = bytes_eq mode (codes "default") || list_any (bytes_eq mode) env.modes
+
+-- the command names a mode that cannot be set
+abbrev pub is_unknown_mode : Env → Command → Bool
+is_unknown_mode env (commands.Mode mode) = not (is_mode env mode)
+is_unknown_mode env other = false
+
+-- the mode that the command sets, if any
+abbrev pub set_mode : Env → Command → Option (List ℕ)
+set_mode env (commands.Mode mode) = if is_mode env mode then Some mode else None
+set_mode env other = None
 
 -- ---- on what a command runs
 
@@ -114,9 +134,10 @@ targets_course (Handed c) command t = on how.Handed (subject c t ∷ [])
 targets_course Focused command t = on how.Focused (focused t ∷ [])
 
 -- what the command runs on, or why it does not
-abbrev pub course : Targets → Command → TreeValue → Course
-course targets command t =
+abbrev pub course : Env → Targets → Command → TreeValue → Course
+course env targets command t =
     if not (is_built command) then refused errors.NotBuilt
+    else if is_unknown_mode env command then refused errors.NoMode
     else if runs_once command then on how.Focused []
     else if is_whole command then whole
     else targets_course targets command t
@@ -133,11 +154,11 @@ course_reply env whole command t = reply_of (option_map error_of (whole_refusal 
 
 -- the tree that the command leaves
 abbrev pub command_tree : Env → Targets → Command → TreeValue → TreeValue
-command_tree env targets command t = course_tree env (course targets command t) command t
+command_tree env targets command t = course_tree env (course env targets command t) command t
 
 -- the reply to the command
 abbrev pub command_reply : Env → Targets → Command → TreeValue → CommandReply
-command_reply env targets command t = course_reply env (course targets command t) command t
+command_reply env targets command t = course_reply env (course env targets command t) command t
 
 abbrev pub kills_on : Targets → TreeValue → List ConId
 kills_on (Matched cs) t = asked_each cs t

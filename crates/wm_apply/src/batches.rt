@@ -1,5 +1,5 @@
 //! The groups of a text, one after another.
-ghost use Rattle.std.specs.Prelude.{◌≡◌, None, IfOk, IsTrue, OnOk, OnErr};
+ghost use Rattle.std.specs.Prelude.{◌≡◌, IfOk, IsTrue, OnOk, OnErr};
 ghost use Rattle.wm_apply.specs.Batches.{Outcome, command_done, commands_done, group_done, groups_done, groups_of, outcome, targets};
 ghost use Rattle.wm_criteria.specs.Patterns.{keys_of};
 ghost use Rattle.wm_criteria.specs.Prepared.{is_built};
@@ -9,10 +9,11 @@ ghost use Rattle.wm_tree.specs.Sound.{IsSound};
 
 use crate::applied::{Applied, CommandReply};
 use crate::commands::{gather_kills, is_exit, run_command};
+use crate::modes::{mode_set, renew};
 use crate::targets::Targets;
 use std::alloc::Global;
 use std::marker::Model;
-use wm_base::{ConId, List, NoMemory};
+use wm_base::{ConId, List, NoMemory, Text};
 use wm_criteria::{Prepared, Verdict, matching};
 use wm_language::{Command, Group};
 use wm_layouts::Env;
@@ -23,6 +24,7 @@ use wm_tree::Tree;
 struct Running {
     tree: Tree,
     replies: Vec<CommandReply>,
+    mode: Option<Text>,
     exit: bool,
     kills: Vec<ConId>,
 }
@@ -35,7 +37,7 @@ impl Model for Running {
 
     ghost coded = { outcome_code };
 
-    ghost view = { λ r. record { tree = r.tree; replies = r.replies.items; exit = r.exit; kills = r.kills.items } };
+    ghost view = { λ r. record { tree = r.tree; replies = r.replies.items; mode = r.mode; exit = r.exit; kills = r.kills.items } };
 }
 
 impl Running {
@@ -54,6 +56,7 @@ impl Running {
         gather_kills(&self.tree, targets, command, &mut self.kills)?;
         let reply = run_command(alloc, &mut self.tree, env, targets, command)?;
         self.replies.push(reply)?;
+        renew(&mut self.mode, mode_set(env, command)?);
         self.exit = self.exit || is_exit(command);
         Ok(())
     }
@@ -145,14 +148,14 @@ pub fn run(
     ensures replies { IfOk result (λ r. r.1.replies ≡ (outcome env.now p.now.verdict subject t.now).replies) }
     ensures exit { IfOk result (λ r. r.1.exit ≡ (outcome env.now p.now.verdict subject t.now).exit) }
     ensures kills { IfOk result (λ r. r.1.kills ≡ (outcome env.now p.now.verdict subject t.now).kills) }
-    ensures mode { IfOk result (λ r. r.1.mode ≡ None) }
+    ensures mode { IfOk result (λ r. r.1.mode ≡ (outcome env.now p.now.verdict subject t.now).mode) }
     ensures sound { IfOk result (λ r. IsSound r.0) }
     ensures ids { IfOk result (λ r. IdsRise t.now r.0) }
 {
     let ran = run_groups(alloc, t, env, p, subject)?;
     let applied = Applied {
         replies: List::of(ran.replies),
-        mode: None,
+        mode: ran.mode,
         exit: ran.exit,
         kills: List::of(ran.kills),
     };
@@ -175,6 +178,7 @@ fn run_groups(
     let mut ran = Running {
         tree: t.copy()?,
         replies: Vec::new(alloc),
+        mode: None,
         exit: false,
         kills: Vec::new(alloc),
     };
@@ -198,7 +202,7 @@ pub fn apply(
     ensures replies { IfOk result (λ a. a.replies ≡ (outcome env.now p.now.verdict subject t.old).replies) }
     ensures exit { IfOk result (λ a. a.exit ≡ (outcome env.now p.now.verdict subject t.old).exit) }
     ensures kills { IfOk result (λ a. a.kills ≡ (outcome env.now p.now.verdict subject t.old).kills) }
-    ensures mode { IfOk result (λ a. a.mode ≡ None) }
+    ensures mode { IfOk result (λ a. a.mode ≡ (outcome env.now p.now.verdict subject t.old).mode) }
     ensures err { OnErr result (t.new ≡ t.old) }
     ensures sound { IsSound t.new }
     ensures ids { OnOk result (IdsRise t.old t.new) }

@@ -6,6 +6,7 @@ ghost use Rattle.wm_tree.specs.Sound.{IsSound};
 
 use crate::applied::CommandReply;
 use crate::kills::{ask, ask_each, is_kill};
+use crate::modes::is_unknown_mode;
 use crate::rows::{How, run_whole};
 use crate::subjects::{run_each, text_of};
 use crate::targets::Targets;
@@ -17,7 +18,7 @@ use wm_shared::is_subject;
 use wm_tree::Tree;
 
 /// Whether the command is built.
-fn is_built(command: &Command) -> bool
+pub fn is_built(command: &Command) -> bool
     ensures { result ≡ is_built command.now }
 {
     match command {
@@ -33,16 +34,19 @@ fn is_built(command: &Command) -> bool
         Command::Resize { .. } | Command::ResizeSet(..) | Command::Gaps { .. } => true,
         Command::SetBorder(_) | Command::CycleBorder | Command::TitleFormat(_) => true,
         Command::Workspace(_) | Command::Rename(..) | Command::Kill => true,
-        Command::Nop | Command::Idle | Command::Exit => true,
+        Command::Nop | Command::Idle | Command::Exit | Command::Mode(_) => true,
         _ => false,
     }
 }
 
 /// Whether the command changes no tree, runs once, whatever the criteria, and has no subject.
-fn runs_once(command: &Command) -> bool
+pub fn runs_once(command: &Command) -> bool
     ensures { result ≡ runs_once command.now }
 {
-    matches!(command, Command::Nop | Command::Idle | Command::Exit)
+    matches!(
+        command,
+        Command::Nop | Command::Idle | Command::Exit | Command::Mode(_)
+    )
 }
 
 /// Whether the command runs once on the tree as a whole, whatever the criteria, and has no subject.
@@ -102,6 +106,9 @@ pub fn run_command(
 {
     if !is_built(command) {
         return Ok(CommandReply::Error(ErrorText::NotBuilt));
+    }
+    if is_unknown_mode(env, command) {
+        return Ok(CommandReply::Error(ErrorText::NoMode));
     }
     if runs_once(command) {
         return Ok(CommandReply::Done);

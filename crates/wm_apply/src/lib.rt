@@ -6,10 +6,13 @@ mod batches;
 mod commands;
 mod floats;
 mod kills;
+mod modes;
 mod outputs;
+mod quiet;
 mod rows;
 mod subjects;
 mod targets;
 
 pub use applied::{Applied, CommandReply};
 pub use batches::{apply, run};
+pub use quiet::{is_quiet, run_quiet};

@@ -46,7 +46,10 @@ pub(crate) fn bare_copy(alloc: Global, step: &Step) -> Result<Step, NoMemory>
             name: name.clone()?,
         }),
         Step::Reserve { name, edges } => reserve_copy(name, *edges),
-        Step::Key { .. } | Step::Tick { .. } => unreachable!(),
+        Step::Tick { payload } => Ok(Step::Tick {
+            payload: payload.clone()?,
+        }),
+        Step::Key { .. } => unreachable!(),
     }
 }
 

@@ -19,7 +19,10 @@ use Rattle.wm_txn.specs.Schedule.{Transaction, differs, first_when, last_parts, 
 use Rattle.wm_txn.proofs.BeginLemmas.{beginning as begun_by}
 use Rattle.wm_txn.proofs.LastingLemmas.{done_past}
 use Rattle.wm_core.specs.Act.{Act, Run, Map, Close, Retitle, Urgent, Gone, OutputAdd, OutputRemove, Reserve, Key, Tick, Ack, Give, Deadline}
-use Rattle.wm_core.specs.Effect.{Effect, ack_said, done_or_refused, effect, has_no_pixels, limit_of, map_effect, refused, run_effect, telling, window_answer}
+use Rattle.wm_apply.specs.Batches.{outcome}
+use Rattle.wm_apply.specs.Quiet.{is_quiet}
+use Rattle.wm_apply.proofs.QuietLemmas.{quiet_outcome}
+use Rattle.wm_core.specs.Effect.{Effect, ack_said, done_or_refused, effect, has_no_pixels, idled, limit_of, map_effect, ran, refused, run_effect, telling, window_answer}
 use Rattle.wm_core.specs.History.{Entry, Start, effect_after, first, accepted_of, tree}
 use Rattle.wm_layouts.specs.declared.plan.Env.{Env}
 use Rattle.wm_core.specs.Outputs.{add_answer, added, remove_answer, removed, reserve_answer, reserved}
@@ -63,7 +66,11 @@ done_parts answers.NoTarget new t = refl
 done_parts answers.BadRect new t = refl
 
 run_parts : (env : Env) (verdict : Verdict) (t : TreeValue) → TellsParts t (run_effect env verdict t)
-run_parts env (Ready batch) t = refl
+run_parts env (Ready batch) t = by (is_quiet batch.groups) refl
+  where
+    by : (b : Bool) → is_quiet batch.groups ≡ b → TellsParts t (cond b (idled (outcome env (Ready batch) None t)) (ran t (outcome env (Ready batch) None t)))
+    by true quiet = ap arranged (sym (quiet_outcome env batch None t quiet))
+    by false quiet = refl
 run_parts env (Bad at) t = refl
 run_parts env (PatternRefused pattern) t = refl
 

@@ -21,7 +21,7 @@ use Rattle.wm_txn.proofs.StandingLemmas.{still_stands}
 use Rattle.wm_opens.specs.Opens.{is_window_of, window_at, windows_at}
 use Rattle.wm_core.specs.DeskValue.{DeskValue, Follows, Stands, StandsFrom, judge_of, kill_after, kill_in, may_come}
 use Rattle.wm_core.specs.Frame.{quad_of, quads, what_of}
-use Rattle.wm_core.specs.Effect.{Effect, Judge, changing, closed, rearranged, refused, telling}
+use Rattle.wm_core.specs.Effect.{Effect, Judge, changing, closed, mode_after, passing, rearranged, telling}
 use Rattle.wm_core.specs.History.{Entry, Start, answer, done_by, effect_after, entries, first, judged, kill_of, opening_of, tree}
 use Rattle.wm_core.proofs.ContentLemmas.{content_held, contents_held}
 use Rattle.wm_core.proofs.FollowLemmas.{closed_are, comes, opens}
@@ -95,12 +95,13 @@ module _ (d : DeskValue) (start : Start) (history : List Entry) (s : StandsFrom 
       open_there : (v : ConId) → is_open o v (entries start (entry ∷ history)) ≡ is_window_of e.tree v
       open_there v = subst (λ z. is_open o v z ≡ is_window_of e.tree v) entries_there (ap (open_after e.told v) (s.open_is v) ∙ same_open v)
 
-      pub stands_next : StandsFrom start (record { plan = d.plan; steps = d.steps + 1; tree = e.tree; txn = txn; stopped = d.stopped || e.stops; kills = kills }) (entry ∷ history)
+      pub stands_next : StandsFrom start (record { plan = d.plan; steps = d.steps + 1; tree = e.tree; txn = txn; mode = mode_after e.mode d.mode; stopped = d.stopped || e.stops; kills = kills }) (entry ∷ history)
       stands_next = record {
         env_is = s.env_is;
         counted = omega (arith, s.counted);
         tree_is = tree_there;
         in_step = (record { sound = subst IsSound tree_there sound_next; open_is = λ v. open_there v ∙ ap (λ t. is_window_of t v) tree_there }, s.in_step);
+        mode_is = ap₂ mode_after (ap (λ (e : Effect). e.mode) there) s.mode_is;
         stopped_is = ap₂ (λ a b. a || b) s.stopped_is (ap (λ (e : Effect). e.stops) there);
         kills_are = kill_there;
         commits = subst (λ z. transactions.Stands o z txn) entries_there stands;
@@ -111,16 +112,18 @@ module _ (d : DeskValue) (start : Start) (history : List Entry) (s : StandsFrom 
   -- a step that tells the transactions something, and leaves the tree
   pub stands_told : (entry : Entry) (told : commits.Entry) (said : Judge → Answer) (txn : TxnValue) → done_by d.plan.env d.tree entry ≡ telling told said d.tree
       → ((v : ConId) (b : Bool) → open_after told v b ≡ b) → ((v : ConId) → maps v told ≡ false) → transactions.Stands o (told ∷ h) txn
-      → StandsFrom start (record { plan = d.plan; steps = d.steps + 1; tree = d.tree; txn = txn; stopped = d.stopped; kills = d.kills }) (entry ∷ history)
+      → StandsFrom start (record { plan = d.plan; steps = d.steps + 1; tree = d.tree; txn = txn; mode = d.mode; stopped = d.stopped; kills = d.kills }) (entry ∷ history)
   stands_told entry told said txn is same_open new stands =
-      subst (λ b. StandsFrom start (record { plan = d.plan; steps = d.steps + 1; tree = d.tree; txn = txn; stopped = b; kills = d.kills }) (entry ∷ history)) (or_false d.stopped)
+      subst (λ b. StandsFrom start (record { plan = d.plan; steps = d.steps + 1; tree = d.tree; txn = txn; mode = d.mode; stopped = b; kills = d.kills }) (entry ∷ history)) (or_false d.stopped)
       (stands_next entry (telling told said d.tree) txn d.kills is (λ v may. refl) (λ v may. may) stands (λ v. same_open v (is_window_of d.tree v)) (λ v above. new v) (omega arith)
       (subst IsSound (sym s.tree_is) (last_sound start history s.in_step)))
 
-  -- a step that is refused is counted
-  pub stands_counted : (entry : Entry) (said : Answer) → done_by d.plan.env d.tree entry ≡ refused said d.tree
-      → StandsFrom start (record { plan = d.plan; steps = d.steps + 1; tree = d.tree; txn = d.txn; stopped = d.stopped; kills = d.kills }) (entry ∷ history)
-  stands_counted entry said is = stands_told entry commits.Still (λ judge. said) d.txn is (λ v b. refl) (λ v. refl) (still_stands o h d.txn s.commits)
+  -- a step that leaves the tree, and tells the transactions nothing, is counted
+  pub stands_passed : (entry : Entry) (said : Answer) (set : Option (List ℕ)) (stops : Bool) (tick : Option (List ℕ)) → done_by d.plan.env d.tree entry ≡ passing said d.tree set stops tick
+      → StandsFrom start (record { plan = d.plan; steps = d.steps + 1; tree = d.tree; txn = d.txn; mode = mode_after set d.mode; stopped = d.stopped || stops; kills = d.kills }) (entry ∷ history)
+  stands_passed entry said set stops tick is =
+      stands_next entry (passing said d.tree set stops tick) d.txn d.kills is (λ v may. refl) (λ v may. may) (still_stands o h d.txn s.commits) (λ v. refl) (λ v above. refl) (omega arith)
+      (subst IsSound (sym s.tree_is) (last_sound start history s.in_step))
 
   -- ---- a step that leaves a tree
 
@@ -169,11 +172,11 @@ module _ (d : DeskValue) (start : Start) (history : List Entry) (s : StandsFrom 
             rw (not_fresh v above (is_fresh v fresh) refl, not_yet v (omega (arith, f.next))) refl
         by false false there late may = cc
 
-    pub stands_left : (entry : Entry) (said : Answer) (txn : TxnValue) (stops : Bool) (ids : List ConId) (kills : List (ℕ × ℕ)) → done_by d.plan.env d.tree entry ≡ changing said d.tree t fresh stops ids
+    pub stands_left : (entry : Entry) (said : Answer) (txn : TxnValue) (set : Option (List ℕ)) (stops : Bool) (ids : List ConId) (kills : List (ℕ × ℕ)) → done_by d.plan.env d.tree entry ≡ changing said d.tree t fresh set stops ids
         → ((v : ConId) → may_come t v ≡ true → kill_in kills v ≡ kill_after ids (d.steps + 1) v (kill_in d.kills v)) → transactions.Stands o (rearranged d.tree t fresh ∷ h) txn
-        → StandsFrom start (record { plan = d.plan; steps = d.steps + 1; tree = t; txn = txn; stopped = d.stopped || stops; kills = kills }) (entry ∷ history)
-    stands_left entry said txn stops ids kills is noted stands =
-        stands_next entry (changing said d.tree t fresh stops ids) txn kills is noted (λ v may. came v (is_window_of t v) (leb t.next_id v.0) refl refl may) stands (opens d.tree t fresh sound sound_new f) (λ v above. not_fresh v above (is_fresh v fresh) refl) f.next sound_new
+        → StandsFrom start (record { plan = d.plan; steps = d.steps + 1; tree = t; txn = txn; mode = mode_after set d.mode; stopped = d.stopped || stops; kills = kills }) (entry ∷ history)
+    stands_left entry said txn set stops ids kills is noted stands =
+        stands_next entry (changing said d.tree t fresh set stops ids) txn kills is noted (λ v may. came v (is_window_of t v) (leb t.next_id v.0) refl refl may) stands (opens d.tree t fresh sound sound_new f) (λ v above. not_fresh v above (is_fresh v fresh) refl) f.next sound_new
 
   -- ---- what is asked of windows
 
@@ -218,13 +221,14 @@ pub opens_no_window : (plan : Plan) (t : TreeValue) → t ≡ (opening_of plan).
 opens_no_window plan t opened sound v = sym (not_window t v sound (ap (windows_at v) opened ∙ opens_empty plan v) (is_window_of t v) refl)
 
 -- a desk at the opening of its plan stands for the history without entries
-pub stands_start : (plan : Plan) (t : TreeValue) (txn : TxnValue) (kills : List (ℕ × ℕ)) → t ≡ (opening_of plan).opened → IsSound t → kills ≡ [] → transactions.Stands (first (opening_of plan)) [] txn
-    → Stands (record { plan = plan; steps = 0; tree = t; txn = txn; stopped = false; kills = kills }) []
-stands_start plan t txn kills opened sound none stands = record {
+pub stands_start : (plan : Plan) (t : TreeValue) (txn : TxnValue) (mode : List ℕ) (kills : List (ℕ × ℕ)) → mode ≡ (opening_of plan).mode → t ≡ (opening_of plan).opened → IsSound t → kills ≡ [] → transactions.Stands (first (opening_of plan)) [] txn
+    → Stands (record { plan = plan; steps = 0; tree = t; txn = txn; mode = mode; stopped = false; kills = kills }) []
+stands_start plan t txn mode kills default opened sound none stands = record {
   env_is = refl;
   counted = refl;
   tree_is = opened;
   in_step = record { sound = subst IsSound opened sound; open_is = λ v. sym (opens_no_window plan t opened sound v) ∙ ap (λ z. is_window_of z v) opened };
+  mode_is = default;
   stopped_is = refl;
   kills_are = λ v may. ap (λ m. kill_in m v) none;
   commits = stands;

@@ -10,7 +10,7 @@ use Rattle.wm_spaces.specs.Names.{output_named}
 use Rattle.wm_tree.specs.Outputs.{passed_by_output}
 use Rattle.wm_tree.specs.TreeValue.{TreeValue}
 use Rattle.wm_base.specs.declared.errors.NoMemory.{NoMemory}
-use Rattle.wm_core.specs.DeskValue.{DeskValue, Stands, StandsFrom}
+use Rattle.wm_core.specs.DeskValue.{DeskValue, Stands, StandsFrom, in_mode}
 use Rattle.wm_core.specs.Effect.{done_or_refused, leaving, refused}
 use Rattle.wm_core.specs.History.{Entry, opening_of}
 use Rattle.wm_core.specs.Steps.{Answers, Commits, GoesOn, IsAnswer, IsThere, Takes}
@@ -78,13 +78,13 @@ pub taken : (old new : DeskValue) (said : Answer) (entry : Entry) → Answers ol
 taken old new said entry a = record { there = a.there; answer = a.answer; stands = a.stands; plan = a.plan; count = a.count; err = tt }
 
 -- what is answered after the rest was done
-pub answered_after : (old new : DeskValue) (said : Answer) (entry : Entry) → IsThere old entry said → IsAnswer old entry said → Commits old new (Ok tt) entry → Takes old new (Ok said) entry
-answered_after old new said entry t a c = record { there = t; answer = a; stands = c.stands; plan = c.plan; count = c.count; err = tt }
+pub answered_after : (old new : DeskValue) (set : Option (List ℕ)) (said : Answer) (entry : Entry) → IsThere old entry said → IsAnswer old entry said → Commits old new set (Ok tt) entry → Takes old (in_mode set new) (Ok said) entry
+answered_after old new set said entry t a c = record { there = t; answer = a; stands = c.stands; plan = c.plan; count = c.count; err = tt }
 
 -- after want of memory nothing is answered
-pub none_answered : (old new : DeskValue) (entry : Entry) (r : Result Answer NoMemory) (e f : NoMemory) → IsErrAnd r (λ x. x ≡ f) → Commits old new (Err e) entry → Takes old new r entry
-none_answered old new entry (Ok said) e f is c = absurd is
-none_answered old new entry (Err x) e f is c = record { there = tt; answer = tt; stands = tt; plan = c.plan; count = tt; err = c.err }
+pub none_answered : (old new : DeskValue) (set : Option (List ℕ)) (entry : Entry) (r : Result Answer NoMemory) (e f : NoMemory) → IsErrAnd r (λ x. x ≡ f) → Commits old new set (Err e) entry → Takes old new r entry
+none_answered old new set entry (Ok said) e f is c = absurd is
+none_answered old new set entry (Err x) e f is c = record { there = tt; answer = tt; stands = tt; plan = c.plan; count = tt; err = c.err }
 
 -- a desk that goes on stands for the entry from the opening of its plan
 pub goes_on : (old new : DeskValue) (entry : Entry) → GoesOn old new entry → new.plan ≡ old.plan → (history : List Entry) → Stands old history → Stands new (entry ∷ history)

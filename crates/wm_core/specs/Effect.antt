@@ -22,6 +22,7 @@ use Rattle.wm_core.specs.Windows.{is_window, without_owned, retitled, with_urgen
 use Rattle.wm_apply.specs.declared.applied.CommandReply.{CommandReply}
 use Rattle.wm_apply.specs.declared.applied.CommandReply.TheVariants as applied
 use Rattle.wm_apply.specs.Batches.{Outcome, outcome}
+use Rattle.wm_apply.specs.Quiet.{is_quiet}
 use Rattle.wm_opens.specs.Opens.{is_window_of}
 use Rattle.wm_txn.specs.History as commits
 use Rattle.wm_txn.specs.declared.answers.AckRefusal.{AckRefusal}
@@ -41,20 +42,35 @@ pub record Effect : Type 0 where
   pub tree : TreeValue
   -- what it tells the transactions
   pub told : commits.Entry
+  -- the mode that it sets, if any
+  pub mode : Option (List ℕ)
   -- whether it stops the desk
   pub stops : Bool
   -- the windows that it asks to close
   pub closes : List ConId
+  -- the tick that it tells, if any
+  pub tick : Option (List ℕ)
+
+-- the mode after a step that set this one, if any
+abbrev pub mode_after : Option (List ℕ) → List ℕ → List ℕ
+mode_after None before = before
+mode_after (Some mode) before = mode
 
 -- ---- what an effect is made of
 
 -- a step that tells the transactions something, and leaves the tree
 abbrev pub telling : commits.Entry → (Judge → Answer) → TreeValue → Effect
-telling told answer t = record { answer = answer; tree = t; told = told; stops = false; closes = [] }
+telling told answer t = record { answer = answer; tree = t; told = told; mode = None; stops = false; closes = []; tick = None }
+
+-- a step that leaves the tree, and tells the transactions nothing: it sets this mode, if any, stops the desk or not, and
+-- tells this tick, if any
+abbrev pub passing : Answer → TreeValue → Option (List ℕ) → Bool → Option (List ℕ) → Effect
+passing answer t set stops tick =
+    record { answer = λ judge. answer; tree = t; told = commits.Still; mode = set; stops = stops; closes = []; tick = tick }
 
 -- a refused step changes nothing, and tells nothing
 abbrev pub refused : Answer → TreeValue → Effect
-refused answer t = telling commits.Still (λ judge. answer) t
+refused answer t = passing answer t None false None
 
 abbrev pub fresh_ids : Option (ConId × Buffer) → List ConId
 fresh_ids None = []
@@ -68,15 +84,15 @@ closed old new fresh = filter (λ v. not (is_window_of new v)) (fresh_ids fresh 
 abbrev pub rearranged : TreeValue → TreeValue → Option (ConId × Buffer) → commits.Entry
 rearranged old new fresh = commits.Arranged (arranged new) fresh (closed old new fresh)
 
--- a step that leaves a new tree, opens this window with its buffer, if any, stops the desk or not, and asks these windows
--- to close
-abbrev pub changing : Answer → TreeValue → TreeValue → Option (ConId × Buffer) → Bool → List ConId → Effect
-changing answer old new fresh stops closes =
-    record { answer = λ judge. answer; tree = new; told = rearranged old new fresh; stops = stops; closes = closes }
+-- a step that leaves a new tree, opens this window with its buffer, if any, sets this mode, if any, stops the desk or not,
+-- and asks these windows to close
+abbrev pub changing : Answer → TreeValue → TreeValue → Option (ConId × Buffer) → Option (List ℕ) → Bool → List ConId → Effect
+changing answer old new fresh set stops closes =
+    record { answer = λ judge. answer; tree = new; told = rearranged old new fresh; mode = set; stops = stops; closes = closes; tick = None }
 
 -- a step that leaves a new tree, and opens this window with its buffer, if any
 abbrev pub leaving : Answer → TreeValue → TreeValue → Option (ConId × Buffer) → Effect
-leaving answer old new fresh = changing answer old new fresh false []
+leaving answer old new fresh = changing answer old new fresh None false []
 
 -- a step that is done leaves the new tree; with another answer it is refused
 abbrev pub done_or_refused : Answer → TreeValue → TreeValue → Effect
@@ -91,11 +107,15 @@ reply_to (applied.Error text) = reply.Error text
 
 -- the commands of a text were run
 abbrev pub ran : TreeValue → Outcome → Effect
-ran old o = changing (Replies (map reply_to o.replies)) old o.tree None o.exit o.kills
+ran old o = changing (Replies (map reply_to o.replies)) old o.tree None o.mode o.exit o.kills
+
+-- the commands of a text that leaves the tree alone were run: there is nothing to arrange
+abbrev pub idled : Outcome → Effect
+idled o = passing (Replies (map reply_to o.replies)) o.tree o.mode o.exit None
 
 -- a text with this verdict: its commands run, or a reply says why they do not
 abbrev pub run_effect : Env → Verdict → TreeValue → Effect
-run_effect env (Ready batch) t = ran t (outcome env (Ready batch) None t)
+run_effect env (Ready batch) t = if is_quiet batch.groups then idled (outcome env (Ready batch) None t) else ran t (outcome env (Ready batch) None t)
 run_effect env (Bad at) t = refused (Replies (reply.Parse at ∷ [])) t
 run_effect env (PatternRefused pattern) t = refused (Replies (reply.Pattern pattern ∷ [])) t
 
@@ -131,8 +151,8 @@ ack_said (Err (ack.BadSerial asked last)) = BadSerial asked last
 
 -- ---- each step
 
--- what a step of this caller does, where commands find this beside the tree. Keys and ticks are not taken yet, nor is a text
--- that a map brings
+-- what a step of this caller does, where commands find this beside the tree. Keys are not taken yet, nor is a text that a
+-- map brings
 abbrev pub effect : Env → TreeValue → ℕ → Act → Effect
 effect env t who (Run text) = run_effect env text.verdict t
 effect env t who (Map props buffer text) = if has_no_pixels buffer.size then refused Empty t else map_effect t who props buffer (limit_of t)
@@ -144,7 +164,7 @@ effect env t who (OutputAdd plan) = done_or_refused (add_answer plan t) t (added
 effect env t who (OutputRemove name) = done_or_refused (remove_answer name t) t (removed name t)
 effect env t who (Reserve name edges) = done_or_refused (reserve_answer name t) t (reserved name edges t)
 effect env t who (Key chord choices) = refused Done t
-effect env t who (Tick payload) = refused Done t
+effect env t who (Tick payload) = passing Done t None false (Some payload)
 effect env t who (Ack v serial) = if is_window t who v then telling (commits.Acked v serial) (λ judge. ack_said (judge v serial)) t else refused NoView t
 effect env t who (Give v buffer) =
     if is_window t who v then (if has_no_pixels buffer.size then refused Empty t else telling (commits.Gave v buffer) (λ judge. Done) t) else refused NoView t

@@ -1,5 +1,5 @@
 -- The history of a desk: the steps of its callers, the newest first, and what they leave.
-use Rattle.std.specs.Prelude.{ℕ, ◌+◌, ◌||◌, Bool, false, if◌then◌else◌, List, [], ◌∷◌, length, Option, None, Some}
+use Rattle.std.specs.Prelude.{ℕ, ◌+◌, ◌||◌, Bool, false, if◌then◌else◌, List, [], ◌∷◌, length, Option, None, Some, codes}
 use Rattle.std.specs.List.{list_any}
 use Rattle.wm_arrange.specs.Arranged.{arranged}
 use Rattle.wm_base.specs.declared.ids.Buffer.{Buffer}
@@ -10,7 +10,7 @@ use Rattle.wm_layouts.specs.declared.plan.Env.{Env}
 use Rattle.wm_layouts.specs.declared.plan.Plan.{Plan}
 use Rattle.wm_core.specs.declared.step.Answer.{Answer}
 use Rattle.wm_core.specs.Act.{Act}
-use Rattle.wm_core.specs.Effect.{Effect, Judge, effect}
+use Rattle.wm_core.specs.Effect.{Effect, Judge, effect, mode_after}
 use Rattle.wm_txn.specs.Accepted.{ack_answer, accepted}
 use Rattle.wm_txn.specs.History as commits
 
@@ -23,15 +23,16 @@ pub record Entry : Type 0 where
 abbrev pub History : Type 0
 History = List Entry
 
--- with what a desk starts: its tree, what commands find beside it, and its windows, each with the buffer that it has
+-- with what a desk starts: its tree, what commands find beside it, the mode, and its windows, each with the buffer that it has
 pub record Start : Type 0 where
   pub opened : TreeValue
   pub env : Env
+  pub mode : List ℕ
   pub windows : List (ConId × Buffer)
 
--- the opening tree of a plan, which has no windows, and its homes
+-- the opening tree of a plan, which has no windows, what commands find beside it, and the mode `default`
 abbrev pub opening_of : Plan → Start
-opening_of plan = record { opened = opening plan.outputs plan.border plan.inner plan.outer; env = plan.env; windows = [] }
+opening_of plan = record { opened = opening plan.outputs plan.border plan.inner plan.outer; env = plan.env; mode = codes "default"; windows = [] }
 
 -- what an entry does to a tree
 abbrev pub done_by : Env → TreeValue → Entry → Effect
@@ -47,6 +48,11 @@ tree start (entry ∷ history) = (done_by start.env (tree start history) entry).
 -- what an entry does after a history
 abbrev pub effect_after : Start → List Entry → Entry → Effect
 effect_after start history entry = done_by start.env (tree start history) entry
+
+-- the mode after a history: the last one that was set
+abbrev pub mode : Start → List Entry → List ℕ
+mode start [] = start.mode
+mode start (entry ∷ history) = mode_after (effect_after start history entry).mode (mode start history)
 
 -- a command said that the desk is to stop
 abbrev pub stopped : Start → List Entry → Bool

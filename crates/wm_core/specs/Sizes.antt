@@ -1,13 +1,13 @@
 -- What a caller owes of a step.
-use Rattle.std.specs.Prelude.{◌≡◌, IsTrue, None}
+use Rattle.std.specs.Prelude.{◌≡◌, ◌≤◌, IsTrue, None, length}
 use Rattle.wm_criteria.specs.Prepared.{is_built}
 use Rattle.wm_layouts.specs.Plan.{IsFitEdges}
 use Rattle.wm_layouts.specs.Sizes.{IsFitSize}
 use Rattle.wm_core.specs.declared.step.Step.{Step}
-use Rattle.wm_core.specs.declared.step.Step.TheVariants.{Run, Map, Close, Retitle, Urgent, Gone, OutputAdd, OutputRemove, Reserve, Client}
+use Rattle.wm_core.specs.declared.step.Step.TheVariants.{Run, Map, Close, Retitle, Urgent, Gone, OutputAdd, OutputRemove, Reserve, Client, Tick}
 
--- a text's patterns are built, and reserved edges are within their limits; the rectangle of an output may be any. Keys and
--- ticks are not taken yet
+-- a text's patterns are built, reserved edges are within their limits, and a tick has at most 4,096 bytes; the rectangle of
+-- an output may be any. Keys are not taken yet
 abbrev pub IsFitStep : Step → Type 0
 IsFitStep (Run prepared) = IsTrue (is_built prepared)
 IsFitStep (Map props buffer then) = IsFitSize buffer.size × (then ≡ None)
@@ -19,4 +19,5 @@ IsFitStep (OutputAdd plan) = IsFitEdges plan.reserved
 IsFitStep (OutputRemove name) = Unit {0}
 IsFitStep (Reserve name edges) = IsFitEdges edges
 IsFitStep (Client step) = Unit {0}
+IsFitStep (Tick payload) = length payload ≤ 4096
 IsFitStep other = ⊥

@@ -1,11 +1,11 @@
 //! What a step leaves is taken: the tree, its arrangement, and what goes with its windows.
-ghost use Rattle.std.specs.Prelude.{◌≡◌, ◌+◌, ◌<◌, ◌^◌, ◌||◌, None, IfOk};
+ghost use Rattle.std.specs.Prelude.{◌≡◌, ℕ, ◌+◌, ◌<◌, ◌^◌, ◌||◌, List, None, Option, IfOk};
 ghost use Rattle.std.specs.Option.{option_map};
 ghost use Rattle.wm_arrange.specs.Arranged.{arranged};
 ghost use Rattle.wm_base.specs.declared.ids.ConId.{ConId};
 ghost use Rattle.wm_core.specs.ByWindow.{left_of, new_or};
 ghost use Rattle.wm_core.specs.DeskValue.{Follows, kill_after, kill_in};
-ghost use Rattle.wm_core.specs.Effect.{changing, closed, leaving, refused};
+ghost use Rattle.wm_core.specs.Effect.{changing, closed, leaving, passing, refused};
 ghost use Rattle.wm_core.specs.History.{done_by, Entry};
 ghost use Rattle.wm_core.specs.Steps.{Answers, Commits, MayCome, Takes};
 ghost use Rattle.wm_core.specs.Windows.{window_count};
@@ -18,12 +18,13 @@ use crate::by_window::{forget, renew};
 use crate::counting::{closed, window_count};
 use crate::desk::Desk;
 use crate::kills::noted;
+use crate::modes::set_mode;
 use crate::owners::{disown, forget_owners, own};
 use crate::step::Answer;
 use std::collections::BTreeMap;
 use std::mem;
 use wm_arrange::{Arrangement, arrange};
-use wm_base::{Buffer, ConId, NoMemory};
+use wm_base::{Buffer, ConId, NoMemory, Text};
 use wm_tree::Tree;
 
 impl Desk {
@@ -32,7 +33,17 @@ impl Desk {
         requires few { self.old.steps < 2 ^ 48 }
         ensures { (entry : Entry) → done_by self.old.plan.env self.old.tree entry ≡ refused answer self.old.tree → Answers self.old self.new result entry }
     {
+        self.pass(answer, None, false)
+    }
+
+    /// Counts a step that leaves the tree, sets this mode, if any, and stops the desk or not.
+    pub(crate) fn pass(&mut self, answer: Answer, set: Option<Text>, stops: bool) -> Answer
+        requires few { self.old.steps < 2 ^ 48 }
+        ensures { (entry : Entry) (tick : Option (List ℕ)) → done_by self.old.plan.env self.old.tree entry ≡ passing answer self.old.tree set stops tick → Answers self.old self.new result entry }
+    {
         self.steps += 1;
+        set_mode(&mut self.mode, set);
+        self.stopped = either(self.stopped, stops);
         answer
     }
 
@@ -50,7 +61,7 @@ impl Desk {
     }
 
     /// Takes a tree as the one after this step, which opened this window with its buffer, if any, and takes whether the
-    /// step stops the desk, and the windows that it asks to close.
+    /// step stops the desk, and the windows that it asks to close. The mode is still to be set.
     pub(crate) fn commit(
         &mut self,
         tree: Tree,
@@ -59,7 +70,7 @@ impl Desk {
         closes: &[ConId],
     ) -> Result<(), NoMemory>
         requires { MayCome self.old tree opened }
-        ensures { (entry : Entry) (answer : Answer) → done_by self.old.plan.env self.old.tree entry ≡ changing answer self.old.tree tree opened stops closes.now → Commits self.old self.new result entry }
+        ensures { (entry : Entry) (answer : Answer) (set : Option (List ℕ)) → done_by self.old.plan.env self.old.tree entry ≡ changing answer self.old.tree tree opened set stops closes.now → Commits self.old self.new set result entry }
     {
         let mut tree = tree;
         let done = self.exchange(&mut tree, opened, stops, closes);
@@ -76,7 +87,7 @@ impl Desk {
         closes: &[ConId],
     ) -> Result<(), NoMemory>
         requires { MayCome self.old tree.old opened }
-        ensures { (entry : Entry) (answer : Answer) → done_by self.old.plan.env self.old.tree entry ≡ changing answer self.old.tree tree.old opened stops closes.now → Commits self.old self.new result entry }
+        ensures { (entry : Entry) (answer : Answer) (set : Option (List ℕ)) → done_by self.old.plan.env self.old.tree entry ≡ changing answer self.old.tree tree.old opened set stops closes.now → Commits self.old self.new set result entry }
     {
         let change = self.change_to(tree, opened, closes)?;
         if let Err(error) = own(&mut self.owners, tree, opened) {

@@ -21,6 +21,7 @@ impl Desk {
     {
         let kills = self.kills.clone()?;
         let owners = self.owners.copy()?;
+        let mode = self.mode.clone()?;
         let plan = self.plan.copy(self.alloc)?;
         match self.copy_deep() {
             Ok((tree, txn)) => Ok(Desk {
@@ -29,6 +30,7 @@ impl Desk {
                 steps: self.steps,
                 tree,
                 txn,
+                mode,
                 stopped: self.stopped,
                 kills,
                 owners,

@@ -12,7 +12,7 @@ use crate::step::{Answer, Step};
 use std::alloc::Global;
 use std::collections::BTreeMap;
 use std::marker::Model;
-use wm_base::{List, NoMemory};
+use wm_base::{List, NoMemory, Text};
 use wm_ids::IdMap;
 use wm_layouts::Plan;
 use wm_paint::Frame;
@@ -27,6 +27,7 @@ pub struct Desk {
     pub(crate) steps: u64,
     pub(crate) tree: Tree,
     pub(crate) txn: Txn,
+    pub(crate) mode: Text,
     pub(crate) stopped: bool,
     pub(crate) kills: BTreeMap<u32, u64>,
     /// By the id of each open window, the number of its caller.
@@ -46,7 +47,7 @@ impl Model for Desk {
 
     ghost coded = { desk_code };
 
-    ghost view = { λ d. record { plan = d.plan; steps = d.steps; tree = d.tree; txn = d.txn; stopped = d.stopped; kills = d.kills.entries } };
+    ghost view = { λ d. record { plan = d.plan; steps = d.steps; tree = d.tree; txn = d.txn; mode = d.mode; stopped = d.stopped; kills = d.kills.entries } };
 
     ghost invariant = { λ d. (((last_prefix d.txn ≤ d.steps) × (d.windows ≡ window_count d.tree)) × AreOwners d.owners d.tree) × trees.IsSound d.tree };
 }
@@ -69,7 +70,8 @@ impl Desk {
             Step::OutputAdd { plan } => self.add_output(who, plan),
             Step::OutputRemove { name } => self.remove_output(who, name),
             Step::Reserve { name, edges } => self.reserve(who, name, *edges),
-            Step::Key { .. } | Step::Tick { .. } => unreachable!(),
+            Step::Tick { .. } => Ok(self.pass(Answer::Done, None, false)),
+            Step::Key { .. } => unreachable!(),
         }
     }
 

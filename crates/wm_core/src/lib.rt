@@ -15,6 +15,7 @@ mod kills;
 mod laws;
 mod look;
 mod mapping;
+mod modes;
 mod outputs;
 mod owners;
 mod refusals;

@@ -1,20 +1,24 @@
 //! Running texts of commands.
 ghost use Rattle.wm_apply.specs.Batches.{outcome};
+ghost use Rattle.wm_apply.specs.Quiet.{is_quiet};
+ghost use Rattle.wm_criteria.specs.declared.verdict.Verdict.TheVariants.{Ready};
 ghost use Rattle.wm_core.specs.declared.step.Answer.TheVariants.{Replies};
 ghost use Rattle.wm_criteria.specs.Prepared.{is_built};
 ghost use Rattle.std.specs.Prelude.{◌≡◌, ◌<◌, ◌^◌, [], ◌∷◌, map, None, IsTrue};
 ghost use Rattle.wm_core.specs.Act.{Run, text_of};
-ghost use Rattle.wm_core.specs.Effect.{changing, ran, refused, reply_to};
+ghost use Rattle.wm_core.specs.Effect.{changing, idled, ran, refused, reply_to};
 ghost use Rattle.wm_core.specs.History.{Entry, done_by};
 ghost use Rattle.wm_core.specs.Steps.{MayCome, Takes};
 
 use crate::desk::Desk;
+use crate::modes::set_mode;
 use crate::replies::replies_to;
 use crate::step::Answer;
-use wm_apply::{Applied, run};
+use wm_apply::{Applied, is_quiet, run, run_quiet};
 use wm_base::{List, NoMemory};
 use wm_criteria::{Prepared, Verdict};
 use wm_json::Reply;
+use wm_language::Batch;
 use wm_tree::Tree;
 
 impl Desk {
@@ -25,6 +29,7 @@ impl Desk {
         ensures { Takes self.old self.new result (record { who = who; act = Run (text_of text.now) }) }
     {
         match &text.verdict {
+            Verdict::Ready(batch) if is_quiet(batch) => self.idle(batch),
             Verdict::Ready(_) => self.apply(text),
             Verdict::Bad { at } => self.reply(Reply::Parse(*at)),
             Verdict::PatternRefused { pattern } => self.reply(Reply::Pattern(*pattern)),
@@ -37,20 +42,21 @@ impl Desk {
         requires few { self.old.steps < 2 ^ 48 }
         ensures { (entry : Entry) → done_by self.old.plan.env self.old.tree entry ≡ ran self.old.tree (outcome self.old.plan.env text.now.verdict None self.old.tree) → Takes self.old self.new result entry }
     {
-        let (tree, applied) = run(self.alloc, &self.tree, &self.plan.env, text, None)?;
-        let answer = self.take(tree, &applied);
+        let (tree, mut applied) = run(self.alloc, &self.tree, &self.plan.env, text, None)?;
+        let answer = self.take(tree, &mut applied);
         drop(applied);
         answer
     }
 
     /// Takes the tree that the commands of a text left, with what they did beside.
-    fn take(&mut self, tree: Tree, applied: &Applied) -> Result<Answer, NoMemory>
+    fn take(&mut self, tree: Tree, applied: &mut Applied) -> Result<Answer, NoMemory>
         requires { MayCome self.old tree None }
-        ensures { (entry : Entry) → done_by self.old.plan.env self.old.tree entry ≡ changing (Replies (map reply_to applied.now.replies)) self.old.tree tree None applied.now.exit applied.now.kills → Takes self.old self.new result entry }
+        ensures { (entry : Entry) → done_by self.old.plan.env self.old.tree entry ≡ changing (Replies (map reply_to applied.old.replies)) self.old.tree tree None applied.old.mode applied.old.exit applied.old.kills → Takes self.old self.new result entry }
     {
         match replies_to(self.alloc, applied.replies.items()) {
             Ok(replies) => {
                 self.commit(tree, None, applied.exit, applied.kills.items())?;
+                set_mode(&mut self.mode, applied.mode.take());
                 Ok(Answer::Replies(List::of(replies)))
             }
             Err(_) => {
@@ -58,6 +64,18 @@ impl Desk {
                 Err(NoMemory)
             }
         }
+    }
+
+    /// Runs the commands of a text that leaves the tree alone. Nothing is copied or arranged.
+    fn idle(&mut self, batch: &Batch) -> Result<Answer, NoMemory>
+        requires quiet { IsTrue (is_quiet batch.now.groups) }
+        requires few { self.old.steps < 2 ^ 48 }
+        ensures { (entry : Entry) → done_by self.old.plan.env self.old.tree entry ≡ idled (outcome self.old.plan.env (Ready batch.now) None self.old.tree) → Takes self.old self.new result entry }
+    {
+        let applied = run_quiet(self.alloc, &self.plan.env, batch)?;
+        let replies = replies_to(self.alloc, applied.replies.items())?;
+        let answer = Answer::Replies(List::of(replies));
+        Ok(self.pass(answer, applied.mode, applied.exit))
     }
 
     /// Answers a text that is not run with this reply, and changes nothing.

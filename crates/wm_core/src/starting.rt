@@ -11,10 +11,11 @@ ghost use Rattle.wm_txn.specs.Windows.{HasNoContent};
 
 use crate::counting::window_count;
 use crate::desk::Desk;
+use crate::modes::default_mode;
 use std::alloc::Global;
 use std::collections::BTreeMap;
 use wm_arrange::arrange;
-use wm_base::NoMemory;
+use wm_base::{NoMemory, Text};
 use wm_ids::IdMap;
 use wm_layouts::Plan;
 use wm_tree::Tree;
@@ -28,7 +29,7 @@ impl Desk {
         ensures stands { IfOk result (λ desk. Stands desk []) }
     {
         match opening(alloc, &plan) {
-            Ok((tree, txn)) => {
+            Ok((tree, txn, mode)) => {
                 let windows = window_count(&tree);
                 Ok(Desk {
                     alloc,
@@ -36,6 +37,7 @@ impl Desk {
                     steps: 0,
                     tree,
                     txn,
+                    mode,
                     stopped: false,
                     kills: BTreeMap::new(alloc),
                     owners: IdMap::new(alloc),
@@ -50,18 +52,20 @@ impl Desk {
     }
 }
 
-/// The tree and the transactions at the opening of a plan.
-fn opening(alloc: Global, plan: &Plan) -> Result<(Tree, Txn), NoMemory>
+/// The tree, the transactions and the mode at the opening of a plan.
+fn opening(alloc: Global, plan: &Plan) -> Result<(Tree, Txn, Text), NoMemory>
     requires { IsSound plan.now }
     ensures tree { IfOk result (λ r. r.0 ≡ (opening_of plan.now).opened) }
     ensures sound { IfOk result (λ r. trees.IsSound r.0) }
     ensures stands { IfOk result (λ r. transactions.Stands (first (opening_of plan.now)) [] r.1) }
     ensures prefix { IfOk result (λ r. last_prefix r.1 ≡ 0) }
+    ensures mode { IfOk result (λ r. r.2 ≡ (opening_of plan.now).mode) }
 {
+    let mode = default_mode(alloc)?;
     let outputs = plan.outputs.items();
     let tree = Tree::start(alloc, outputs, plan.border, plan.inner, plan.outer)?;
     match first_of(alloc, &tree) {
-        Ok(txn) => Ok((tree, txn)),
+        Ok(txn) => Ok((tree, txn, mode)),
         Err(error) => {
             drop(tree);
             Err(error)

@@ -272,7 +272,7 @@ kept_course env whole command t =
 kept_commands : (env : Env) (found : Targets) (cs : List Command) (o : Outcome) → Kept o.tree (commands_done env found cs o).tree
 kept_commands env found [] o = kept_refl o.tree
 kept_commands env found (c ∷ cs) o =
-    kept_trans o.tree (command_done env found c o).tree (commands_done env found (c ∷ cs) o).tree (kept_course env (course found c o.tree) c o.tree) (kept_commands env found cs (command_done env found c o))
+    kept_trans o.tree (command_done env found c o).tree (commands_done env found (c ∷ cs) o).tree (kept_course env (course env found c o.tree) c o.tree) (kept_commands env found cs (command_done env found c o))
 
 kept_groups : (env : Env) (subject : Option ConId) (gs : List Group) (o : Outcome) → Kept o.tree (groups_done env subject gs o).tree
 kept_groups env subject [] o = kept_refl o.tree
@@ -280,4 +280,4 @@ kept_groups env subject (g ∷ gs) o =
     kept_trans o.tree (group_done env subject g o).tree (groups_done env subject (g ∷ gs) o).tree (kept_commands env (targets g.criteria subject o.tree) g.commands o) (kept_groups env subject gs (group_done env subject g o))
 
 pub kept_outcome : (env : Env) (verdict : Verdict) (subject : Option ConId) (t : TreeValue) → Kept t (outcome env verdict subject t).tree
-kept_outcome env verdict subject t = kept_groups env subject (groups_of verdict) (record { tree = t; replies = []; exit = false; kills = [] })
+kept_outcome env verdict subject t = kept_groups env subject (groups_of verdict) (record { tree = t; replies = []; mode = None; exit = false; kills = [] })

@@ -181,7 +181,7 @@ holds_course env whole command t g =
 holds_commands : (env : Env) (found : Targets) (cs : List Command) (o : Outcome) → IsGood o.tree → Holds o.tree (commands_done env found cs o).tree
 holds_commands env found [] o g = holds_refl o.tree g
 holds_commands env found (c ∷ cs) o g =
-    let first : Holds o.tree (command_done env found c o).tree = holds_course env (course found c o.tree) c o.tree g in
+    let first : Holds o.tree (command_done env found c o).tree = holds_course env (course env found c o.tree) c o.tree g in
     holds_trans o.tree (command_done env found c o).tree (commands_done env found (c ∷ cs) o).tree first (holds_commands env found cs (command_done env found c o) first.good)
 
 holds_groups : (env : Env) (subject : Option ConId) (gs : List Group) (o : Outcome) → IsGood o.tree → Holds o.tree (groups_done env subject gs o).tree
@@ -192,7 +192,7 @@ holds_groups env subject (x ∷ gs) o g =
 
 -- what a text leaves of a good tree is good, and has its windows
 pub holds_outcome : (env : Env) (verdict : Verdict) (subject : Option ConId) (t : TreeValue) → IsGood t → Holds t (outcome env verdict subject t).tree
-holds_outcome env verdict subject t g = holds_groups env subject (groups_of verdict) (record { tree = t; replies = []; exit = false; kills = [] }) g
+holds_outcome env verdict subject t g = holds_groups env subject (groups_of verdict) (record { tree = t; replies = []; mode = None; exit = false; kills = [] }) g
 
 -- what is a window before a text is one after it, and no other is
 pub texts_leave : (env : Env) (verdict : Verdict) (subject : Option ConId) (t : TreeValue) (v : ConId) → IsGood t → is_window_of (outcome env verdict subject t).tree v ≡ is_window_of t v

@@ -7,7 +7,7 @@ use Rattle.wm_base.specs.declared.ids.ConId.{ConId}
 use Rattle.wm_txn.specs.History as commits
 use Rattle.wm_txn.specs.Stands as transactions
 use Rattle.wm_core.specs.DeskValue.{AreOwners, DeskValue, Follows, StandsFrom, kill_after, kill_in, may_come}
-use Rattle.wm_core.specs.Effect.{changing, closed}
+use Rattle.wm_core.specs.Effect.{changing, closed, mode_after}
 use Rattle.wm_core.specs.History.{done_by, entries, first}
 use Rattle.wm_core.proofs.OwnerLemmas.{owners_after, owners_again}
 use Rattle.wm_core.proofs.StandsLemmas.{fits, not_gone, place, stands_left}
@@ -19,12 +19,12 @@ kept_by false number gone = refl
 
 -- the arrangement of the tree is admitted
 pub returns : goal.returns
-returns c = λ entry said is.
+returns c = λ entry said set is.
     let i = c.self.inside in
-    let d : DeskValue = record { plan = i.plan; steps = i.steps; tree = i.tree; txn = i.txn; stopped = i.stopped; kills = i.kills.entries } in
+    let d : DeskValue = record { plan = i.plan; steps = i.steps; tree = i.tree; txn = i.txn; mode = i.mode; stopped = i.stopped; kills = i.kills.entries } in
     let t = c.args.tree.now in
     let fresh = c.args.opened in
-    let here : done_by d.plan.env d.tree entry ≡ changing said d.tree t fresh c.args.stops c.args.closes.now = rw (← c.self.view_is) at is in
+    let here : done_by d.plan.env d.tree entry ≡ changing said d.tree t fresh set c.args.stops c.args.closes.now = rw (← c.self.view_is) at is in
     let f : Follows d.tree t fresh = rw (← c.self.view_is) at c.requires.follows in
     let newest : c.in_ok-change.change.newest.parts ≡ arranged t = c.in_ok-change.ensures.newest in
     let gone : c.deref.result.now ≡ closed d.tree t fresh = c.deref.ensures.value ∙ (rw (← c.self.view_is) at (c.in_ok-change.ensures.gone c.requires.follows)) in
@@ -42,9 +42,9 @@ returns c = λ entry said is.
           let fit : Fit (arranged t) (closed d.tree t fresh) = fits d start history stood t fresh c.self.invariant.1 c.requires.sound f in
           let admitted = c.in_default-admit.ensures.stands o h (place d start history stood) stood.commits (subst (λ z. Fit z c.deref.result.now) (sym newest) (subst (Fit (arranged t)) (sym gone) fit)) in
           let came : Came (arranged t) (closed d.tree t fresh) = subst (Came (arranged t)) gone (subst (λ z. Came z c.deref.result.now) newest admitted) in
-          let Stops : Bool → Type 0 = λ b. StandsFrom start (record { plan = d.plan; steps = d.steps + 1; tree = t; txn = c.admit.new.self; stopped = b; kills = c.note.new.kills.entries }) (entry ∷ history) in
+          let Stops : Bool → Type 0 = λ b. StandsFrom start (record { plan = d.plan; steps = d.steps + 1; tree = t; txn = c.admit.new.self; mode = mode_after set d.mode; stopped = b; kills = c.note.new.kills.entries }) (entry ∷ history) in
           rw c.swap.ensures.x_after (subst Stops (sym c.either-self-inside.ensures)
-          (stands_left d start history stood t fresh c.self.invariant.1 c.requires.sound f entry said c.admit.new.self c.args.stops c.args.closes.now c.note.new.kills.entries here kept came));
+          (stands_left d start history stood t fresh c.self.invariant.1 c.requires.sound f entry said c.admit.new.self set c.args.stops c.args.closes.now c.note.new.kills.entries here kept came));
       plan = rw (← c.self.view_is) refl;
       count = rw (← c.self.view_is) refl;
       err = tt;

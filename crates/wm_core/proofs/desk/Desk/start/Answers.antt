@@ -9,4 +9,4 @@ invariant_of-result c =
     (((omega (arith, c.in-Ok.ensures.prefix), c.window_count-windows.ensures.value), owners), c.in-Ok.ensures.sound)
 
 pub returns-in-Ok-clause-stands : goal.returns-in-Ok-clause-stands
-returns-in-Ok-clause-stands c = stands_start c.args.plan c.in-Ok.tree c.in-Ok.txn c.new.result.entries c.in-Ok.ensures.tree c.in-Ok.ensures.sound c.new.ensures.empty c.in-Ok.ensures.stands
+returns-in-Ok-clause-stands c = stands_start c.args.plan c.in-Ok.tree c.in-Ok.txn c.in-Ok.mode c.new.result.entries c.in-Ok.ensures.mode c.in-Ok.ensures.tree c.in-Ok.ensures.sound c.new.ensures.empty c.in-Ok.ensures.stands
