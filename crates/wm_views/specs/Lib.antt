@@ -1,4 +1,5 @@
 pub mod Maps
+pub mod Nodes
 pub mod Outputs
 pub mod Sight
 pub mod Workspaces

@@ -2,8 +2,12 @@
 #![tactic(auto)]
 
 mod maps;
+mod nodes;
 mod numbers;
+mod order;
 mod outputs;
+mod places;
+mod setting;
 mod sight;
 mod spaces;
 

@@ -1,10 +1,13 @@
 //! A tree with its arrangement, and maps of what is looked up in them.
-ghost use Rattle.std.specs.Prelude.{◌≡◌, IfOk};
-ghost use Rattle.wm_forest.specs.Recency.{lists};
-ghost use Rattle.wm_views.specs.Maps.{area};
+ghost use Rattle.std.specs.Prelude.{◌≡◌, length, IfOk};
+ghost use Rattle.wm_forest.specs.Recency.{lists, place_from};
+ghost use Rattle.wm_views.specs.Maps.{area, rect_at};
+ghost use Rattle.wm_views.specs.declared.maps.Wanted.TheVariants.{Contents, Titles};
+ghost use Rattle.wm_views.specs.Nodes.{or_length};
 ghost use Rattle.wm_views.specs.Sight.{IsSight};
 
-use crate::maps::{areas, ids};
+use crate::maps::{Wanted, ids, rects};
+use crate::places::places;
 use std::alloc::Global;
 use wm_arrange::Arrangement;
 use wm_base::{ConId, NoMemory, Rect};
@@ -18,7 +21,10 @@ pub struct Sight<'a> {
     pub arrangement: &'a Arrangement,
     pub focused: ConId,
     pub areas: IdMap<Rect>,
+    pub titles: IdMap<Rect>,
+    pub contents: IdMap<Rect>,
     pub urgent: IdMap<()>,
+    pub places: IdMap<usize>,
 }
 
 impl<'a> Sight<'a> {
@@ -32,14 +38,20 @@ impl<'a> Sight<'a> {
         ensures tree { IfOk result (λ sight. sight.tree.now ≡ tree.now) }
         ensures parts { IfOk result (λ sight. sight.arrangement.now ≡ arrangement.now) }
     {
-        let areas = areas(alloc, arrangement.parts.items())?;
+        let areas = rects(alloc, Wanted::Areas, arrangement.parts.items())?;
+        let titles = rects(alloc, Wanted::Titles, arrangement.parts.items())?;
+        let contents = rects(alloc, Wanted::Contents, arrangement.parts.items())?;
         let urgent = ids(alloc, tree.urgent_ids())?;
+        let places = places(alloc, tree.recent_ids())?;
         Ok(Sight {
             tree,
             arrangement,
             focused: tree.focused(),
             areas,
+            titles,
+            contents,
             urgent,
+            places,
         })
     }
 
@@ -65,5 +77,32 @@ impl<'a> Sight<'a> {
         ensures { result ≡ lists id self.now.tree.now.urgent }
     {
         self.urgent.get(id.0).is_some()
+    }
+
+    /// The place of an id in the list by recency, or the list's length where it is not there.
+    pub fn place(&self, id: ConId) -> usize
+        requires { IsSight self.now }
+        ensures { result ≡ or_length (place_from 0 id self.now.tree.now.recency) self.now.tree.now.recency }
+    {
+        match self.places.get(id.0) {
+            Some(place) => *place,
+            None => self.tree.recent_ids().len(),
+        }
+    }
+
+    /// The title of a node, where it has one.
+    pub fn title(&self, id: ConId) -> Option<Rect>
+        requires { IsSight self.now }
+        ensures { result ≡ rect_at Titles id self.now.arrangement.now.parts }
+    {
+        self.titles.get(id.0).copied()
+    }
+
+    /// The content of a window, where it is placed.
+    pub fn content(&self, id: ConId) -> Option<Rect>
+        requires { IsSight self.now }
+        ensures { result ≡ rect_at Contents id self.now.arrangement.now.parts }
+    {
+        self.contents.get(id.0).copied()
     }
 }

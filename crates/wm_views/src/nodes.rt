@@ -1,0 +1,150 @@
+//! The nodes of a tree as replies and events show them.
+ghost use Rattle.std.specs.Prelude.{◌≡◌, IfOk};
+ghost use Rattle.wm_json.specs.declared.views.NodeView.TheViews.{out-NodeView, roll-NodeView};
+ghost use Rattle.wm_views.specs.Nodes.{border_word, border_width, layout_word, orientation_word, plain};
+
+use std::alloc::Global;
+use wm_base::{Border, Layout, List, NoMemory, Rect, Str, Text};
+use wm_json::NodeView;
+
+const NOWHERE: Rect = Rect {
+    x: 0,
+    y: 0,
+    w: 0,
+    h: 0,
+};
+
+fn word(alloc: Global, text: &str) -> Result<Str, NoMemory>
+    ensures { IfOk result (λ word. word ≡ text.now) }
+{
+    let mut word = String::new(alloc);
+    word.push_str(text)?;
+    Ok(Str::of(word))
+}
+
+/// The four words that a view has, if no more is said of its node.
+#[derive(Drop)]
+struct Words {
+    border: Str,
+    layout: Str,
+    orientation: Str,
+    kind: Str,
+}
+
+fn words_of(
+    alloc: Global,
+    border: &str,
+    layout: &str,
+    orientation: &str,
+    kind: &str,
+) -> Result<Words, NoMemory>
+    ensures border { IfOk result (λ words. words.border ≡ border.now) }
+    ensures layout { IfOk result (λ words. words.layout ≡ layout.now) }
+    ensures orientation { IfOk result (λ words. words.orientation ≡ orientation.now) }
+    ensures kind { IfOk result (λ words. words.kind ≡ kind.now) }
+{
+    let border = word(alloc, border)?;
+    let layout = word(alloc, layout)?;
+    let orientation = word(alloc, orientation)?;
+    let kind = word(alloc, kind)?;
+    Ok(Words {
+        border,
+        layout,
+        orientation,
+        kind,
+    })
+}
+
+/// The view of a node that has nothing but an id, a name and a type.
+pub fn plain(alloc: Global, id: u32, name: Text, kind: &str) -> Result<NodeView, NoMemory>
+    ensures { IfOk result (λ view. view ≡ roll-NodeView (plain id name kind.now)) }
+{
+    match words_of(alloc, "none", "splith", "none", kind) {
+        Ok(words) => Ok(plain_view(alloc, id, name, words)),
+        Err(error) => Err(error),
+    }
+}
+
+fn plain_view(alloc: Global, id: u32, name: Text, words: Words) -> NodeView
+    ensures { result ≡ roll-NodeView (record (plain id name words.kind) { border = words.border; layout = words.layout; orientation = words.orientation }) }
+{
+    NodeView {
+        border: words.border,
+        current_border_width: 0,
+        deco_rect: NOWHERE,
+        floating_nodes: List::of(Vec::new(alloc)),
+        focus: List::of(Vec::new(alloc)),
+        focused: false,
+        fullscreen_mode: 0,
+        geometry: NOWHERE,
+        id,
+        layout: words.layout,
+        marks: List::of(Vec::new(alloc)),
+        name,
+        nodes: List::of(Vec::new(alloc)),
+        orientation: words.orientation,
+        rect: NOWHERE,
+        share: 0,
+        share_sum: 0,
+        sticky: false,
+        kind: words.kind,
+        urgent: false,
+        window: None,
+        window_properties: None,
+        window_rect: NOWHERE,
+        window_type: None,
+        num: None,
+        output: None,
+        visible: None,
+        active: None,
+        current_workspace: None,
+        primary: None,
+    }
+}
+
+/// Says of a view where its node stands.
+pub fn set_rects(view: &mut NodeView, deco_rect: Rect, rect: Rect)
+    ensures { view.new ≡ roll-NodeView (record (out-NodeView view.old) { deco_rect = deco_rect; rect = rect }) }
+{
+    view.deco_rect = deco_rect;
+    view.rect = rect;
+}
+
+pub fn border_word(border: Border) -> &'static str
+    ensures { result.now ≡ border_word border }
+{
+    match border {
+        Border::Normal(_) => "normal",
+        Border::Pixel(_) => "pixel",
+        Border::Bare => "none",
+    }
+}
+
+pub fn border_width(border: Border) -> u32
+    ensures { result ≡ border_width border }
+{
+    match border {
+        Border::Normal(width) | Border::Pixel(width) => width,
+        Border::Bare => 0,
+    }
+}
+
+pub fn layout_word(layout: Layout) -> &'static str
+    ensures { result.now ≡ layout_word layout }
+{
+    match layout {
+        Layout::SplitH => "splith",
+        Layout::SplitV => "splitv",
+        Layout::Tabbed => "tabbed",
+        Layout::Stacked => "stacked",
+    }
+}
+
+pub fn orientation_word(layout: Layout) -> &'static str
+    ensures { result.now ≡ orientation_word layout }
+{
+    match layout {
+        Layout::SplitH | Layout::Tabbed => "horizontal",
+        Layout::SplitV | Layout::Stacked => "vertical",
+    }
+}
