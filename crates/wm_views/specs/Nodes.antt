@@ -78,15 +78,19 @@ abbrev pub or_length : Option ℕ → List ConId → ℕ
 or_length None ids = length ids
 or_length (Some n) ids = n
 
+-- the place of an id in the list by recency, from 0; the list's length where it is not there
+abbrev pub place_of : ConId → List ConId → ℕ
+place_of c ids = or_length (place_from 0 c ids) ids
+
 -- the least place in the list by recency of an id in the forest; its length where none is there
 abbrev pub least_place : List ConId → Forest → ℕ
 least_place ids end = length ids
 least_place ids (con part kids floats rest) =
-    min (or_length (place_from 0 part.id ids) ids) (min (least_place ids kids) (min (least_place ids floats) (least_place ids rest)))
+    min (place_of part.id ids) (min (least_place ids kids) (min (least_place ids floats) (least_place ids rest)))
 
 -- the least place of a node's id and those below it
 abbrev pub least_here : List ConId → Part → Forest → Forest → ℕ
-least_here ids part kids floats = min (or_length (place_from 0 part.id ids) ids) (min (least_place ids kids) (least_place ids floats))
+least_here ids part kids floats = min (place_of part.id ids) (min (least_place ids kids) (least_place ids floats))
 
 -- the nodes of a row, each with the least place of an id in its subtree
 abbrev pub placed_row : List ConId → Forest → List (ℕ × ℕ)
@@ -152,14 +156,16 @@ plain id name kind = record {
 abbrev pub laid : Layout → Shown → Shown
 laid l v = record v { layout = layout_word l; orientation = orientation_word l }
 
+-- an output with this name, which shows the workspace of that name
+abbrev pub outlined : ℕ → List ℕ → List ℕ → Shown
+outlined id name shown = record (plain id name (codes "output")) { layout = codes "output"; current_workspace = Some shown }
+
 -- an output over its workspaces, and whether it is the first
 abbrev pub output_node : TreeValue → Bool → Part → OutputPart → Forest → Shown
-output_node t first part o spaces = record (plain part.id.0 o.name (codes "output")) {
-  layout = codes "output";
+output_node t first part o spaces = record (outlined part.id.0 o.name (name_in o.shown spaces)) {
   rect = o.rect;
   urgent = has_urgent t.urgent spaces;
   active = Some true;
-  current_workspace = Some (name_in o.shown spaces);
   primary = Some first;
 }
 
@@ -267,13 +273,11 @@ scratch_view t parts windows = roll-NodeView (with_rows t.recency end windows []
 
 -- the output that has that workspace alone
 abbrev pub scratch_output : TreeValue → List Placed → Forest → Shown
-scratch_output t parts windows = record (plain 4294967294 (codes "__i3") (codes "output")) {
+scratch_output t parts windows = record (outlined 4294967294 (codes "__i3") (codes "__i3_scratch")) {
   focus = 4294967295 ∷ [];
-  layout = codes "output";
   nodes = scratch_view t parts windows ∷ [];
   urgent = has_urgent t.urgent windows;
   active = Some false;
-  current_workspace = Some (codes "__i3_scratch");
   primary = Some false;
 }
 

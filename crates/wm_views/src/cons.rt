@@ -8,7 +8,7 @@ ghost use Rattle.wm_views.specs.Maps.{area, rect_at};
 ghost use Rattle.wm_views.specs.declared.maps.Wanted.TheVariants.{Contents};
 ghost use Rattle.wm_views.specs.Sight.{IsSight};
 
-use crate::nodes::{border_width, border_word, layout_words, plain, type_word, word};
+use crate::nodes::{border_width, border_word, laid, layout_words, plain, type_word, word};
 use crate::numbers::number;
 use crate::setting::{
     WindowTexts, counted_from, set_con, set_content, set_layout, set_place, set_space, set_window,
@@ -52,8 +52,7 @@ pub fn con_view(
             window_view(alloc, sight, above, part, con, props, *natural, kids)
         }
         ConKind::Placeholder { props, .. } => {
-            let name = props.title.clone()?;
-            any_con(alloc, sight, above, part, con, name, kids)
+            named_con(alloc, sight, above, part, con, &props.title, kids)
         }
     }
 }
@@ -80,6 +79,23 @@ fn any_con(
     let urgent = sight.is_urgent(part.id) || has_urgent(sight, kids);
     set_place(&mut view, sight.area(part.id), focused, urgent);
     Ok(view)
+}
+
+/// What the view of every container has, with a copy of its name.
+fn named_con(
+    alloc: Global,
+    sight: &Sight<'_>,
+    above: &Above,
+    part: &Part,
+    con: &ConPart,
+    name: &Text,
+    kids: &Cursor<'_>,
+) -> Result<NodeView, NoMemory>
+    requires { IsSight sight.now }
+    ensures { IfOk result (λ view. view ≡ roll-NodeView (any_con sight.now.tree.now sight.now.arrangement.now.parts above.now part.now con.now name.now kids.now)) }
+{
+    let name = name.clone()?;
+    any_con(alloc, sight, above, part, con, name, kids)
 }
 
 fn split_view(
@@ -116,8 +132,7 @@ fn window_view(
     ensures { IfOk result (λ view. view ≡ roll-NodeView (window_node sight.now.arrangement.now.parts part.now con.now props.now natural (any_con sight.now.tree.now sight.now.arrangement.now.parts above.now part.now con.now props.now.title kids.now))) }
 {
     let texts = window_texts(alloc, con.state.border, props)?;
-    let name = props.title.clone()?;
-    let mut view = any_con(alloc, sight, above, part, con, name, kids)?;
+    let mut view = named_con(alloc, sight, above, part, con, &props.title, kids)?;
     set_window(&mut view, part.id.0, texts);
     set_sizes(&mut view, sight, part, con, natural);
     Ok(view)
@@ -178,11 +193,9 @@ pub fn space_view(
     requires { IsSight sight.now }
     ensures { IfOk result (λ view. view ≡ roll-NodeView (space_node sight.now.tree.now sight.now.arrangement.now.parts output.now part.now space.now kids.now floats.now)) }
 {
-    let words = layout_words(alloc, space.layout)?;
     let on = output.name.clone()?;
     let name = space.name.clone()?;
-    let mut view = plain(alloc, part.id.0, name, "workspace")?;
-    set_layout(&mut view, words);
+    let mut view = laid(alloc, part.id.0, name, "workspace", space.layout)?;
     let visible = part.id == output.shown;
     set_space(&mut view, number(space.name.as_str()), on, visible);
     let focused = part.id == sight.focused;

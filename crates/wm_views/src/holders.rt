@@ -10,10 +10,10 @@ ghost use Rattle.wm_views.specs.Rows.{IsKids, IsPlaced, IsRowAt};
 ghost use Rattle.wm_views.specs.Sight.{IsSight};
 
 use crate::cons::space_view;
-use crate::nodes::{plain, word};
+use crate::nodes::outlined;
 use crate::order::least_place;
 use crate::outputs::name_in;
-use crate::rows::{Below, place_node};
+use crate::rows::{Below, Least, place_node, place_with};
 use crate::setting::{set_output, set_place};
 use crate::sight::Sight;
 use crate::spaces::has_urgent;
@@ -43,14 +43,41 @@ fn push_spaces(
     let Some(part) = row.part() else {
         return Ok(sight.tree.recent_ids().len());
     };
-    let (kids, floats) = (row.kids(), row.floats());
-    let mut below = Below::new(alloc);
-    let (least_kid, least_float) = fill_below(&mut below, alloc, sight, part.id, &kids, &floats)?;
-    push_space(views, alloc, sight, output, part, &kids, &floats, below)?;
+    let (kids, floats) = push_space(
+        views,
+        alloc,
+        sight,
+        output,
+        part,
+        &row.kids(),
+        &row.floats(),
+    )?;
     let rest = push_spaces(views, placed, alloc, sight, output, &row.rest())?;
-    let place = sight.place(part.id);
-    place_node(placed, (place.min(least_kid.min(least_float)), part.id.0))?;
-    Ok(place.min(least_kid.min(least_float.min(rest))))
+    place_with(placed, sight, part.id, Least { kids, floats, rest })
+}
+
+/// Adds a node over its children and floating windows, where it is a workspace, and tells the least places of an id
+/// among both.
+fn push_space(
+    views: &mut Vec<NodeView>,
+    alloc: Global,
+    sight: &Sight<'_>,
+    output: &OutputPart,
+    part: &Part,
+    kids: &Cursor<'_>,
+    floats: &Cursor<'_>,
+) -> Result<(usize, usize), NoMemory>
+    requires sight { IsSight sight.now }
+    requires kids { IsKids kids.now }
+    requires floats { IsRowAt containers floats.now }
+    ensures views { OnOk result (views.new.items ≡ views.old.items ++ space_nodes sight.now.tree.now sight.now.arrangement.now.parts output.now part.now (space_kind part.now.kind) kids.now floats.now) }
+    ensures least_kid { IfOk result (λ least. least.0 ≡ least_place sight.now.tree.now.recency kids.now) }
+    ensures least_float { IfOk result (λ least. least.1 ≡ least_place sight.now.tree.now.recency floats.now) }
+{
+    let mut below = Below::new(alloc);
+    let least = fill_below(&mut below, alloc, sight, part.id, kids, floats)?;
+    push_over(views, alloc, sight, output, part, kids, floats, below)?;
+    Ok(least)
 }
 
 /// Adds the children and floating windows of a workspace, and tells the least places of an id among both.
@@ -96,8 +123,8 @@ fn fill_below(
     Ok((least_kid, least_float))
 }
 
-/// Adds a node over its children and floating windows, where it is a workspace.
-fn push_space(
+/// Adds a node over what is below it, where it is a workspace.
+fn push_over(
     views: &mut Vec<NodeView>,
     alloc: Global,
     sight: &Sight<'_>,
@@ -248,11 +275,10 @@ fn output_view(
     requires { IsSight sight.now }
     ensures { IfOk result (λ view. view ≡ roll-NodeView (output_node sight.now.tree.now first part.now output.now row.now)) }
 {
-    let layout = word(alloc, "output")?;
     let shown = name_in(alloc, output.shown, row)?;
     let name = output.name.clone()?;
-    let mut view = plain(alloc, part.id.0, name, "output")?;
-    set_output(&mut view, layout, true, shown, first);
+    let mut view = outlined(alloc, part.id.0, name, shown)?;
+    set_output(&mut view, true, first);
     set_place(&mut view, output.rect, false, has_urgent(sight, row));
     Ok(view)
 }

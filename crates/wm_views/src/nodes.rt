@@ -1,8 +1,9 @@
 //! The nodes of a tree as replies and events show them.
 ghost use Rattle.std.specs.Prelude.{◌≡◌, IfOk};
 ghost use Rattle.wm_json.specs.declared.views.NodeView.TheViews.{roll-NodeView};
-ghost use Rattle.wm_views.specs.Nodes.{border_word, border_width, layout_word, orientation_word, plain, type_word};
+ghost use Rattle.wm_views.specs.Nodes.{border_word, border_width, laid, layout_word, orientation_word, outlined, plain, type_word};
 
+use crate::setting::{set_layout, set_outline};
 use std::alloc::Global;
 use wm_base::{Border, Layout, List, NoMemory, Rect, Str, Text};
 use wm_json::NodeView;
@@ -166,4 +167,30 @@ pub fn layout_words(alloc: Global, layout: Layout) -> Result<LayoutWords, NoMemo
         layout,
         orientation,
     })
+}
+
+/// The view of a node that has nothing but an id, a name, a type and a layout.
+pub fn laid(
+    alloc: Global,
+    id: u32,
+    name: Text,
+    kind: &str,
+    layout: Layout,
+) -> Result<NodeView, NoMemory>
+    ensures { IfOk result (λ view. view ≡ roll-NodeView (laid layout (plain id name kind.now))) }
+{
+    let words = layout_words(alloc, layout)?;
+    let mut view = plain(alloc, id, name, kind)?;
+    set_layout(&mut view, words);
+    Ok(view)
+}
+
+/// The view of an output that has nothing but an id, a name and the name of the workspace that it shows.
+pub fn outlined(alloc: Global, id: u32, name: Text, shown: Text) -> Result<NodeView, NoMemory>
+    ensures { IfOk result (λ view. view ≡ roll-NodeView (outlined id name shown)) }
+{
+    let layout = word(alloc, "output")?;
+    let mut view = plain(alloc, id, name, "output")?;
+    set_outline(&mut view, layout, shown);
+    Ok(view)
 }

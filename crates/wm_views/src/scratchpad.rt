@@ -8,9 +8,9 @@ ghost use Rattle.wm_views.specs.Nodes.{cons, least_place, over_floats, scratch_o
 ghost use Rattle.wm_views.specs.Rows.{IsPlaced, IsRowAt};
 ghost use Rattle.wm_views.specs.Sight.{IsSight};
 
-use crate::nodes::{LayoutWords, layout_words, plain, word};
+use crate::nodes::{laid, outlined};
 use crate::rows::Below;
-use crate::setting::{Rows, set_layout, set_output, set_place, set_space};
+use crate::setting::{Rows, set_output, set_place, set_space};
 use crate::sight::Sight;
 use crate::spaces::has_urgent;
 use crate::walk::{over_floats, push_cons, push_view};
@@ -89,21 +89,12 @@ fn space_alone(alloc: Global, sight: &Sight<'_>, windows: &Cursor<'_>) -> Result
     requires { IsSight sight.now }
     ensures { IfOk result (λ view. view ≡ roll-NodeView (scratch_space sight.now.tree.now windows.now)) }
 {
-    let words = space_words(alloc)?;
     let output = short_text(alloc, "__i3")?;
     let name = short_text(alloc, "__i3_scratch")?;
-    let mut view = plain(alloc, SCRATCH_SPACE, name, "workspace")?;
-    set_layout(&mut view, words);
+    let mut view = laid(alloc, SCRATCH_SPACE, name, "workspace", Layout::SplitH)?;
     set_space(&mut view, -1, output, false);
     set_place(&mut view, NOWHERE, false, has_urgent(sight, windows));
     Ok(view)
-}
-
-fn space_words(alloc: Global) -> Result<LayoutWords, NoMemory>
-    ensures layout { IfOk result (λ words. words.layout ≡ codes "splith") }
-    ensures orientation { IfOk result (λ words. words.orientation ≡ codes "horizontal") }
-{
-    layout_words(alloc, Layout::SplitH)
 }
 
 /// Adds the scratchpad's output over its workspace.
@@ -164,11 +155,10 @@ fn output_alone(
     requires { IsSight sight.now }
     ensures { IfOk result (λ view. view ≡ roll-NodeView (record (scratch_output sight.now.tree.now sight.now.arrangement.now.parts windows.now) { nodes = []; focus = [] })) }
 {
-    let layout = word(alloc, "output")?;
     let shown = short_text(alloc, "__i3_scratch")?;
     let name = short_text(alloc, "__i3")?;
-    let mut view = plain(alloc, SCRATCH_OUTPUT, name, "output")?;
-    set_output(&mut view, layout, false, shown, false);
+    let mut view = outlined(alloc, SCRATCH_OUTPUT, name, shown)?;
+    set_output(&mut view, false, false);
     set_place(&mut view, NOWHERE, false, has_urgent(sight, windows));
     Ok(view)
 }

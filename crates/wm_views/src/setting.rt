@@ -97,13 +97,19 @@ pub fn set_space(view: &mut NodeView, num: i32, output: Text, visible: bool)
     view.visible = Some(visible);
 }
 
-/// Says of an output's view its layout, whether it is there for windows, its workspace, and whether it is the first.
-pub fn set_output(view: &mut NodeView, layout: Str, active: bool, workspace: Text, primary: bool)
-    ensures { view.new ≡ roll-NodeView (record (out-NodeView view.old) { layout = layout; active = Some active; current_workspace = Some workspace; primary = Some primary }) }
+/// Says of an output's view its layout and the name of the workspace that it shows.
+pub fn set_outline(view: &mut NodeView, layout: Str, shown: Text)
+    ensures { view.new ≡ roll-NodeView (record (out-NodeView view.old) { layout = layout; current_workspace = Some shown }) }
 {
     view.layout = layout;
+    view.current_workspace = Some(shown);
+}
+
+/// Says of an output's view whether it is there for windows, and whether it is the first.
+pub fn set_output(view: &mut NodeView, active: bool, primary: bool)
+    ensures { view.new ≡ roll-NodeView (record (out-NodeView view.old) { active = Some active; primary = Some primary }) }
+{
     view.active = Some(active);
-    view.current_workspace = Some(workspace);
     view.primary = Some(primary);
 }
 

@@ -1,10 +1,10 @@
 //! A tree with its arrangement, and maps of what is looked up in them.
 ghost use Rattle.std.specs.Prelude.{◌≡◌, length, IfOk};
-ghost use Rattle.wm_forest.specs.Recency.{lists, place_from};
+ghost use Rattle.wm_forest.specs.Recency.{lists};
 ghost use Rattle.wm_base.specs.declared.ids.ConId.{ConId};
 ghost use Rattle.wm_views.specs.Maps.{area, rect_at, value_at};
 ghost use Rattle.wm_views.specs.declared.maps.Wanted.TheVariants.{Areas, Contents, Titles};
-ghost use Rattle.wm_views.specs.Nodes.{or_length};
+ghost use Rattle.wm_views.specs.Nodes.{place_of};
 ghost use Rattle.wm_views.specs.Sight.{IsSight};
 
 use crate::maps::{Wanted, ids, rects};
@@ -101,7 +101,7 @@ impl<'a> Sight<'a> {
     /// The place of an id in the list by recency, or the list's length where it is not there.
     pub fn place(&self, id: ConId) -> usize
         requires { IsSight self.now }
-        ensures { result ≡ or_length (place_from 0 id self.now.tree.now.recency) self.now.tree.now.recency }
+        ensures { result ≡ place_of id self.now.tree.now.recency }
     {
         match self.places.get(id.0) {
             Some(place) => *place,

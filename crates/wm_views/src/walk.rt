@@ -11,7 +11,7 @@ ghost use Rattle.wm_views.specs.Sight.{IsSight};
 
 use crate::cons::{Above, con_view};
 use crate::order::least_place;
-use crate::rows::{Below, place_node};
+use crate::rows::{Below, Least, place_with};
 use crate::setting::{Rows, set_rows};
 use crate::sight::Sight;
 use std::alloc::Global;
@@ -45,7 +45,8 @@ pub fn over_floats(rect: Rect) -> Above
 
 /// Adds the containers of a row, puts their ids in at their places, and tells the least place of an id in the row or
 /// below it.
-#[tactic(auto, using(crate::proofs::RowLemmas::con_kids, crate::proofs::RowLemmas::kids_row, crate::proofs::RowLemmas::con_rest))]
+#[cycle(cons)]
+#[tactic(auto, using(crate::proofs::RowLemmas::con_kids, crate::proofs::RowLemmas::con_rest))]
 pub fn push_cons(
     views: &mut Vec<NodeView>,
     placed: &mut Vec<(usize, u32)>,
@@ -63,27 +64,45 @@ pub fn push_cons(
     let Some(part) = row.part() else {
         return Ok(sight.tree.recent_ids().len());
     };
-    let kids = row.kids();
-    let over = over_kids(sight, part.id, &kids);
+    let kids = push_con(views, alloc, sight, above, part, &row.kids())?;
+    let rest = push_cons(views, placed, alloc, sight, above, &row.rest())?;
+    let floats = least_place(sight, &row.floats());
+    place_with(placed, sight, part.id, Least { kids, floats, rest })
+}
+
+/// Adds a node over its children, where it is a container, and tells the least place of an id among these.
+#[cycle(cons)]
+#[tactic(auto, using(crate::proofs::RowLemmas::kids_row))]
+fn push_con(
+    views: &mut Vec<NodeView>,
+    alloc: Global,
+    sight: &Sight<'_>,
+    above: &Above,
+    part: &Part,
+    kids: &Cursor<'_>,
+) -> Result<usize, NoMemory>
+    requires sight { IsSight sight.now }
+    requires sound { IsKids kids.now }
+    ensures views { OnOk result (views.new.items ≡ views.old.items ++ con_views sight.now.tree.now sight.now.arrangement.now.parts above.now part.now (con_kind part.now.kind) kids.now
+        (cons sight.now.tree.now sight.now.arrangement.now.parts (over_kids sight.now.arrangement.now.parts part.now.id kids.now) kids.now)) }
+    ensures least { IfOk result (λ least. least ≡ least_place sight.now.tree.now.recency kids.now) }
+{
+    let over = over_kids(sight, part.id, kids);
     let mut below = Below::new(alloc);
-    let least_kid = push_cons(
+    let least = push_cons(
         &mut below.kids,
         &mut below.placed,
         alloc,
         sight,
         &over,
-        &kids,
+        kids,
     )?;
-    push_con(views, alloc, sight, above, part, &kids, below)?;
-    let rest = push_cons(views, placed, alloc, sight, above, &row.rest())?;
-    let floats = least_place(sight, &row.floats());
-    let place = sight.place(part.id);
-    place_node(placed, (place.min(least_kid.min(floats)), part.id.0))?;
-    Ok(place.min(least_kid.min(floats.min(rest))))
+    push_over(views, alloc, sight, above, part, kids, below)?;
+    Ok(least)
 }
 
-/// Adds a node over its children, where it is a container.
-fn push_con(
+/// Adds a node over what is below it, where it is a container.
+fn push_over(
     views: &mut Vec<NodeView>,
     alloc: Global,
     sight: &Sight<'_>,
