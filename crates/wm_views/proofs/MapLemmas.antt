@@ -1,5 +1,5 @@
 -- What a map has after a value was put in, and what maps of lists have.
-use Rattle.std.proofs.Common.{◌≡◌, ℕ, Bool, true, false, cond, ◌||◌, List, [], ◌∷◌, Option, Some, None, is_some, refl, ap, sym, ◌∙◌}
+use Rattle.std.proofs.Common.{◌≡◌, ℕ, ◌+◌, Bool, true, false, cond, ◌||◌, List, [], ◌∷◌, Option, Some, None, is_some, refl, ap, sym, ◌∙◌}
 use Rattle.std.proofs.lemmas.Bool.{eqb-true}
 use Rattle.std.proofs.lemmas.Bool.Decides.{nat_tests}
 use Rattle.std.proofs.Common.{arith}
@@ -12,6 +12,7 @@ use Rattle.std.specs.declared.cmp.Ordering.TheVariants.{Less, Equal, Greater}
 use Rattle.wm_base.specs.declared.ids.ConId.{ConId}
 use Rattle.wm_ids.proofs.EntryLemmas.{test_same}
 use Rattle.wm_forest.specs.Look.{same}
+use Rattle.wm_forest.specs.Recency.{place_from}
 use Rattle.wm_views.specs.Maps.{value_at, holds}
 
 both : {X : Type 0} (s : Bool) (w x : X) (y : Option X) → cond s (Some w) y ≡ cond s (Some w) (cond s (Some x) y)
@@ -94,3 +95,12 @@ no_value a c map none one = let alike : a.0 ≡ c.0 = eqb-true a.0 c.0 one in ap
 
 pub or_new : {X : Type 0} (a c : ConId) (w : X) (map : List (ℕ × X)) → value_at map a ≡ None → cond (same a c) (Some w) (value_at map c) ≡ option_or (value_at map c) (cond (same a c) (Some w) None)
 or_new a c w map none = none_step (same a c) w (value_at map c) (λ one. no_value a c map none one)
+
+-- a place that is kept, or else a later one, is the first from there on
+pub place_step : (c id : ConId) (at : ℕ) (old : Option ℕ) (rest : List ConId) → option_or (option_or old (cond (same id c) (Some at) None)) (place_from (at + 1) c rest) ≡ option_or old (cond (same id c) (Some at) (place_from (at + 1) c rest))
+place_step c id at (Some x) rest = refl
+place_step c id at None rest = by_same (same id c)
+  where
+    by_same : (s : Bool) → option_or (cond s (Some at) None) (place_from (at + 1) c rest) ≡ cond s (Some at) (place_from (at + 1) c rest)
+    by_same true = refl
+    by_same false = refl

@@ -7,35 +7,37 @@ use Rattle.std.specs.Ordering.{nat_cmp}
 use Rattle.wm_arrange.specs.AreaOf.{or_nowhere}
 use Rattle.wm_arrange.specs.declared.parts.Placed.{Placed}
 use Rattle.wm_arrange.specs.declared.parts.PlacedPart.{PlacedPart}
-use Rattle.wm_arrange.specs.declared.parts.PlacedPart.TheVariants.{Back, Area, Title, Border, Content}
+use Rattle.wm_arrange.specs.declared.parts.PlacedPart.TheVariants.{Area, Title, Content}
 use Rattle.wm_base.specs.declared.geometry.Rect.{Rect}
 use Rattle.wm_base.specs.declared.ids.ConId.{ConId}
 use Rattle.wm_forest.specs.Look.{same}
+use Rattle.wm_views.specs.declared.maps.Wanted.{Wanted}
+use Rattle.wm_views.specs.declared.maps.Wanted.TheVariants as wanted
 
-abbrev pub is_area : PlacedPart → Bool
-is_area Back = false
-is_area Area = true
-is_area (Title ink text) = false
-is_area (Border ink) = false
-is_area Content = false
+-- the part is of the kind that is wanted
+abbrev pub is_wanted : Wanted → PlacedPart → Bool
+is_wanted wanted.Areas Area = true
+is_wanted wanted.Titles (Title ink text) = true
+is_wanted wanted.Contents Content = true
+is_wanted w part = false
 
--- a part's rectangle, where it is an area
-abbrev pub area_of : Placed → Option Rect
-area_of p = if is_area p.part then Some p.rect else None
+-- a part's rectangle, where the part is wanted
+abbrev pub rect_of : Wanted → Placed → Option Rect
+rect_of w p = if is_wanted w p.part then Some p.rect else None
 
 -- what c has, where a node has this
 abbrev pub of_node : {A : Type 0} → ConId → ConId → Option A → Option A
 of_node c id None = None
 of_node c id (Some x) = if same id c then Some x else None
 
--- the rectangle of the first part that is an area of the node c
-abbrev pub area_at : ConId → List Placed → Option Rect
-area_at c [] = None
-area_at c (p ∷ ps) = option_or (of_node c p.con (area_of p)) (area_at c ps)
+-- the rectangle of the first wanted part of the node c
+abbrev pub rect_at : Wanted → ConId → List Placed → Option Rect
+rect_at w c [] = None
+rect_at w c (p ∷ ps) = option_or (of_node c p.con (rect_of w p)) (rect_at w c ps)
 
 -- the area of the node c, without pixels at 0,0 where it is not placed
 abbrev pub area : List Placed → ConId → Rect
-area parts c = or_nowhere (area_at c parts)
+area parts c = or_nowhere (rect_at wanted.Areas c parts)
 
 -- ---- maps
 

@@ -4,22 +4,30 @@ ghost use Rattle.std.specs.Option.{option_or};
 ghost use Rattle.wm_base.specs.declared.ids.ConId.{ConId};
 ghost use Rattle.wm_forest.specs.Look.{same};
 ghost use Rattle.wm_forest.specs.Recency.{lists};
-ghost use Rattle.wm_views.specs.Maps.{area_at, area_of, holds, is_area, of_node, put_at, value_at};
+ghost use Rattle.wm_views.specs.Maps.{holds, is_wanted, of_node, put_at, rect_at, rect_of, value_at};
 
 use std::alloc::Global;
 use wm_arrange::{Placed, PlacedPart};
 use wm_base::{ConId, NoMemory, Rect};
 use wm_ids::IdMap;
 
-/// The areas of an arrangement by id.
+/// Which parts' rectangles are looked up.
+#[derive(Clone, Copy, Debug)]
+pub enum Wanted {
+    Areas,
+    Titles,
+    Contents,
+}
+
+/// The rectangles of the wanted parts by id.
 #[tactic(auto, using(crate::proofs::MapLemmas::or_assoc))]
-pub fn areas(alloc: Global, parts: &[Placed]) -> Result<IdMap<Rect>, NoMemory>
-    ensures { IfOk result (λ map. (c : ConId) → value_at map c ≡ area_at c parts.now) }
+pub fn rects(alloc: Global, wanted: Wanted, parts: &[Placed]) -> Result<IdMap<Rect>, NoMemory>
+    ensures { IfOk result (λ map. (c : ConId) → value_at map c ≡ rect_at wanted c parts.now) }
 {
     let mut map = IdMap::new(alloc);
     let mut rest = parts;
     while let [placed, after @ ..] = rest {
-        keep(&mut map, placed.con, area_of(placed))?;
+        keep(&mut map, placed.con, rect_of(wanted, placed))?;
         rest = after;
     }
     Ok(map)
@@ -46,26 +54,25 @@ fn put(map: &mut IdMap<Rect>, id: ConId, rect: Rect) -> Result<(), NoMemory>
     Ok(())
 }
 
-/// A part's rectangle, where it is an area.
-fn area_of(placed: &Placed) -> Option<Rect>
-    ensures { result ≡ area_of placed.now }
+/// A part's rectangle, where the part is wanted.
+fn rect_of(wanted: Wanted, placed: &Placed) -> Option<Rect>
+    ensures { result ≡ rect_of wanted placed.now }
 {
-    if is_area(&placed.part) {
+    if is_wanted(wanted, &placed.part) {
         Some(placed.rect)
     } else {
         None
     }
 }
 
-fn is_area(part: &PlacedPart) -> bool
-    ensures { result ≡ is_area part.now }
+fn is_wanted(wanted: Wanted, part: &PlacedPart) -> bool
+    ensures { result ≡ is_wanted wanted part.now }
 {
-    match part {
-        PlacedPart::Area => true,
-        PlacedPart::Back
-        | PlacedPart::Title { .. }
-        | PlacedPart::Border { .. }
-        | PlacedPart::Content => false,
+    match (wanted, part) {
+        (Wanted::Areas, PlacedPart::Area)
+        | (Wanted::Titles, PlacedPart::Title { .. })
+        | (Wanted::Contents, PlacedPart::Content) => true,
+        _ => false,
     }
 }
 

@@ -1,12 +1,12 @@
 use Rattle.std.proofs.Common.{◌≡◌, length}
 use Rattle.std.specs.Option.{option_or}
 use Rattle.wm_base.specs.declared.ids.ConId.{ConId}
-use Rattle.wm_views.specs.Maps.{area_at, value_at}
-use Rattle.wm_views.proofs.maps.areas.Given as goal
+use Rattle.wm_views.specs.Maps.{rect_at, value_at}
+use Rattle.wm_views.proofs.maps.rects.Given as goal
 
 -- what the map has, or else the rest, is what all parts have
 abbrev pub invariant-loop-rest : goal.invariant-loop-rest
-invariant-loop-rest l = (c : ConId) → option_or (value_at l.map c) (area_at c l.rest) ≡ area_at c l.parts
+invariant-loop-rest l = (c : ConId) → option_or (value_at l.map c) (rect_at l.wanted c l.rest) ≡ rect_at l.wanted c l.parts
 
 abbrev pub decreases-loop-rest : goal.decreases-loop-rest
 decreases-loop-rest l = length l.rest
