@@ -1,5 +1,6 @@
 pub mod Arrays
 pub mod Events
+pub mod Kinds
 pub mod Nodes
 pub mod Objects
 pub mod Replies

@@ -1,8 +1,11 @@
 //! JSON of replies, views and events, compact and with keys in byte order.
 #![tactic(auto)]
 
+mod copies;
+mod event_copies;
 mod events;
 mod fields;
+mod node_copies;
 mod nodes;
 mod replies;
 mod spaces;
@@ -10,6 +13,7 @@ mod values;
 mod views;
 mod write;
 
+pub use event_copies::kind_of;
 pub use events::event_value;
 pub use nodes::node_value;
 pub use replies::{Reply, replies_value};

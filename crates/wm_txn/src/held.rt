@@ -118,10 +118,10 @@ impl Held {
     }
 
     /// The window after it gave a buffer, where the transactions up to `done` have ended.
-    pub(crate) fn buffered_with(self, done: u64, buffer: Buffer) -> Held
-        ensures { result ≡ buffered_with done buffer self }
+    pub(crate) fn buffered_with(&self, done: u64, buffer: Buffer) -> Held
+        ensures { result ≡ buffered_with done buffer self.now }
     {
-        let mut held = self;
+        let mut held = *self;
         held.saved_buffer = self.shown_by(done);
         held.buffer = buffer;
         held.buffer_serial = self.acked_serial;

@@ -67,23 +67,57 @@ fn gather(
     Ok(())
 }
 
-/// The queue, where it is known whom it has to have, without those at the front that have answered or closed.
+/// The queue without those at the front that have answered or closed.
 pub(crate) fn trimmed(
     queue: Option<VecDeque<ConId>>,
-    known: bool,
     windows: &IdMap<Held>,
     number: u64,
 ) -> Option<VecDeque<ConId>>
     ensures { (waiting : Option Pending) →
-        (known ≡ true → IsQueued number windows.now waiting (option_map (λ queue. queue.items) queue)) →
+        IsQueued number windows.now waiting (option_map (λ queue. queue.items) queue) →
         IsQueued number windows.now waiting (option_map (λ queue. queue.items) result) }
 {
-    if !known {
-        return None;
-    }
     let mut queue = queue?;
     trim(&mut queue, windows, number);
     Some(queue)
+}
+
+/// Lets the queue know of a buffer of a window, which was awaited before it and is so after it where the tests say so.
+/// Only where the first in the queue answers, the next one is looked for; and where a window is awaited that was not, the
+/// queue goes.
+pub(crate) fn heard(
+    queue: &mut Option<VecDeque<ConId>>,
+    con: ConId,
+    awaited: bool,
+    awaits: bool,
+    windows: &IdMap<Held>,
+    number: u64,
+)
+    ensures { (waiting : Option Pending) →
+        ((awaits ≡ true → awaited ≡ true) → IsQueued number windows.now waiting (option_map (λ queue. queue.items) queue.old)) →
+        IsQueued number windows.now waiting (option_map (λ queue. queue.items) queue.new) }
+{
+    if awaited == awaits {
+        return;
+    }
+    if !awaited {
+        *queue = None;
+        return;
+    }
+    if is_first(queue, con) {
+        *queue = trimmed(queue.take(), windows, number);
+    }
+}
+
+/// Whether the window is the first in the queue.
+fn is_first(queue: &Option<VecDeque<ConId>>, con: ConId) -> bool {
+    match queue {
+        Some(queue) => match queue.front() {
+            Some(first) => first.0 == con.0,
+            None => false,
+        },
+        None => false,
+    }
 }
 
 /// Takes those at the front off that have answered or closed.

@@ -5,7 +5,7 @@ ghost use Rattle.wm_txn.specs.Windows.{AreSorted, find};
 
 use crate::answers::{AckRefusal, BufferRefusal};
 use crate::held::{Held, Pending};
-use crate::queue::{queue, trimmed};
+use crate::queue::{heard, queue, trimmed};
 use crate::windows::{close_all, configure_all, one_if};
 use std::alloc::Global;
 use std::collections::{BTreeMap, VecDeque};
@@ -151,7 +151,7 @@ impl Txn {
         let number = self.number + 1;
         let closed = close_all(&mut self.windows, gone, number);
         self.left = self.left.saturating_sub(closed);
-        self.awaited = trimmed(self.awaited.take(), true, &self.windows, number);
+        self.awaited = trimmed(self.awaited.take(), &self.windows, number);
         let _ = self.room.reserve(newest.parts.items().len());
         self.newest = Some(newest);
     }
@@ -179,8 +179,8 @@ impl Txn {
     }
 
     /// The window, of which this is kept, gives a buffer.
-    fn hold(&mut self, view: ConId, before: Held, buffer: Buffer)
-        requires there { find view self.old.windows ≡ Some before }
+    fn hold(&mut self, view: ConId, before: &Held, buffer: Buffer)
+        requires there { find view self.old.windows ≡ Some before.now }
         ensures value { self.new ≡ buffered view buffer self.old }
         ensures same { last_prefix self.new ≡ last_prefix self.old }
     {
@@ -190,8 +190,14 @@ impl Txn {
         let awaited = before.is_unanswered(next);
         let awaits = after.is_unanswered(next);
         self.left = self.left.saturating_sub(one_if(awaited && !awaits));
-        let known = is_known(awaited, awaits);
-        self.awaited = trimmed(self.awaited.take(), known, &self.windows, next);
+        heard(
+            &mut self.awaited,
+            view,
+            awaited,
+            awaits,
+            &self.windows,
+            next,
+        );
     }
 
     /// The window gives a buffer, unless that is refused, and the transactions that it ends do.
@@ -208,8 +214,8 @@ impl Txn {
         ensures prefix { last_prefix self.new ≤ steps }
     {
         let held = self.windows.get(view.0).copied();
-        judge_buffer(held, buffer)?;
-        if let Some(before) = held {
+        judge_buffer(&held, buffer)?;
+        if let Some(before) = &held {
             self.hold(view, before, buffer);
             self.settle(steps);
         }
@@ -240,13 +246,6 @@ impl Txn {
     }
 }
 
-/// Whether a window that is awaited now was so before.
-fn is_known(awaited: bool, awaits: bool) -> bool
-    ensures { result ≡ true → awaits ≡ true → awaited ≡ true }
-{
-    awaited || !awaits
-}
-
 /// Why an acknowledgement of the window of which this is kept is refused, if it is, where the transactions up to `done`
 /// have ended.
 fn judge_ack(held: Option<Held>, done: u64, serial: u64) -> Result<(), AckRefusal>
@@ -259,8 +258,8 @@ fn judge_ack(held: Option<Held>, done: u64, serial: u64) -> Result<(), AckRefusa
 }
 
 /// Why a buffer of the window of which this is kept is refused, if it is.
-fn judge_buffer(held: Option<Held>, buffer: Buffer) -> Result<(), BufferRefusal>
-    ensures { result ≡ judge_buffer buffer held }
+fn judge_buffer(held: &Option<Held>, buffer: Buffer) -> Result<(), BufferRefusal>
+    ensures { result ≡ judge_buffer buffer held.now }
 {
     match held {
         Some(held) if held.live => judge_size(buffer.size),

@@ -14,4 +14,4 @@ invariant_of-self c =
     let Queued : Option (VecDeque ConId Global) → Type 0 = λ q. IsQueued n i.windows i.waiting (option_map (λ (q : VecDeque ConId Global). q.items) q) in
     let fewer = subst (AreFewer n i.windows) (sym c.close_all-closed.ensures.windows) (fewer_closed n c.args.gone.now i.windows) in
     let queued = queued_fewer n i.windows c.close_all-closed.new.windows i.waiting _ fewer (subst Queued (sym c.take.ensures.value) c.self.invariant.3) in
-    (c.self.invariant.0, c.self.invariant.1, c.self.invariant.2, c.trimmed.ensures i.waiting (λ known. queued))
+    (c.self.invariant.0, c.self.invariant.1, c.self.invariant.2, c.trimmed.ensures i.waiting queued)
