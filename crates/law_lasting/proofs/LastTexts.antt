@@ -1,5 +1,5 @@
 -- Texts keep what lasts.
-use Rattle.std.proofs.Common.{◌≡◌, ℕ, Bool, true, false, cond, List, [], ◌∷◌, Option, None, Some, refl, subst}
+use Rattle.std.proofs.Common.{◌≡◌, Bool, true, false, cond, List, [], ◌∷◌, Option, None, Some, refl, subst}
 use Rattle.wm_apply.specs.Batches.{Outcome, command_done, commands_done, group_done, groups_done, groups_of, outcome, targets}
 use Rattle.wm_apply.specs.Commands.{Course, course, course_tree, on, refused, whole}
 use Rattle.wm_apply.specs.declared.rows.How.{How}

@@ -107,7 +107,7 @@ effect_parts env t who (Give v buffer) = by (is_window t who v) (has_no_pixels b
     by false c = refl
 effect_parts env t who (Deadline number) = refl
 
-arrangement_is : (start : Start) (history : List Entry) → arrangement (first start) (accepted_of start history) ≡ arranged (tree start history)
+pub arrangement_is : (start : Start) (history : List Entry) → arrangement (first start) (accepted_of start history) ≡ arranged (tree start history)
 arrangement_is start [] = refl
 arrangement_is start (entry ∷ history) =
     let told = (effect_after start history entry).told in

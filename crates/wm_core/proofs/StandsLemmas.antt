@@ -98,6 +98,7 @@ module _ (d : DeskValue) (start : Start) (history : List Entry) (s : StandsFrom 
       pub stands_next : StandsFrom start (record { plan = d.plan; steps = d.steps + 1; tree = e.tree; txn = txn; mode = mode_after e.mode d.mode; stopped = d.stopped || e.stops; kills = kills }) (entry ∷ history)
       stands_next = record {
         env_is = s.env_is;
+        config_is = s.config_is;
         counted = omega (arith, s.counted);
         tree_is = tree_there;
         in_step = (record { sound = subst IsSound tree_there sound_next; open_is = λ v. open_there v ∙ ap (λ t. is_window_of t v) tree_there }, s.in_step);
@@ -225,6 +226,7 @@ pub stands_start : (plan : Plan) (t : TreeValue) (txn : TxnValue) (mode : List �
     → Stands (record { plan = plan; steps = 0; tree = t; txn = txn; mode = mode; stopped = false; kills = kills }) []
 stands_start plan t txn mode kills default opened sound none stands = record {
   env_is = refl;
+  config_is = refl;
   counted = refl;
   tree_is = opened;
   in_step = record { sound = subst IsSound opened sound; open_is = λ v. sym (opens_no_window plan t opened sound v) ∙ ap (λ z. is_window_of z v) opened };

@@ -70,6 +70,7 @@ AreInStep start (entry ∷ history) = IsInStep start (entry ∷ history) × AreI
 -- the desk stands for the history from this opening: it is what the history leaves
 pub record StandsFrom (start : Start) (d : DeskValue) (history : List Entry) : Type 0 where
   pub env_is : d.plan.env ≡ start.env
+  pub config_is : d.plan.config ≡ start.config
   pub counted : d.steps ≡ length history
   pub tree_is : d.tree ≡ tree start history
   pub in_step : AreInStep start history

@@ -23,16 +23,17 @@ pub record Entry : Type 0 where
 abbrev pub History : Type 0
 History = List Entry
 
--- with what a desk starts: its tree, what commands find beside it, the mode, and its windows, each with the buffer that it has
+-- with what a desk starts: its tree, what commands find beside it, the mode, the text of the configuration, and its windows, each with the buffer that it has
 pub record Start : Type 0 where
   pub opened : TreeValue
   pub env : Env
   pub mode : List ℕ
+  pub config : List ℕ
   pub windows : List (ConId × Buffer)
 
--- the opening tree of a plan, which has no windows, what commands find beside it, and the mode `default`
+-- the opening tree of a plan, which has no windows, what commands find beside it, the mode `default`, and the text of its configuration
 abbrev pub opening_of : Plan → Start
-opening_of plan = record { opened = opening plan.outputs plan.border plan.inner plan.outer; env = plan.env; mode = codes "default"; windows = [] }
+opening_of plan = record { opened = opening plan.outputs plan.border plan.inner plan.outer; env = plan.env; mode = codes "default"; config = plan.config; windows = [] }
 
 -- what an entry does to a tree
 abbrev pub done_by : Env → TreeValue → Entry → Effect

@@ -15,6 +15,7 @@ mod kills;
 mod laws;
 mod look;
 mod mapping;
+mod marks;
 mod modes;
 mod outputs;
 mod owners;

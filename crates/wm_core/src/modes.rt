@@ -1,10 +1,12 @@
 //! The mode of a desk.
 ghost use Rattle.std.specs.Prelude.{◌≡◌, codes, IfOk};
+ghost use Rattle.wm_core.specs.Look.{all_modes};
 ghost use Rattle.wm_core.specs.Effect.{mode_after};
 
 use std::alloc::Global;
 use std::mem;
-use wm_base::{NoMemory, Text};
+use wm_base::{List, NoMemory, Text};
+use wm_layouts::Env;
 
 /// The mode in which a desk opens.
 pub fn default_mode(alloc: Global) -> Result<Text, NoMemory>
@@ -14,6 +16,20 @@ pub fn default_mode(alloc: Global) -> Result<Text, NoMemory>
         Ok(mode) => Ok(mode),
         Err(_) => Err(NoMemory),
     }
+}
+
+/// The modes that can be set, `default` first.
+pub fn all_modes(alloc: Global, env: &Env) -> Result<List<Text>, NoMemory>
+    ensures { IfOk result (λ modes. modes ≡ all_modes env.now) }
+{
+    let mut modes = Vec::new(alloc);
+    modes.push(default_mode(alloc)?)?;
+    let mut rest = env.modes.items();
+    while let [mode, after @ ..] = rest {
+        modes.push(mode.clone()?)?;
+        rest = after;
+    }
+    Ok(List::of(modes))
 }
 
 /// Puts the mode that was set, if any, in the place of the one before.

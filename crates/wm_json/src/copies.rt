@@ -22,7 +22,7 @@ pub(crate) fn copy_text_if(text: &Option<Text>) -> Result<Option<Text>, AllocErr
 }
 
 /// The same texts.
-pub(crate) fn copy_texts(alloc: Global, texts: &[Text]) -> Result<List<Text>, AllocError>
+pub fn copy_texts(alloc: Global, texts: &[Text]) -> Result<List<Text>, AllocError>
     ensures { IfOk result (λ copy. copy ≡ texts.now) }
 {
     let mut copy = Vec::with_capacity(alloc, texts.len())?;

@@ -18,8 +18,7 @@ use crate::spaces::has_urgent;
 use std::alloc::Global;
 use wm_arrange::title_text;
 use wm_base::{Border, Layout, NoMemory, Props, Rect, Size, Text};
-use wm_forest::copy_texts;
-use wm_json::NodeView;
+use wm_json::{NodeView, copy_texts};
 use wm_tree::{ConKind, ConPart, Cursor, OutputPart, Part, SpacePart, copy_props};
 
 /// What stands above a container: the rectangle of its parent, the sum of the shares in its row (0 where it is not
