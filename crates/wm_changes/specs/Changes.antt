@@ -1,99 +1,106 @@
 -- The events that two trees, one before and one after, tell of.
-use Rattle.std.specs.Prelude.{ℕ, ◌==◌, Bool, true, false, ◌&&◌, ◌||◌, not, if◌then◌else◌, List, [], ◌∷◌, ◌++◌, map, Option, None, Some, is_some, option_map, codes}
-use Rattle.std.specs.Cmp.Lexicographic.{pointwise}
+use Rattle.std.specs.Prelude.{ℕ, Bool, true, false, not, if◌then◌else◌, List, [], ◌∷◌, ◌++◌, Option, None, Some, option_map}
 use Rattle.std.specs.Map.{values_of}
-use Rattle.std.specs.Str.{bytes_eq}
 use Rattle.wm_arrange.specs.declared.parts.Placed.{Placed}
-use Rattle.wm_arrange.specs.Same.{same_rect}
-use Rattle.wm_base.specs.declared.geometry.Edges.{Edges}
+use Rattle.wm_arrange.specs.AreaOf.{nowhere}
+use Rattle.wm_base.specs.declared.geometry.Rect.{Rect}
 use Rattle.wm_base.specs.declared.ids.ConId.{ConId}
-use Rattle.wm_changes.specs.Facts.{SpaceFact, WindowFact}
-use Rattle.wm_forest.specs.declared.part.ConKind.{ConKind}
-use Rattle.wm_forest.specs.declared.part.ConKind.TheVariants.{Split, Window, Placeholder}
-use Rattle.wm_forest.specs.declared.part.OutputPart.{OutputPart}
-use Rattle.wm_forest.specs.Forest.{Forest, end, con}
-use Rattle.wm_forest.specs.Look.{first_kids, output_kind, same}
-use Rattle.wm_forest.specs.Recency.{lists}
+use Rattle.wm_changes.specs.declared.standing.Standing.{Standing}
+use Rattle.wm_changes.specs.declared.words.Change.{Change}
+use Rattle.wm_changes.specs.declared.words.Change.TheVariants.{Close, Focus, Empty}
+use Rattle.wm_changes.specs.Differences.{Word, change_text, space_words, window_words}
+use Rattle.wm_changes.specs.Facts.{SpaceFact, WindowFact, spaces, windows}
+use Rattle.wm_changes.specs.OutputChanges.{outputs_differ}
+use Rattle.wm_forest.specs.Forest.{end}
+use Rattle.wm_forest.specs.Look.{same}
 use Rattle.wm_json.specs.declared.views.EventBody.{EventBody}
 use Rattle.wm_json.specs.declared.views.EventBody.TheVariants as body
-use Rattle.wm_tree.specs.TreeValue.{TreeValue}
+use Rattle.wm_json.specs.declared.views.NodeView.{NodeView}
+use Rattle.wm_json.specs.declared.views.NodeView.TheViews.{roll-NodeView}
+use Rattle.wm_tree.specs.TreeValue.{TreeValue, focused, shown}
+use Rattle.wm_views.specs.declared.cons.Above.{Above}
+use Rattle.wm_views.specs.Maps.{area, holds, value_at}
+use Rattle.wm_views.specs.Nodes.{con_node, space_node}
 
--- ---- outputs
+-- ---- events of a window or of a workspace
 
-abbrev pub same_edges : Edges → Edges → Bool
-same_edges a b = a.top == b.top && (a.right == b.right && (a.bottom == b.bottom && a.left == b.left))
+-- above the nodes that stand so
+abbrev pub holder_area : List Placed → Option ConId → Rect
+holder_area parts None = nowhere
+holder_area parts (Some c) = area parts c
 
--- a node of the row is this output with the same rectangle and the same reserved edges
-abbrev pub is_output : ConId → OutputPart → ConId → Option OutputPart → Bool
-is_output c o id None = false
-is_output c o id (Some p) = same id c && (same_rect p.rect o.rect && same_edges p.reserved o.reserved)
+abbrev pub above : List Placed → Standing → Above
+above parts s = record { rect = holder_area parts s.holder; shares = s.shares; floating = s.floating }
 
-abbrev pub has_output : ConId → OutputPart → Forest → Bool
-has_output c o end = false
-has_output c o (con part kids floats rest) = is_output c o part.id (output_kind part.kind) || has_output c o rest
+-- a window as events show it: nothing is below it
+abbrev pub window_view : TreeValue → List Placed → WindowFact → NodeView
+window_view t parts w = roll-NodeView (con_node t parts (above parts w.standing) w.part w.state w.state.kind end)
 
--- the node is no output, or the row has it as it is
-abbrev pub is_kept : ConId → Option OutputPart → Forest → Bool
-is_kept c None row = true
-is_kept c (Some o) row = has_output c o row
+-- a workspace as events show it, without what is below it
+abbrev pub space_view : TreeValue → List Placed → SpaceFact → NodeView
+space_view t parts s = roll-NodeView (space_node t parts s.output s.part s.state s.kids s.floats)
 
--- each output of a row stands in the other one as it is
-abbrev pub are_kept : Forest → Forest → Bool
-are_kept end row = true
-are_kept (con part kids floats rest) row = is_kept part.id (output_kind part.kind) row && are_kept rest row
+abbrev pub window_event : NodeView → Change → EventBody
+window_event view change = body.Window (change_text change) view
 
--- an output is new, gone, or has another rectangle or other reserved edges
-abbrev pub outputs_differ : TreeValue → TreeValue → Bool
-outputs_differ t u = not (are_kept (first_kids t.nodes) (first_kids u.nodes) && are_kept (first_kids u.nodes) (first_kids t.nodes))
+abbrev pub space_event : NodeView → Change → EventBody
+space_event view change = body.Workspace (change_text change) view None
 
--- a list of this alone, where it holds
-abbrev pub told_if : {A : Type 0} → Bool → A → List A
-told_if false x = []
-told_if true x = x ∷ []
+-- an event for each word that holds
+abbrev pub told : (Change → EventBody) → List Word → List EventBody
+told event [] = []
+told event (word ∷ words) = if word.0 then event word.1 ∷ told event words else told event words
+
+-- an event of the workspace that is focused, with the one that was
+abbrev pub focus_event : Option NodeView → Option NodeView → List EventBody
+focus_event old None = []
+focus_event old (Some view) = body.Workspace (change_text Focus) view old ∷ []
+
+abbrev pub focus_of : Option NodeView → List EventBody
+focus_of None = []
+focus_of (Some view) = window_event view Focus ∷ []
+
+-- ---- all events
+
+-- what is told of each of a list
+abbrev pub told_of : {A : Type 0} → (A → List EventBody) → List A → List EventBody
+told_of events [] = []
+told_of events (x ∷ xs) = events x ++ told_of events xs
 
 abbrev pub output_events : TreeValue → TreeValue → List EventBody
-output_events t u = told_if (outputs_differ t u) body.Output
+output_events t u = if outputs_differ t u then body.Output ∷ [] else []
 
--- ---- what differs in a window
+-- workspaces that are new, or have another name or output
+abbrev pub space_line : TreeValue → TreeValue → List Placed → SpaceFact → List EventBody
+space_line t u parts s = told (space_event (space_view u parts s)) (space_words (value_at (spaces t) s.part.id) s)
 
-abbrev pub title_by : ConKind → List ℕ
-title_by (Split layout last) = []
-title_by (Window props owner natural) = props.title
-title_by (Placeholder props swallows) = props.title
+-- windows that are new, or differ from what they were
+abbrev pub window_line : TreeValue → TreeValue → List Placed → WindowFact → List EventBody
+window_line t u parts w = told (window_event (window_view u parts w)) (window_words t u (value_at (windows t) w.part.id) w)
 
-abbrev pub title : WindowFact → List ℕ
-title w = title_by w.state.kind
+-- a window that is gone, as it was
+abbrev pub close_line : TreeValue → List Placed → TreeValue → WindowFact → List EventBody
+close_line t parts u w = told (window_event (window_view t parts w)) ((not (holds (windows u) w.part.id), Close) ∷ [])
 
-abbrev pub same_id : Option ConId → Option ConId → Bool
-same_id None None = true
-same_id None (Some d) = false
-same_id (Some c) None = false
-same_id (Some c) (Some d) = same c d
+-- a workspace that is gone, as it was
+abbrev pub empty_line : TreeValue → List Placed → TreeValue → SpaceFact → List EventBody
+empty_line t parts u s = told (space_event (space_view t parts s)) ((not (holds (spaces u) s.part.id), Empty) ∷ [])
 
-abbrev pub same_flag : Bool → Bool → Bool
-same_flag false b = not b
-same_flag true b = b
+-- the focused workspace is another one
+abbrev pub space_focus : TreeValue → List Placed → TreeValue → List Placed → List EventBody
+space_focus t a u b = if same (shown t) (shown u) then [] else focus_event (option_map (space_view t a) (value_at (spaces t) (shown t))) (option_map (space_view u b) (value_at (spaces u) (shown u)))
 
--- it has another title
-abbrev pub is_retitled : WindowFact → WindowFact → Bool
-is_retitled v w = not (bytes_eq (title v) (title w))
+-- the focused container is another one, and a window
+abbrev pub window_focus : TreeValue → TreeValue → List Placed → List EventBody
+window_focus t u b = if same (focused t) (focused u) then [] else focus_of (option_map (window_view u b) (value_at (windows u) (focused u)))
 
--- it has another parent or another workspace
-abbrev pub is_moved : WindowFact → WindowFact → Bool
-is_moved v w = not (same_id v.standing.holder w.standing.holder && same_id v.standing.space w.standing.space)
-
--- it floats now, or no longer does
-abbrev pub is_floated : WindowFact → WindowFact → Bool
-is_floated v w = not (same_flag v.standing.floating w.standing.floating)
-
--- it is fullscreen now, or no longer is
-abbrev pub is_filled : WindowFact → WindowFact → Bool
-is_filled v w = not (same_flag v.state.state.fullscreen w.state.state.fullscreen)
-
--- it is urgent now, or no longer is
-abbrev pub is_urged : TreeValue → TreeValue → ConId → Bool
-is_urged t u c = not (same_flag (lists c t.urgent) (lists c u.urgent))
-
--- it has other marks
-abbrev pub is_marked : WindowFact → WindowFact → Bool
-is_marked v w = not (pointwise bytes_eq v.part.marks w.part.marks)
+-- the events of two trees with their arrangements, in the order in which they are told
+abbrev pub changes : TreeValue → List Placed → TreeValue → List Placed → List EventBody
+changes t a u b =
+    output_events t u
+    ++ told_of (space_line t u b) (values_of (spaces u))
+    ++ told_of (window_line t u b) (values_of (windows u))
+    ++ told_of (close_line t a u) (values_of (windows t))
+    ++ told_of (empty_line t a u) (values_of (spaces t))
+    ++ space_focus t a u b
+    ++ window_focus t u b

@@ -2,7 +2,7 @@
 ghost use Rattle.std.specs.Prelude.{◌≡◌, not};
 ghost use Rattle.std.specs.Cmp.Lexicographic.{pointwise};
 ghost use Rattle.std.specs.Str.{bytes_eq};
-ghost use Rattle.wm_changes.specs.Changes.{is_filled, is_floated, is_marked, is_moved, is_retitled, same_flag, same_id, title};
+ghost use Rattle.wm_changes.specs.Differences.{is_filled, is_floated, is_marked, is_moved, is_retitled, same_flag, same_id, title};
 
 use crate::windows::Found;
 use wm_base::{ConId, Text};

@@ -1,6 +1,6 @@
 //! Whether the outputs of two trees differ.
 ghost use Rattle.std.specs.Prelude.{◌≡◌, not};
-ghost use Rattle.wm_changes.specs.Changes.{are_kept, has_output, is_kept, is_output, outputs_differ, same_edges};
+ghost use Rattle.wm_changes.specs.OutputChanges.{are_kept, has_output, is_kept, is_output, outputs_differ, same_edges};
 ghost use Rattle.wm_arrange.specs.Same.{same_rect};
 ghost use Rattle.wm_forest.specs.Look.{output_kind};
 
