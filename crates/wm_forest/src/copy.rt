@@ -31,7 +31,8 @@ fn copy_three(a: &Text, b: &Text, c: &Text) -> Result<(Text, Text, Text), AllocE
     Ok((a.clone()?, b.clone()?, c.clone()?))
 }
 
-fn copy_texts(alloc: Global, texts: &[Text]) -> Result<List<Text>, AllocError>
+/// Equal texts.
+pub fn copy_texts(alloc: Global, texts: &[Text]) -> Result<List<Text>, AllocError>
     ensures { IfOk result (λ copy. copy ≡ texts.now) }
 {
     let mut copy = Vec::with_capacity(alloc, texts.len())?;

@@ -22,7 +22,7 @@ mod sticky;
 mod taking;
 
 pub use change::NOBODY;
-pub use copy::{copy_props, copy_texts_and};
+pub use copy::{copy_props, copy_texts, copy_texts_and};
 pub use cursor::Cursor;
 pub use edit::Edit;
 pub use kind::KindEdit;

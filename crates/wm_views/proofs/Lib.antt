@@ -1,3 +1,3 @@
 pub mod MapLemmas
-pub mod NodeLemmas
+pub mod RowLemmas
 pub mod SpaceLemmas

@@ -1,10 +1,10 @@
 -- Nodes as replies and events show them.
-use Rattle.std.specs.Prelude.{ℕ, ◌+◌, ◌==◌, Bool, true, false, ◌&&◌, ◌||◌, nat_le, min, if◌then◌else◌, ℤ, pos, negsuc, int_lt, ◌-ℤ◌, List, [], ◌∷◌, ◌++◌, length, map, Option, None, Some, option_map, codes}
+use Rattle.std.specs.Prelude.{ℕ, ◌+◌, Bool, true, false, ◌||◌, nat_le, min, if◌then◌else◌, ℤ, pos, negsuc, int_lt, ◌-ℤ◌, List, [], ◌∷◌, ◌++◌, length, map, Option, None, Some, codes}
 use Rattle.std.specs.List.{insert}
-use Rattle.std.specs.Option.{option_or}
 use Rattle.wm_arrange.specs.declared.parts.Placed.{Placed}
 use Rattle.wm_arrange.specs.TitleText.{title_text}
 use Rattle.wm_base.specs.declared.geometry.Rect.{Rect}
+use Rattle.wm_base.specs.declared.geometry.Size.{Size}
 use Rattle.wm_base.specs.declared.ids.ConId.{ConId}
 use Rattle.wm_base.specs.declared.plan.Border.{Border}
 use Rattle.wm_base.specs.declared.plan.Border.TheVariants.{Normal, Pixel, Bare}
@@ -14,21 +14,21 @@ use Rattle.wm_base.specs.declared.properties.Props.{Props}
 use Rattle.wm_forest.specs.declared.part.ConKind.{ConKind}
 use Rattle.wm_forest.specs.declared.part.ConKind.TheVariants.{Split, Window, Placeholder}
 use Rattle.wm_forest.specs.declared.part.ConPart.{ConPart}
-use Rattle.wm_forest.specs.declared.part.NodeKind.{NodeKind}
-use Rattle.wm_forest.specs.declared.part.NodeKind.TheVariants.{Root, Output, Space, Con}
 use Rattle.wm_forest.specs.declared.part.OutputPart.{OutputPart}
 use Rattle.wm_forest.specs.declared.part.Part.{Part}
 use Rattle.wm_forest.specs.declared.part.SpacePart.{SpacePart}
 use Rattle.wm_forest.specs.Counts.{share_sum}
 use Rattle.wm_forest.specs.Forest.{Forest, end, con}
 use Rattle.wm_forest.specs.Look.{con_kind, output_kind, same, space_kind}
-use Rattle.wm_forest.specs.Recency.{place_from}
+use Rattle.wm_forest.specs.Recency.{lists, place_from}
 use Rattle.wm_json.specs.declared.views.NodeView.{NodeView}
 use Rattle.wm_json.specs.declared.views.NodeView.TheOpen.{NodeView-F}
 use Rattle.wm_json.specs.declared.views.NodeView.TheViews.{roll-NodeView}
 use Rattle.wm_tree.specs.TreeValue.{TreeValue, focused}
+use Rattle.wm_views.specs.declared.cons.Above.{Above}
 use Rattle.wm_views.specs.declared.maps.Wanted.TheVariants as wanted
-use Rattle.wm_views.specs.Maps.{area, nowhere, rect_at}
+use Rattle.wm_arrange.specs.AreaOf.{nowhere}
+use Rattle.wm_views.specs.Maps.{area, rect_at}
 use Rattle.wm_views.specs.Outputs.{name_in}
 use Rattle.wm_views.specs.Workspaces.{has_urgent, number}
 
@@ -56,6 +56,11 @@ orientation_word SplitV = codes "vertical"
 orientation_word Tabbed = codes "horizontal"
 orientation_word Stacked = codes "vertical"
 
+-- floating windows and those of the scratchpad have a type of their own
+abbrev pub type_word : Bool → List ℕ
+type_word true = codes "floating_con"
+type_word false = codes "con"
+
 -- ---- rectangles
 
 -- the nearest number that a place may have; places that are counted from each other in a tree are nearer
@@ -73,15 +78,19 @@ abbrev pub or_length : Option ℕ → List ConId → ℕ
 or_length None ids = length ids
 or_length (Some n) ids = n
 
+-- the place of an id in the list by recency, from 0; the list's length where it is not there
+abbrev pub place_of : ConId → List ConId → ℕ
+place_of c ids = or_length (place_from 0 c ids) ids
+
 -- the least place in the list by recency of an id in the forest; its length where none is there
 abbrev pub least_place : List ConId → Forest → ℕ
 least_place ids end = length ids
 least_place ids (con part kids floats rest) =
-    min (or_length (place_from 0 part.id ids) ids) (min (least_place ids kids) (min (least_place ids floats) (least_place ids rest)))
+    min (place_of part.id ids) (min (least_place ids kids) (min (least_place ids floats) (least_place ids rest)))
 
 -- the least place of a node's id and those below it
 abbrev pub least_here : List ConId → Part → Forest → Forest → ℕ
-least_here ids part kids floats = min (or_length (place_from 0 part.id ids) ids) (min (least_place ids kids) (least_place ids floats))
+least_here ids part kids floats = min (place_of part.id ids) (min (least_place ids kids) (least_place ids floats))
 
 -- the nodes of a row, each with the least place of an id in its subtree
 abbrev pub placed_row : List ConId → Forest → List (ℕ × ℕ)
@@ -100,7 +109,7 @@ put_nodes (n ∷ ns) done = insert (put_nodes ns done) (node_spot n (put_nodes n
 
 -- the ids of children and floating windows by recency of their subtrees, those without any id in the list last
 abbrev pub focus : List ConId → Forest → Forest → List ℕ
-focus ids kids floats = map (λ n. n.1) (put_nodes (placed_row ids kids ++ placed_row ids floats) [])
+focus ids kids floats = map (λ n. n.1) (put_nodes (placed_row ids kids) (put_nodes (placed_row ids floats) []))
 
 -- ---- views by kind
 
@@ -143,43 +152,37 @@ plain id name kind = record {
   primary = None;
 }
 
--- with the rows below it: their views, their order by recency, and whether an urgent window is among them
-abbrev pub with_rows : TreeValue → Forest → Forest → List NodeView → List NodeView → Shown → Shown
-with_rows t kids floats nodes floating v =
-    record v { nodes = nodes; floating_nodes = floating; focus = focus t.recency kids floats; urgent = v.urgent || has_urgent t.urgent kids || has_urgent t.urgent floats }
+-- with a layout
+abbrev pub laid : Layout → Shown → Shown
+laid l v = record v { layout = layout_word l; orientation = orientation_word l }
 
--- the whole of a view of an output: its workspaces, and whether it is the first
-abbrev pub output_node : Bool → Part → OutputPart → Forest → Shown
-output_node first part o spaces = record (plain part.id.0 o.name (codes "output")) {
-  layout = codes "output";
+-- an output with this name, which shows the workspace of that name
+abbrev pub outlined : ℕ → List ℕ → List ℕ → Shown
+outlined id name shown = record (plain id name (codes "output")) { layout = codes "output"; current_workspace = Some shown }
+
+-- an output over its workspaces, and whether it is the first
+abbrev pub output_node : TreeValue → Bool → Part → OutputPart → Forest → Shown
+output_node t first part o spaces = record (outlined part.id.0 o.name (name_in o.shown spaces)) {
   rect = o.rect;
+  urgent = has_urgent t.urgent spaces;
   active = Some true;
-  current_workspace = Some (name_in o.shown spaces);
   primary = Some first;
 }
 
--- a workspace on an output
-abbrev pub space_node : TreeValue → List Placed → OutputPart → Part → SpacePart → Shown
-space_node t parts o part s = record (plain part.id.0 s.name (codes "workspace")) {
+-- a workspace on an output, over its children and floating windows
+abbrev pub space_node : TreeValue → List Placed → OutputPart → Part → SpacePart → Forest → Forest → Shown
+space_node t parts o part s kids floats = record (laid s.layout (plain part.id.0 s.name (codes "workspace"))) {
   focused = same part.id (focused t);
-  layout = layout_word s.layout;
-  orientation = orientation_word s.layout;
   rect = area parts part.id;
+  urgent = has_urgent t.urgent kids || has_urgent t.urgent floats;
   num = Some (number s.name);
   output = Some o.name;
   visible = Some (same part.id o.shown);
 }
 
--- what stands above a container: its parent's rectangle, the sum of the shares of its row (0 where it is not tiled),
--- and its type
-pub record Above : Type 0 where
-  pub rect : Rect
-  pub shares : ℕ
-  pub kind : List ℕ
-
--- a container of any kind
-abbrev pub any_con : TreeValue → List Placed → Above → Part → ConPart → List ℕ → Shown
-any_con t parts above part c name = record (plain part.id.0 name above.kind) {
+-- a container of any kind, over its children
+abbrev pub any_con : TreeValue → List Placed → Above → Part → ConPart → List ℕ → Forest → Shown
+any_con t parts above part c name kids = record (plain part.id.0 name (type_word above.floating)) {
   deco_rect = counted_from above.rect (rect_at wanted.Titles part.id parts);
   focused = same part.id (focused t);
   marks = part.marks;
@@ -187,38 +190,45 @@ any_con t parts above part c name = record (plain part.id.0 name above.kind) {
   share = c.share;
   share_sum = above.shares;
   sticky = c.state.sticky;
+  urgent = lists part.id t.urgent || has_urgent t.urgent kids;
 }
 
-abbrev pub con_node : TreeValue → List Placed → Above → Part → ConPart → ConKind → Forest → Shown
-con_node t parts above part c (Split layout last) kids =
-    record (any_con t parts above part c (title_text part kids)) { layout = layout_word layout; orientation = orientation_word layout }
-con_node t parts above part c (Window props owner natural) kids = record (any_con t parts above part c props.title) {
+-- what a window's view has besides
+abbrev pub window_node : List Placed → Part → ConPart → Props → Size → Shown → Shown
+window_node parts part c props natural v = record v {
   border = border_word c.state.border;
   current_border_width = border_width c.state.border;
   fullscreen_mode = if c.state.fullscreen then 1 else 0;
   geometry = record { x = pos 0; y = pos 0; w = natural.w; h = natural.h };
-  urgent = has_urgent t.urgent (con part end end end);
   window = Some part.id.0;
   window_properties = Some props;
   window_rect = counted_from (area parts part.id) (rect_at wanted.Contents part.id parts);
   window_type = Some props.kind;
 }
-con_node t parts above part c (Placeholder props swallows) kids = any_con t parts above part c props.title
+
+abbrev pub con_node : TreeValue → List Placed → Above → Part → ConPart → ConKind → Forest → Shown
+con_node t parts above part c (Split layout last) kids = laid layout (any_con t parts above part c (title_text part kids) kids)
+con_node t parts above part c (Window props owner natural) kids = window_node parts part c props natural (any_con t parts above part c props.title kids)
+con_node t parts above part c (Placeholder props swallows) kids = any_con t parts above part c props.title kids
 
 -- ---- rows
+
+-- with the rows below it: their views, and their order by recency
+abbrev pub with_rows : List ConId → Forest → Forest → List NodeView → List NodeView → Shown → Shown
+with_rows ids kids floats nodes floating v = record v { nodes = nodes; floating_nodes = floating; focus = focus ids kids floats }
+
+-- above the children of a node
+abbrev pub over_kids : List Placed → ConId → Forest → Above
+over_kids parts id kids = record { rect = area parts id; shares = share_sum kids; floating = false }
+
+-- above floating windows, within this rectangle
+abbrev pub over_floats : Rect → Above
+over_floats rect = record { rect = rect; shares = 0; floating = true }
 
 -- a container with its children
 abbrev pub con_views : TreeValue → List Placed → Above → Part → Option ConPart → Forest → List NodeView → List NodeView
 con_views t parts above part None kids nodes = []
-con_views t parts above part (Some c) kids nodes = roll-NodeView (with_rows t kids end nodes [] (con_node t parts above part c c.kind kids)) ∷ []
-
--- above the children of a node
-abbrev pub over_kids : List Placed → ConId → Forest → Above
-over_kids parts id kids = record { rect = area parts id; shares = share_sum kids; kind = codes "con" }
-
--- above floating windows, within this rectangle
-abbrev pub over_floats : Rect → Above
-over_floats rect = record { rect = rect; shares = 0; kind = codes "floating_con" }
+con_views t parts above part (Some c) kids nodes = roll-NodeView (with_rows t.recency kids end nodes [] (con_node t parts above part c c.kind kids)) ∷ []
 
 -- the containers of a row
 abbrev pub cons : TreeValue → List Placed → Above → Forest → List NodeView
@@ -229,7 +239,7 @@ cons t parts above (con part kids floats rest) =
 abbrev pub space_nodes : TreeValue → List Placed → OutputPart → Part → Option SpacePart → Forest → Forest → List NodeView
 space_nodes t parts o part None kids floats = []
 space_nodes t parts o part (Some s) kids floats =
-    roll-NodeView (with_rows t kids floats (cons t parts (over_kids parts part.id kids) kids) (cons t parts (over_floats (area parts part.id)) floats) (space_node t parts o part s)) ∷ []
+    roll-NodeView (with_rows t.recency kids floats (cons t parts (over_kids parts part.id kids) kids) (cons t parts (over_floats (area parts part.id)) floats) (space_node t parts o part s kids floats)) ∷ []
 
 -- the workspaces of an output
 abbrev pub spaces_under : TreeValue → List Placed → OutputPart → Forest → List NodeView
@@ -238,7 +248,7 @@ spaces_under t parts o (con part kids floats rest) = space_nodes t parts o part 
 
 abbrev pub output_nodes : TreeValue → List Placed → Bool → Part → Option OutputPart → Forest → List NodeView
 output_nodes t parts first part None spaces = []
-output_nodes t parts first part (Some o) spaces = roll-NodeView (with_rows t spaces end (spaces_under t parts o spaces) [] (output_node first part o spaces)) ∷ []
+output_nodes t parts first part (Some o) spaces = roll-NodeView (with_rows t.recency spaces end (spaces_under t parts o spaces) [] (output_node t first part o spaces)) ∷ []
 
 -- the outputs of a row
 abbrev pub outputs_under : TreeValue → List Placed → Bool → Forest → List NodeView
@@ -247,33 +257,38 @@ outputs_under t parts first (con part kids floats rest) = output_nodes t parts f
 
 -- ---- the scratchpad, and the whole tree
 
--- the workspace that holds the scratchpad's windows
-abbrev pub scratch_space : TreeValue → List Placed → Forest → Shown
-scratch_space t parts windows =
-    with_rows t end windows [] (cons t parts (over_floats nowhere) windows)
-    (record (plain 4294967295 (codes "__i3_scratch") (codes "workspace")) {
-      orientation = codes "horizontal";
-      num = Some (negsuc 0);
-      output = Some (codes "__i3");
-      visible = Some false;
-    })
+-- the workspace of the scratchpad, without its windows
+abbrev pub scratch_space : TreeValue → Forest → Shown
+scratch_space t windows = record (plain 4294967295 (codes "__i3_scratch") (codes "workspace")) {
+  orientation = codes "horizontal";
+  urgent = has_urgent t.urgent windows;
+  num = Some (negsuc 0);
+  output = Some (codes "__i3");
+  visible = Some false;
+}
+
+-- that workspace with its windows
+abbrev pub scratch_view : TreeValue → List Placed → Forest → NodeView
+scratch_view t parts windows = roll-NodeView (with_rows t.recency end windows [] (cons t parts (over_floats nowhere) windows) (scratch_space t windows))
 
 -- the output that has that workspace alone
 abbrev pub scratch_output : TreeValue → List Placed → Forest → Shown
-scratch_output t parts windows = record (plain 4294967294 (codes "__i3") (codes "output")) {
+scratch_output t parts windows = record (outlined 4294967294 (codes "__i3") (codes "__i3_scratch")) {
   focus = 4294967295 ∷ [];
-  layout = codes "output";
-  nodes = roll-NodeView (scratch_space t parts windows) ∷ [];
+  nodes = scratch_view t parts windows ∷ [];
   urgent = has_urgent t.urgent windows;
   active = Some false;
-  current_workspace = Some (codes "__i3_scratch");
   primary = Some false;
 }
+
+-- the ids of the scratchpad's output, by its windows, and of the outputs by recency
+abbrev pub root_focus : List ConId → Forest → Forest → List ℕ
+root_focus ids windows outputs = map (λ n. n.1) (put_nodes ((least_place ids windows, 4294967294) ∷ placed_row ids outputs) [])
 
 -- the root over the scratchpad's output and the outputs
 abbrev pub root_node : TreeValue → List Placed → Part → Forest → Forest → Shown
 root_node t parts part outputs windows = record (plain part.id.0 (codes "root") (codes "root")) {
-  focus = map (λ n. n.1) (put_nodes ((least_place t.recency windows, 4294967294) ∷ placed_row t.recency outputs) []);
+  focus = root_focus t.recency windows outputs;
   nodes = roll-NodeView (scratch_output t parts windows) ∷ outputs_under t parts true outputs;
   urgent = has_urgent t.urgent outputs || has_urgent t.urgent windows;
 }

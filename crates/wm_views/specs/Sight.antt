@@ -10,8 +10,8 @@ use Rattle.wm_views.specs.declared.maps.Wanted.TheVariants as wanted
 -- the focused node is the tree's, and the maps have the areas, titles and contents of the arrangement, the places in the list by recency, and the urgent windows of the tree
 pub record IsSight (s : Sight) : Type 0 where
   pub focus : s.focused ≡ focused s.tree.now
-  pub areas : (c : ConId) → value_at s.areas c ≡ rect_at wanted.Areas c s.arrangement.now.parts
-  pub titles : (c : ConId) → value_at s.titles c ≡ rect_at wanted.Titles c s.arrangement.now.parts
-  pub contents : (c : ConId) → value_at s.contents c ≡ rect_at wanted.Contents c s.arrangement.now.parts
+  pub areas : (c : ConId) → value_at s.rects.areas c ≡ rect_at wanted.Areas c s.arrangement.now.parts
+  pub titles : (c : ConId) → value_at s.rects.titles c ≡ rect_at wanted.Titles c s.arrangement.now.parts
+  pub contents : (c : ConId) → value_at s.rects.contents c ≡ rect_at wanted.Contents c s.arrangement.now.parts
   pub urgent : (c : ConId) → holds s.urgent c ≡ lists c s.tree.now.urgent
   pub places : (c : ConId) → value_at s.places c ≡ place_from 0 c s.tree.now.recency

@@ -1,8 +1,9 @@
 //! The nodes of a tree as replies and events show them.
 ghost use Rattle.std.specs.Prelude.{◌≡◌, IfOk};
-ghost use Rattle.wm_json.specs.declared.views.NodeView.TheViews.{out-NodeView, roll-NodeView};
-ghost use Rattle.wm_views.specs.Nodes.{border_word, border_width, layout_word, orientation_word, plain};
+ghost use Rattle.wm_json.specs.declared.views.NodeView.TheViews.{roll-NodeView};
+ghost use Rattle.wm_views.specs.Nodes.{border_word, border_width, laid, layout_word, orientation_word, outlined, plain, type_word};
 
+use crate::setting::{set_layout, set_outline};
 use std::alloc::Global;
 use wm_base::{Border, Layout, List, NoMemory, Rect, Str, Text};
 use wm_json::NodeView;
@@ -14,7 +15,8 @@ const NOWHERE: Rect = Rect {
     h: 0,
 };
 
-fn word(alloc: Global, text: &str) -> Result<Str, NoMemory>
+/// A copy of a text.
+pub fn word(alloc: Global, text: &str) -> Result<Str, NoMemory>
     ensures { IfOk result (λ word. word ≡ text.now) }
 {
     let mut word = String::new(alloc);
@@ -102,14 +104,6 @@ fn plain_view(alloc: Global, id: u32, name: Text, words: Words) -> NodeView
     }
 }
 
-/// Says of a view where its node stands.
-pub fn set_rects(view: &mut NodeView, deco_rect: Rect, rect: Rect)
-    ensures { view.new ≡ roll-NodeView (record (out-NodeView view.old) { deco_rect = deco_rect; rect = rect }) }
-{
-    view.deco_rect = deco_rect;
-    view.rect = rect;
-}
-
 pub fn border_word(border: Border) -> &'static str
     ensures { result.now ≡ border_word border }
 {
@@ -147,4 +141,56 @@ pub fn orientation_word(layout: Layout) -> &'static str
         Layout::SplitH | Layout::Tabbed => "horizontal",
         Layout::SplitV | Layout::Stacked => "vertical",
     }
+}
+
+/// The type of a container: that of floating windows and of those in the scratchpad, or that of others.
+pub fn type_word(floating: bool) -> &'static str
+    ensures { result.now ≡ type_word floating }
+{
+    if floating { "floating_con" } else { "con" }
+}
+
+/// A layout's word, and the word of its direction.
+#[derive(Drop)]
+pub struct LayoutWords {
+    pub layout: Str,
+    pub orientation: Str,
+}
+
+pub fn layout_words(alloc: Global, layout: Layout) -> Result<LayoutWords, NoMemory>
+    ensures layout { IfOk result (λ words. words.layout ≡ layout_word layout) }
+    ensures orientation { IfOk result (λ words. words.orientation ≡ orientation_word layout) }
+{
+    let orientation = word(alloc, orientation_word(layout))?;
+    let layout = word(alloc, layout_word(layout))?;
+    Ok(LayoutWords {
+        layout,
+        orientation,
+    })
+}
+
+/// The view of a node that has nothing but an id, a name, a type and a layout.
+pub fn laid(
+    alloc: Global,
+    id: u32,
+    name: Text,
+    kind: &str,
+    layout: Layout,
+) -> Result<NodeView, NoMemory>
+    ensures { IfOk result (λ view. view ≡ roll-NodeView (laid layout (plain id name kind.now))) }
+{
+    let words = layout_words(alloc, layout)?;
+    let mut view = plain(alloc, id, name, kind)?;
+    set_layout(&mut view, words);
+    Ok(view)
+}
+
+/// The view of an output that has nothing but an id, a name and the name of the workspace that it shows.
+pub fn outlined(alloc: Global, id: u32, name: Text, shown: Text) -> Result<NodeView, NoMemory>
+    ensures { IfOk result (λ view. view ≡ roll-NodeView (outlined id name shown)) }
+{
+    let layout = word(alloc, "output")?;
+    let mut view = plain(alloc, id, name, "output")?;
+    set_outline(&mut view, layout, shown);
+    Ok(view)
 }

@@ -69,7 +69,7 @@ fn output_view(
 }
 
 /// The name of the workspace in a row of workspaces.
-fn name_in(alloc: Global, id: ConId, row: &Cursor<'_>) -> Result<Text, NoMemory>
+pub fn name_in(alloc: Global, id: ConId, row: &Cursor<'_>) -> Result<Text, NoMemory>
     ensures { IfOk result (λ name. name ≡ name_in id row.now) }
 {
     match row.part() {

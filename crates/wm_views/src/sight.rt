@@ -1,30 +1,53 @@
 //! A tree with its arrangement, and maps of what is looked up in them.
 ghost use Rattle.std.specs.Prelude.{◌≡◌, length, IfOk};
-ghost use Rattle.wm_forest.specs.Recency.{lists, place_from};
-ghost use Rattle.wm_views.specs.Maps.{area, rect_at};
-ghost use Rattle.wm_views.specs.declared.maps.Wanted.TheVariants.{Contents, Titles};
-ghost use Rattle.wm_views.specs.Nodes.{or_length};
+ghost use Rattle.wm_forest.specs.Recency.{lists};
+ghost use Rattle.wm_base.specs.declared.ids.ConId.{ConId};
+ghost use Rattle.wm_views.specs.Maps.{area, rect_at, value_at};
+ghost use Rattle.wm_views.specs.declared.maps.Wanted.TheVariants.{Areas, Contents, Titles};
+ghost use Rattle.wm_views.specs.Nodes.{place_of};
 ghost use Rattle.wm_views.specs.Sight.{IsSight};
 
 use crate::maps::{Wanted, ids, rects};
 use crate::places::places;
 use std::alloc::Global;
-use wm_arrange::Arrangement;
+use wm_arrange::{Arrangement, Placed};
 use wm_base::{ConId, NoMemory, Rect};
 use wm_ids::IdMap;
 use wm_tree::Tree;
 
-/// A tree with its arrangement and its focused node, the areas by id, and the ids of the urgent windows.
+/// The areas, titles and contents of an arrangement by id.
+#[derive(Drop)]
+pub struct PlacedRects {
+    pub areas: IdMap<Rect>,
+    pub titles: IdMap<Rect>,
+    pub contents: IdMap<Rect>,
+}
+
+/// A tree with its arrangement and its focused node, the rectangles by id, the ids of the urgent windows, and the
+/// places in the list by recency.
 #[derive(Drop)]
 pub struct Sight<'a> {
     pub tree: &'a Tree,
     pub arrangement: &'a Arrangement,
     pub focused: ConId,
-    pub areas: IdMap<Rect>,
-    pub titles: IdMap<Rect>,
-    pub contents: IdMap<Rect>,
+    pub rects: PlacedRects,
     pub urgent: IdMap<()>,
     pub places: IdMap<usize>,
+}
+
+fn placed_rects(alloc: Global, parts: &[Placed]) -> Result<PlacedRects, NoMemory>
+    ensures areas { IfOk result (λ rects. (c : ConId) → value_at rects.areas c ≡ rect_at Areas c parts.now) }
+    ensures titles { IfOk result (λ rects. (c : ConId) → value_at rects.titles c ≡ rect_at Titles c parts.now) }
+    ensures contents { IfOk result (λ rects. (c : ConId) → value_at rects.contents c ≡ rect_at Contents c parts.now) }
+{
+    let areas = rects(alloc, Wanted::Areas, parts)?;
+    let titles = rects(alloc, Wanted::Titles, parts)?;
+    let contents = rects(alloc, Wanted::Contents, parts)?;
+    Ok(PlacedRects {
+        areas,
+        titles,
+        contents,
+    })
 }
 
 impl<'a> Sight<'a> {
@@ -38,18 +61,14 @@ impl<'a> Sight<'a> {
         ensures tree { IfOk result (λ sight. sight.tree.now ≡ tree.now) }
         ensures parts { IfOk result (λ sight. sight.arrangement.now ≡ arrangement.now) }
     {
-        let areas = rects(alloc, Wanted::Areas, arrangement.parts.items())?;
-        let titles = rects(alloc, Wanted::Titles, arrangement.parts.items())?;
-        let contents = rects(alloc, Wanted::Contents, arrangement.parts.items())?;
+        let rects = placed_rects(alloc, arrangement.parts.items())?;
         let urgent = ids(alloc, tree.urgent_ids())?;
         let places = places(alloc, tree.recent_ids())?;
         Ok(Sight {
             tree,
             arrangement,
             focused: tree.focused(),
-            areas,
-            titles,
-            contents,
+            rects,
             urgent,
             places,
         })
@@ -60,7 +79,7 @@ impl<'a> Sight<'a> {
         requires { IsSight self.now }
         ensures { result ≡ area self.now.arrangement.now.parts id }
     {
-        match self.areas.get(id.0) {
+        match self.rects.areas.get(id.0) {
             Some(rect) => *rect,
             None => Rect {
                 x: 0,
@@ -82,7 +101,7 @@ impl<'a> Sight<'a> {
     /// The place of an id in the list by recency, or the list's length where it is not there.
     pub fn place(&self, id: ConId) -> usize
         requires { IsSight self.now }
-        ensures { result ≡ or_length (place_from 0 id self.now.tree.now.recency) self.now.tree.now.recency }
+        ensures { result ≡ place_of id self.now.tree.now.recency }
     {
         match self.places.get(id.0) {
             Some(place) => *place,
@@ -95,7 +114,7 @@ impl<'a> Sight<'a> {
         requires { IsSight self.now }
         ensures { result ≡ rect_at Titles id self.now.arrangement.now.parts }
     {
-        self.titles.get(id.0).copied()
+        self.rects.titles.get(id.0).copied()
     }
 
     /// The content of a window, where it is placed.
@@ -103,6 +122,6 @@ impl<'a> Sight<'a> {
         requires { IsSight self.now }
         ensures { result ≡ rect_at Contents id self.now.arrangement.now.parts }
     {
-        self.contents.get(id.0).copied()
+        self.rects.contents.get(id.0).copied()
     }
 }

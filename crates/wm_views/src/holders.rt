@@ -1,0 +1,284 @@
+//! The views of workspaces and outputs with all that is below them.
+ghost use Rattle.std.specs.Prelude.{◌≡◌, ◌++◌, ◌∷◌, [], min, IfOk, OnOk, Some};
+ghost use Rattle.wm_forest.specs.Forest.{end};
+ghost use Rattle.wm_forest.specs.Look.{output_kind, space_kind};
+ghost use Rattle.wm_forest.specs.SoundRow.{containers, outputs, spaces};
+ghost use Rattle.wm_json.specs.declared.views.NodeView.TheViews.{roll-NodeView};
+ghost use Rattle.wm_views.specs.Maps.{area};
+ghost use Rattle.wm_views.specs.Nodes.{cons, least_place, output_node, output_nodes, outputs_under, over_floats, over_kids, placed_row, put_nodes, space_nodes, spaces_under};
+ghost use Rattle.wm_views.specs.Rows.{IsKids, IsPlaced, IsRowAt};
+ghost use Rattle.wm_views.specs.Sight.{IsSight};
+
+use crate::cons::space_view;
+use crate::nodes::outlined;
+use crate::order::least_place;
+use crate::outputs::name_in;
+use crate::rows::{Below, Least, place_node, place_with};
+use crate::setting::{set_output, set_place};
+use crate::sight::Sight;
+use crate::spaces::has_urgent;
+use crate::walk::{over_floats, over_kids, push_cons, push_view};
+use std::alloc::Global;
+use wm_base::{ConId, NoMemory};
+use wm_json::NodeView;
+use wm_tree::{Cursor, NodeKind, OutputPart, Part, SpacePart};
+
+/// Adds the workspaces of an output, puts their ids in at their places, and tells the least place of an id in the row
+/// or below it.
+#[tactic(auto, using(crate::proofs::RowLemmas::space_kids, crate::proofs::RowLemmas::space_floats, crate::proofs::RowLemmas::space_rest))]
+fn push_spaces(
+    views: &mut Vec<NodeView>,
+    placed: &mut Vec<(usize, u32)>,
+    alloc: Global,
+    sight: &Sight<'_>,
+    output: &OutputPart,
+    row: &Cursor<'_>,
+) -> Result<usize, NoMemory>
+    requires sight { IsSight sight.now }
+    requires sound { IsRowAt spaces row.now }
+    ensures views { OnOk result (views.new.items ≡ views.old.items ++ spaces_under sight.now.tree.now sight.now.arrangement.now.parts output.now row.now) }
+    ensures placed { OnOk result (placed.new.items ≡ put_nodes (placed_row sight.now.tree.now.recency row.now) placed.old.items) }
+    ensures least { IfOk result (λ least. least ≡ least_place sight.now.tree.now.recency row.now) }
+{
+    let Some(part) = row.part() else {
+        return Ok(sight.tree.recent_ids().len());
+    };
+    let (kids, floats) = push_space(
+        views,
+        alloc,
+        sight,
+        output,
+        part,
+        &row.kids(),
+        &row.floats(),
+    )?;
+    let rest = push_spaces(views, placed, alloc, sight, output, &row.rest())?;
+    place_with(placed, sight, part.id, Least { kids, floats, rest })
+}
+
+/// Adds a node over its children and floating windows, where it is a workspace, and tells the least places of an id
+/// among both.
+fn push_space(
+    views: &mut Vec<NodeView>,
+    alloc: Global,
+    sight: &Sight<'_>,
+    output: &OutputPart,
+    part: &Part,
+    kids: &Cursor<'_>,
+    floats: &Cursor<'_>,
+) -> Result<(usize, usize), NoMemory>
+    requires sight { IsSight sight.now }
+    requires kids { IsKids kids.now }
+    requires floats { IsRowAt containers floats.now }
+    ensures views { OnOk result (views.new.items ≡ views.old.items ++ space_nodes sight.now.tree.now sight.now.arrangement.now.parts output.now part.now (space_kind part.now.kind) kids.now floats.now) }
+    ensures least_kid { IfOk result (λ least. least.0 ≡ least_place sight.now.tree.now.recency kids.now) }
+    ensures least_float { IfOk result (λ least. least.1 ≡ least_place sight.now.tree.now.recency floats.now) }
+{
+    let mut below = Below::new(alloc);
+    let least = fill_below(&mut below, alloc, sight, part.id, kids, floats)?;
+    push_over(views, alloc, sight, output, part, kids, floats, below)?;
+    Ok(least)
+}
+
+/// Adds the children and floating windows of a workspace, and tells the least places of an id among both.
+#[tactic(auto, using(crate::proofs::RowLemmas::kids_row))]
+fn fill_below(
+    below: &mut Below,
+    alloc: Global,
+    sight: &Sight<'_>,
+    id: ConId,
+    kids: &Cursor<'_>,
+    floats: &Cursor<'_>,
+) -> Result<(usize, usize), NoMemory>
+    requires sight { IsSight sight.now }
+    requires kids { IsKids kids.now }
+    requires floats { IsRowAt containers floats.now }
+    requires no_kids { below.old.kids.items ≡ [] }
+    requires no_floats { below.old.floats.items ≡ [] }
+    requires none_placed { below.old.placed.items ≡ [] }
+    ensures kids { OnOk result (below.new.kids.items ≡ cons sight.now.tree.now sight.now.arrangement.now.parts (over_kids sight.now.arrangement.now.parts id kids.now) kids.now) }
+    ensures floats { OnOk result (below.new.floats.items ≡ cons sight.now.tree.now sight.now.arrangement.now.parts (over_floats (area sight.now.arrangement.now.parts id)) floats.now) }
+    ensures placed { OnOk result (IsPlaced sight.now.tree.now.recency kids.now floats.now below.new) }
+    ensures least_kid { IfOk result (λ least. least.0 ≡ least_place sight.now.tree.now.recency kids.now) }
+    ensures least_float { IfOk result (λ least. least.1 ≡ least_place sight.now.tree.now.recency floats.now) }
+{
+    let over = over_floats(sight.area(id));
+    let least_float = push_cons(
+        &mut below.floats,
+        &mut below.placed,
+        alloc,
+        sight,
+        &over,
+        floats,
+    )?;
+    let over = over_kids(sight, id, kids);
+    let least_kid = push_cons(
+        &mut below.kids,
+        &mut below.placed,
+        alloc,
+        sight,
+        &over,
+        kids,
+    )?;
+    Ok((least_kid, least_float))
+}
+
+/// Adds a node over what is below it, where it is a workspace.
+fn push_over(
+    views: &mut Vec<NodeView>,
+    alloc: Global,
+    sight: &Sight<'_>,
+    output: &OutputPart,
+    part: &Part,
+    kids: &Cursor<'_>,
+    floats: &Cursor<'_>,
+    below: Below,
+) -> Result<(), NoMemory>
+    requires sight { IsSight sight.now }
+    requires kids { below.kids.items ≡ cons sight.now.tree.now sight.now.arrangement.now.parts (over_kids sight.now.arrangement.now.parts part.now.id kids.now) kids.now }
+    requires floats { below.floats.items ≡ cons sight.now.tree.now sight.now.arrangement.now.parts (over_floats (area sight.now.arrangement.now.parts part.now.id)) floats.now }
+    requires placed { IsPlaced sight.now.tree.now.recency kids.now floats.now below }
+    ensures { OnOk result (views.new.items ≡ views.old.items ++ space_nodes sight.now.tree.now sight.now.arrangement.now.parts output.now part.now (space_kind part.now.kind) kids.now floats.now) }
+{
+    match &part.kind {
+        NodeKind::Space(space) => {
+            push_whole_space(
+                views, alloc, sight, output, part, space, kids, floats, below,
+            )
+        }
+        NodeKind::Root { .. } | NodeKind::Output(_) | NodeKind::Con(_) => {
+            drop(below);
+            Ok(())
+        }
+    }
+}
+
+/// Adds a workspace over its children and floating windows.
+fn push_whole_space(
+    views: &mut Vec<NodeView>,
+    alloc: Global,
+    sight: &Sight<'_>,
+    output: &OutputPart,
+    part: &Part,
+    space: &SpacePart,
+    kids: &Cursor<'_>,
+    floats: &Cursor<'_>,
+    below: Below,
+) -> Result<(), NoMemory>
+    requires sight { IsSight sight.now }
+    requires kids { below.kids.items ≡ cons sight.now.tree.now sight.now.arrangement.now.parts (over_kids sight.now.arrangement.now.parts part.now.id kids.now) kids.now }
+    requires floats { below.floats.items ≡ cons sight.now.tree.now sight.now.arrangement.now.parts (over_floats (area sight.now.arrangement.now.parts part.now.id)) floats.now }
+    requires placed { IsPlaced sight.now.tree.now.recency kids.now floats.now below }
+    ensures { OnOk result (views.new.items ≡ views.old.items ++ space_nodes sight.now.tree.now sight.now.arrangement.now.parts output.now part.now (Some space.now) kids.now floats.now) }
+{
+    let rows = below.rows(alloc)?;
+    match space_view(alloc, sight, output, part, space, kids, floats) {
+        Ok(view) => push_view(views, view, rows),
+        Err(error) => {
+            drop(rows);
+            Err(error)
+        }
+    }
+}
+
+/// Adds the outputs of a row, the first of which is the primary one or not, and puts their ids in at their places.
+#[tactic(auto, using(crate::proofs::RowLemmas::output_kids, crate::proofs::RowLemmas::output_rest))]
+pub fn push_outputs(
+    views: &mut Vec<NodeView>,
+    placed: &mut Vec<(usize, u32)>,
+    alloc: Global,
+    sight: &Sight<'_>,
+    first: bool,
+    row: &Cursor<'_>,
+) -> Result<(), NoMemory>
+    requires sight { IsSight sight.now }
+    requires sound { IsRowAt outputs row.now }
+    ensures views { OnOk result (views.new.items ≡ views.old.items ++ outputs_under sight.now.tree.now sight.now.arrangement.now.parts first row.now) }
+    ensures placed { OnOk result (placed.new.items ≡ put_nodes (placed_row sight.now.tree.now.recency row.now) placed.old.items) }
+{
+    let Some(part) = row.part() else {
+        return Ok(());
+    };
+    let least = push_output(views, alloc, sight, first, part, &row.kids())?;
+    push_outputs(views, placed, alloc, sight, false, &row.rest())?;
+    let floats = least_place(sight, &row.floats());
+    let place = sight.place(part.id);
+    place_node(placed, (place.min(least.min(floats)), part.id.0))
+}
+
+/// Adds a node over its workspaces, where it is an output, and tells the least place of an id among these.
+fn push_output(
+    views: &mut Vec<NodeView>,
+    alloc: Global,
+    sight: &Sight<'_>,
+    first: bool,
+    part: &Part,
+    row: &Cursor<'_>,
+) -> Result<usize, NoMemory>
+    requires sight { IsSight sight.now }
+    requires sound { IsRowAt spaces row.now }
+    ensures views { OnOk result (views.new.items ≡ views.old.items ++ output_nodes sight.now.tree.now sight.now.arrangement.now.parts first part.now (output_kind part.now.kind) row.now) }
+    ensures least { IfOk result (λ least. least ≡ least_place sight.now.tree.now.recency row.now) }
+{
+    let NodeKind::Output(output) = &part.kind else {
+        return Ok(least_place(sight, row));
+    };
+    let mut below = Below::new(alloc);
+    let least = push_spaces(
+        &mut below.kids,
+        &mut below.placed,
+        alloc,
+        sight,
+        output,
+        row,
+    )?;
+    push_whole_output(views, alloc, sight, first, part, output, row, below)?;
+    Ok(least)
+}
+
+/// Adds an output over its workspaces.
+fn push_whole_output(
+    views: &mut Vec<NodeView>,
+    alloc: Global,
+    sight: &Sight<'_>,
+    first: bool,
+    part: &Part,
+    output: &OutputPart,
+    row: &Cursor<'_>,
+    below: Below,
+) -> Result<(), NoMemory>
+    requires sight { IsSight sight.now }
+    requires kids { below.kids.items ≡ spaces_under sight.now.tree.now sight.now.arrangement.now.parts output.now row.now }
+    requires floats { below.floats.items ≡ [] }
+    requires placed { IsPlaced sight.now.tree.now.recency row.now end below }
+    ensures { OnOk result (views.new.items ≡ views.old.items ++ output_nodes sight.now.tree.now sight.now.arrangement.now.parts first part.now (Some output.now) row.now) }
+{
+    let rows = below.rows(alloc)?;
+    match output_view(alloc, sight, first, part, output, row) {
+        Ok(view) => push_view(views, view, rows),
+        Err(error) => {
+            drop(rows);
+            Err(error)
+        }
+    }
+}
+
+/// An output, without its workspaces' views.
+fn output_view(
+    alloc: Global,
+    sight: &Sight<'_>,
+    first: bool,
+    part: &Part,
+    output: &OutputPart,
+    row: &Cursor<'_>,
+) -> Result<NodeView, NoMemory>
+    requires { IsSight sight.now }
+    ensures { IfOk result (λ view. view ≡ roll-NodeView (output_node sight.now.tree.now first part.now output.now row.now)) }
+{
+    let shown = name_in(alloc, output.shown, row)?;
+    let name = output.name.clone()?;
+    let mut view = outlined(alloc, part.id.0, name, shown)?;
+    set_output(&mut view, true, first);
+    set_place(&mut view, output.rect, false, has_urgent(sight, row));
+    Ok(view)
+}
