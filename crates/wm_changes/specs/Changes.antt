@@ -94,13 +94,19 @@ space_focus t a u b = if same (shown t) (shown u) then [] else focus_event (opti
 abbrev pub window_focus : TreeValue → TreeValue → List Placed → List EventBody
 window_focus t u b = if same (focused t) (focused u) then [] else focus_of (option_map (window_view u b) (value_at (windows u) (focused u)))
 
+-- windows and workspaces that are gone
+abbrev pub gone_events : TreeValue → List Placed → TreeValue → List EventBody
+gone_events t a u = told_of (close_line t a u) (values_of (windows t)) ++ told_of (empty_line t a u) (values_of (spaces t))
+
+-- what is focused
+abbrev pub focus_events : TreeValue → List Placed → TreeValue → List Placed → List EventBody
+focus_events t a u b = space_focus t a u b ++ window_focus t u b
+
 -- the events of two trees with their arrangements, in the order in which they are told
 abbrev pub changes : TreeValue → List Placed → TreeValue → List Placed → List EventBody
 changes t a u b =
     output_events t u
     ++ told_of (space_line t u b) (values_of (spaces u))
     ++ told_of (window_line t u b) (values_of (windows u))
-    ++ told_of (close_line t a u) (values_of (windows t))
-    ++ told_of (empty_line t a u) (values_of (spaces t))
-    ++ space_focus t a u b
-    ++ window_focus t u b
+    ++ gone_events t a u
+    ++ focus_events t a u b

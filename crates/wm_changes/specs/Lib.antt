@@ -2,5 +2,6 @@ pub mod Changes
 pub mod Differences
 pub mod FactCode
 pub mod Facts
+pub mod Laws
 pub mod OutputChanges
 pub mod Scene

@@ -1,6 +1,6 @@
 //! The events of two trees.
 ghost use Rattle.std.specs.Prelude.{◌≡◌, ◌++◌, IfOk, OnOk};
-ghost use Rattle.wm_changes.specs.Changes.{changes, output_events};
+ghost use Rattle.wm_changes.specs.Changes.{changes, focus_events, gone_events, output_events};
 ghost use Rattle.wm_changes.specs.Scene.{IsScene};
 ghost use Rattle.wm_tree.specs.Sound.{IsSound};
 
@@ -82,8 +82,36 @@ fn tell_changes(
     tell_outputs(events, old, new)?;
     tell_spaces(events, alloc, old, new)?;
     tell_windows(events, alloc, old, new)?;
+    tell_gone(events, alloc, old, new)?;
+    tell_focus(events, alloc, old, new)
+}
+
+/// Tells of windows and of workspaces that are gone.
+fn tell_gone(
+    events: &mut Vec<EventBody>,
+    alloc: Global,
+    old: &Scene<'_>,
+    new: &Scene<'_>,
+) -> Result<(), NoMemory>
+    requires old { IsScene old.now }
+    requires new { IsScene new.now }
+    ensures { OnOk result (events.new.items ≡ events.old.items ++ gone_events old.now.sight.tree.now old.now.sight.arrangement.now.parts new.now.sight.tree.now) }
+{
     tell_closed(events, alloc, old, new)?;
-    tell_emptied(events, alloc, old, new)?;
+    tell_emptied(events, alloc, old, new)
+}
+
+/// Tells of what is focused.
+fn tell_focus(
+    events: &mut Vec<EventBody>,
+    alloc: Global,
+    old: &Scene<'_>,
+    new: &Scene<'_>,
+) -> Result<(), NoMemory>
+    requires old { IsScene old.now }
+    requires new { IsScene new.now }
+    ensures { OnOk result (events.new.items ≡ events.old.items ++ focus_events old.now.sight.tree.now old.now.sight.arrangement.now.parts new.now.sight.tree.now new.now.sight.arrangement.now.parts) }
+{
     tell_space_focus(events, alloc, old, new)?;
     tell_window_focus(events, alloc, old, new)
 }

@@ -4,6 +4,7 @@
 mod changing;
 mod comparing;
 mod focusing;
+pub mod laws;
 mod lines;
 mod outputs;
 mod scene;
