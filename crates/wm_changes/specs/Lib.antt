@@ -1,0 +1,7 @@
+pub mod Changes
+pub mod Differences
+pub mod FactCode
+pub mod Facts
+pub mod Laws
+pub mod OutputChanges
+pub mod Scene
