@@ -2,6 +2,7 @@ pub mod BackLemmas
 pub mod BeginningLemmas
 pub mod ContentLemmas
 pub mod EntryLemmas
+pub mod EventLemmas
 pub mod FollowLemmas
 pub mod GoneLemmas
 pub mod LawLemmas

@@ -21,8 +21,12 @@ use Rattle.wm_txn.proofs.StandingLemmas.{still_stands}
 use Rattle.wm_opens.specs.Opens.{is_window_of, window_at, windows_at}
 use Rattle.wm_core.specs.DeskValue.{DeskValue, Follows, Stands, StandsFrom, judge_of, kill_after, kill_in, may_come}
 use Rattle.wm_core.specs.Frame.{quad_of, quads, what_of}
-use Rattle.wm_core.specs.Effect.{Effect, Judge, changing, closed, mode_after, passing, rearranged, telling}
-use Rattle.wm_core.specs.History.{Entry, Start, answer, done_by, effect_after, entries, first, judged, kill_of, opening_of, tree}
+use Rattle.wm_changes.specs.Changes.{changes}
+use Rattle.wm_kept.specs.Log.{Log, kept_of}
+use Rattle.wm_core.specs.Events.{IsToldOn, events, later_events, told_by}
+use Rattle.wm_core.proofs.EventLemmas.{later_alone, nothing_by, told_nothing}
+use Rattle.wm_core.specs.Effect.{Effect, Judge, changing, closed, mode_after, passing, rearranged, refused, telling}
+use Rattle.wm_core.specs.History.{Entry, Start, answer, done_by, effect_after, entries, first, judged, kill_of, mode, opening_of, stopped, tree}
 use Rattle.wm_core.proofs.ContentLemmas.{content_held, contents_held}
 use Rattle.wm_core.proofs.FollowLemmas.{closed_are, comes, opens}
 use Rattle.wm_core.proofs.LookLemmas.{wants_same}
@@ -69,7 +73,7 @@ module _ (d : DeskValue) (start : Start) (history : List Entry) (s : StandsFrom 
   answered entry e is = ap (λ (e : Effect). e.answer (judged start history)) (sym (effect_there entry e is))
 
   -- a step with this effect
-  module _ (entry : Entry) (e : Effect) (txn : TxnValue) (kills : List (ℕ × ℕ)) (is : done_by d.plan.env d.tree entry ≡ e)
+  module _ (entry : Entry) (e : Effect) (txn : TxnValue) (log : Log) (kills : List (ℕ × ℕ)) (is : done_by d.plan.env d.tree entry ≡ e) (logged : IsToldOn d.events (told_by d.tree d.mode d.stopped e) log)
       (noted : (v : ConId) → may_come e.tree v ≡ true → kill_in kills v ≡ kill_after e.closes (d.steps + 1) v (kill_in d.kills v)) (came : (v : ConId) → may_come e.tree v ≡ true → may_come d.tree v ≡ true)
       (stands : transactions.Stands o (e.told ∷ h) txn) (same_open : (v : ConId) → open_after e.told v (is_window_of d.tree v) ≡ is_window_of e.tree v)
       (new : (v : ConId) → e.tree.next_id ≤ v.0 → maps v e.told ≡ false) (next : d.tree.next_id ≤ e.tree.next_id) (sound_next : IsSound e.tree)
@@ -95,7 +99,14 @@ module _ (d : DeskValue) (start : Start) (history : List Entry) (s : StandsFrom 
       open_there : (v : ConId) → is_open o v (entries start (entry ∷ history)) ≡ is_window_of e.tree v
       open_there v = subst (λ z. is_open o v z ≡ is_window_of e.tree v) entries_there (ap (open_after e.told v) (s.open_is v) ∙ same_open v)
 
-      pub stands_next : StandsFrom start (record { plan = d.plan; steps = d.steps + 1; tree = e.tree; txn = txn; mode = mode_after e.mode d.mode; stopped = d.stopped || e.stops; kills = kills }) (entry ∷ history)
+      events_there : log ≡ kept_of (events start (entry ∷ history))
+      events_there =
+          let all = events start history in
+          logged all s.events_are
+          ∙ (ap₂ (λ t m. kept_of (all ++ told_by t m d.stopped e)) s.tree_is s.mode_is
+          ∙ ap₂ (λ b x. kept_of (all ++ told_by (tree start history) (mode start history) b x)) s.stopped_is there)
+
+      pub stands_next : StandsFrom start (record { plan = d.plan; steps = d.steps + 1; tree = e.tree; txn = txn; mode = mode_after e.mode d.mode; stopped = d.stopped || e.stops; events = log; kills = kills }) (entry ∷ history)
       stands_next = record {
         env_is = s.env_is;
         config_is = s.config_is;
@@ -104,6 +115,7 @@ module _ (d : DeskValue) (start : Start) (history : List Entry) (s : StandsFrom 
         in_step = (record { sound = subst IsSound tree_there sound_next; open_is = λ v. open_there v ∙ ap (λ t. is_window_of t v) tree_there }, s.in_step);
         mode_is = ap₂ mode_after (ap (λ (e : Effect). e.mode) there) s.mode_is;
         stopped_is = ap₂ (λ a b. a || b) s.stopped_is (ap (λ (e : Effect). e.stops) there);
+        events_are = events_there;
         kills_are = kill_there;
         commits = subst (λ z. transactions.Stands o z txn) entries_there stands;
         open_is = open_there;
@@ -113,17 +125,23 @@ module _ (d : DeskValue) (start : Start) (history : List Entry) (s : StandsFrom 
   -- a step that tells the transactions something, and leaves the tree
   pub stands_told : (entry : Entry) (told : commits.Entry) (said : Judge → Answer) (txn : TxnValue) → done_by d.plan.env d.tree entry ≡ telling told said d.tree
       → ((v : ConId) (b : Bool) → open_after told v b ≡ b) → ((v : ConId) → maps v told ≡ false) → transactions.Stands o (told ∷ h) txn
-      → StandsFrom start (record { plan = d.plan; steps = d.steps + 1; tree = d.tree; txn = txn; mode = d.mode; stopped = d.stopped; kills = d.kills }) (entry ∷ history)
+      → StandsFrom start (record { plan = d.plan; steps = d.steps + 1; tree = d.tree; txn = txn; mode = d.mode; stopped = d.stopped; events = d.events; kills = d.kills }) (entry ∷ history)
   stands_told entry told said txn is same_open new stands =
-      subst (λ b. StandsFrom start (record { plan = d.plan; steps = d.steps + 1; tree = d.tree; txn = txn; mode = d.mode; stopped = b; kills = d.kills }) (entry ∷ history)) (or_false d.stopped)
-      (stands_next entry (telling told said d.tree) txn d.kills is (λ v may. refl) (λ v may. may) stands (λ v. same_open v (is_window_of d.tree v)) (λ v above. new v) (omega arith)
+      subst (λ b. StandsFrom start (record { plan = d.plan; steps = d.steps + 1; tree = d.tree; txn = txn; mode = d.mode; stopped = b; events = d.events; kills = d.kills }) (entry ∷ history)) (or_false d.stopped)
+      (stands_next entry (telling told said d.tree) txn d.events d.kills is (told_nothing d.events (told_by d.tree d.mode d.stopped (telling told said d.tree)) (nothing_by d.tree d.mode d.stopped)) (λ v may. refl) (λ v may. may) stands (λ v. same_open v (is_window_of d.tree v)) (λ v above. new v) (omega arith)
       (subst IsSound (sym s.tree_is) (last_sound start history s.in_step)))
 
+  -- a step that is refused is counted
+  pub stands_counted : (entry : Entry) (said : Answer) → done_by d.plan.env d.tree entry ≡ refused said d.tree
+      → StandsFrom start (record { plan = d.plan; steps = d.steps + 1; tree = d.tree; txn = d.txn; mode = d.mode; stopped = d.stopped; events = d.events; kills = d.kills }) (entry ∷ history)
+  stands_counted entry said is = stands_told entry commits.Still (λ judge. said) d.txn is (λ v b. refl) (λ v. refl) (still_stands o h d.txn s.commits)
+
   -- a step that leaves the tree, and tells the transactions nothing, is counted
-  pub stands_passed : (entry : Entry) (said : Answer) (set : Option (List ℕ)) (stops : Bool) (tick : Option (List ℕ)) → done_by d.plan.env d.tree entry ≡ passing said d.tree set stops tick
-      → StandsFrom start (record { plan = d.plan; steps = d.steps + 1; tree = d.tree; txn = d.txn; mode = mode_after set d.mode; stopped = d.stopped || stops; kills = d.kills }) (entry ∷ history)
-  stands_passed entry said set stops tick is =
-      stands_next entry (passing said d.tree set stops tick) d.txn d.kills is (λ v may. refl) (λ v may. may) (still_stands o h d.txn s.commits) (λ v. refl) (λ v above. refl) (omega arith)
+  pub stands_passed : (entry : Entry) (said : Answer) (set : Option (List ℕ)) (stops : Bool) (tick : Option (List ℕ)) (log : Log) → done_by d.plan.env d.tree entry ≡ passing said d.tree set stops tick
+      → IsToldOn d.events (later_events d.mode d.stopped set stops tick) log
+      → StandsFrom start (record { plan = d.plan; steps = d.steps + 1; tree = d.tree; txn = d.txn; mode = mode_after set d.mode; stopped = d.stopped || stops; events = log; kills = d.kills }) (entry ∷ history)
+  stands_passed entry said set stops tick log is logged =
+      stands_next entry (passing said d.tree set stops tick) d.txn log d.kills is (subst (λ bodies. IsToldOn d.events bodies log) (sym (later_alone d.tree d.mode d.stopped set stops tick)) logged) (λ v may. refl) (λ v may. may) (still_stands o h d.txn s.commits) (λ v. refl) (λ v above. refl) (omega arith)
       (subst IsSound (sym s.tree_is) (last_sound start history s.in_step))
 
   -- ---- a step that leaves a tree
@@ -173,11 +191,12 @@ module _ (d : DeskValue) (start : Start) (history : List Entry) (s : StandsFrom 
             rw (not_fresh v above (is_fresh v fresh) refl, not_yet v (omega (arith, f.next))) refl
         by false false there late may = cc
 
-    pub stands_left : (entry : Entry) (said : Answer) (txn : TxnValue) (set : Option (List ℕ)) (stops : Bool) (ids : List ConId) (kills : List (ℕ × ℕ)) → done_by d.plan.env d.tree entry ≡ changing said d.tree t fresh set stops ids
+    pub stands_left : (entry : Entry) (said : Answer) (txn : TxnValue) (set : Option (List ℕ)) (stops : Bool) (ids : List ConId) (log : Log) (kills : List (ℕ × ℕ)) → done_by d.plan.env d.tree entry ≡ changing said d.tree t fresh set stops ids
+        → IsToldOn d.events (changes d.tree (arranged d.tree) t (arranged t) ++ later_events d.mode d.stopped set stops None) log
         → ((v : ConId) → may_come t v ≡ true → kill_in kills v ≡ kill_after ids (d.steps + 1) v (kill_in d.kills v)) → transactions.Stands o (rearranged d.tree t fresh ∷ h) txn
-        → StandsFrom start (record { plan = d.plan; steps = d.steps + 1; tree = t; txn = txn; mode = mode_after set d.mode; stopped = d.stopped || stops; kills = kills }) (entry ∷ history)
-    stands_left entry said txn set stops ids kills is noted stands =
-        stands_next entry (changing said d.tree t fresh set stops ids) txn kills is noted (λ v may. came v (is_window_of t v) (leb t.next_id v.0) refl refl may) stands (opens d.tree t fresh sound sound_new f) (λ v above. not_fresh v above (is_fresh v fresh) refl) f.next sound_new
+        → StandsFrom start (record { plan = d.plan; steps = d.steps + 1; tree = t; txn = txn; mode = mode_after set d.mode; stopped = d.stopped || stops; events = log; kills = kills }) (entry ∷ history)
+    stands_left entry said txn set stops ids log kills is logged noted stands =
+        stands_next entry (changing said d.tree t fresh set stops ids) txn log kills is logged noted (λ v may. came v (is_window_of t v) (leb t.next_id v.0) refl refl may) stands (opens d.tree t fresh sound sound_new f) (λ v above. not_fresh v above (is_fresh v fresh) refl) f.next sound_new
 
   -- ---- what is asked of windows
 
@@ -222,9 +241,9 @@ pub opens_no_window : (plan : Plan) (t : TreeValue) → t ≡ (opening_of plan).
 opens_no_window plan t opened sound v = sym (not_window t v sound (ap (windows_at v) opened ∙ opens_empty plan v) (is_window_of t v) refl)
 
 -- a desk at the opening of its plan stands for the history without entries
-pub stands_start : (plan : Plan) (t : TreeValue) (txn : TxnValue) (mode : List ℕ) (kills : List (ℕ × ℕ)) → mode ≡ (opening_of plan).mode → t ≡ (opening_of plan).opened → IsSound t → kills ≡ [] → transactions.Stands (first (opening_of plan)) [] txn
-    → Stands (record { plan = plan; steps = 0; tree = t; txn = txn; mode = mode; stopped = false; kills = kills }) []
-stands_start plan t txn mode kills default opened sound none stands = record {
+pub stands_start : (plan : Plan) (t : TreeValue) (txn : TxnValue) (mode : List ℕ) (log : Log) (kills : List (ℕ × ℕ)) → mode ≡ (opening_of plan).mode → log ≡ kept_of [] → t ≡ (opening_of plan).opened → IsSound t → kills ≡ [] → transactions.Stands (first (opening_of plan)) [] txn
+    → Stands (record { plan = plan; steps = 0; tree = t; txn = txn; mode = mode; stopped = false; events = log; kills = kills }) []
+stands_start plan t txn mode log kills default told opened sound none stands = record {
   env_is = refl;
   config_is = refl;
   counted = refl;
@@ -232,6 +251,7 @@ stands_start plan t txn mode kills default opened sound none stands = record {
   in_step = record { sound = subst IsSound opened sound; open_is = λ v. sym (opens_no_window plan t opened sound v) ∙ ap (λ z. is_window_of z v) opened };
   mode_is = default;
   stopped_is = refl;
+  events_are = told;
   kills_are = λ v may. ap (λ m. kill_in m v) none;
   commits = stands;
   open_is = λ v. sym (opens_no_window plan t opened sound v);

@@ -15,7 +15,9 @@ use Rattle.wm_txn.specs.Windows.{find}
 use Rattle.wm_opens.specs.Opens.{is_window_of, owned_at, windows_at}
 use Rattle.wm_core.specs.ByWindow.{put_at, value_at}
 use Rattle.wm_core.specs.Windows.{owner_of, window_count}
+use Rattle.wm_kept.specs.Log.{Log, kept_of, log_code}
 use Rattle.wm_core.specs.Effect.{Judge, mode_after}
+use Rattle.wm_core.specs.Events.{events}
 use Rattle.wm_core.specs.History.{Entry, Start, entries, first, kill_of, mode, opening_of, stopped, tree}
 
 pub record DeskValue : Type 0 where
@@ -31,6 +33,8 @@ pub record DeskValue : Type 0 where
   pub mode : List ℕ
   -- whether a command said that the desk is to stop
   pub stopped : Bool
+  -- the events that are kept, and the number of the last one
+  pub events : Log
   -- by the id of a window, the number of the last step that asked it to close, where it is not forgotten
   pub kills : List (ℕ × ℕ)
 
@@ -45,9 +49,9 @@ kill_after closes number v before = put_at closes number v before
 abbrev pub AreOwners : List (ℕ × ℕ) → TreeValue → Type 0
 AreOwners owners t = (v : ConId) → value_at owners v ≡ owner_of t v
 
--- the desk with this mode set, if any
-abbrev pub in_mode : Option (List ℕ) → DeskValue → DeskValue
-in_mode set d = record d { mode = mode_after set d.mode }
+-- the desk with this mode set, if any, and these events
+abbrev pub in_mode : Option (List ℕ) → Log → DeskValue → DeskValue
+in_mode set log d = record d { mode = mode_after set d.mode; events = log }
 
 -- v is a window of the tree, or its id is still to be given
 abbrev pub may_come : TreeValue → ConId → Bool
@@ -76,6 +80,7 @@ pub record StandsFrom (start : Start) (d : DeskValue) (history : List Entry) : T
   pub in_step : AreInStep start history
   pub mode_is : d.mode ≡ mode start history
   pub stopped_is : d.stopped ≡ stopped start history
+  pub events_are : d.events ≡ kept_of (events start history)
   -- of a window that is gone the number may be forgotten
   pub kills_are : (v : ConId) → may_come d.tree v ≡ true → kill_in d.kills v ≡ kill_of start history v
   pub commits : transactions.Stands (first start) (entries start history) d.txn
@@ -104,7 +109,7 @@ pub record Follows (old new : TreeValue) (fresh : Option (ConId × Buffer)) : Ty
 
 abbrev pub desk_code : Coded DeskValue
 desk_code =
-    code_by ((Plan × (ℕ × TreeValue)) × ((TxnValue × List ℕ) × (Bool × List (ℕ × ℕ))))
-    (coded× (coded× plan.the_row.coded (coded× coded_ℕ tree_code)) (coded× (coded× txn_code (coded_list coded_ℕ)) (coded× coded_bool (coded_list (coded× coded_ℕ coded_ℕ)))))
-    (λ d. ((d.plan, (d.steps, d.tree)), ((d.txn, d.mode), (d.stopped, d.kills))))
-    (λ p. record { plan = p.0.0; steps = p.0.1.0; tree = p.0.1.1; txn = p.1.0.0; mode = p.1.0.1; stopped = p.1.1.0; kills = p.1.1.1 }) (λ _. refl)
+    code_by ((Plan × (ℕ × TreeValue)) × ((TxnValue × List ℕ) × (Bool × (Log × List (ℕ × ℕ)))))
+    (coded× (coded× plan.the_row.coded (coded× coded_ℕ tree_code)) (coded× (coded× txn_code (coded_list coded_ℕ)) (coded× coded_bool (coded× log_code (coded_list (coded× coded_ℕ coded_ℕ))))))
+    (λ d. ((d.plan, (d.steps, d.tree)), ((d.txn, d.mode), (d.stopped, (d.events, d.kills)))))
+    (λ p. record { plan = p.0.0; steps = p.0.1.0; tree = p.0.1.1; txn = p.1.0.0; mode = p.1.0.1; stopped = p.1.1.0; events = p.1.1.1.0; kills = p.1.1.1.1 }) (λ _. refl)

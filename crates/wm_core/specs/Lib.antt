@@ -3,6 +3,7 @@ pub mod ByWindow
 pub mod DeskValue
 pub mod Effect
 pub mod Entries
+pub mod Events
 pub mod Frame
 pub mod History
 pub mod Laws

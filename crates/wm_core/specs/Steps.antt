@@ -1,11 +1,14 @@
 -- What a step of a desk promises.
-use Rattle.std.specs.Prelude.{◌≡◌, ℕ, ◌<◌, ◌^◌, ◌+◌, List, ◌∷◌, Option, Result, IfOk, OnErr, OnOk}
+use Rattle.std.specs.Prelude.{◌≡◌, ℕ, ◌≤◌, ◌<◌, ◌^◌, ◌+◌, List, ◌∷◌, Option, Result, IfOk, OnErr, OnOk}
 use Rattle.wm_base.specs.declared.errors.NoMemory.{NoMemory}
 use Rattle.wm_base.specs.declared.ids.Buffer.{Buffer}
 use Rattle.wm_base.specs.declared.ids.ConId.{ConId}
 use Rattle.wm_tree.specs.Sound.{IsSound}
 use Rattle.wm_tree.specs.TreeValue.{TreeValue}
 use Rattle.wm_core.specs.DeskValue.{DeskValue, Follows, StandsFrom, in_mode, judge_of}
+use Rattle.wm_json.specs.declared.views.EventBody.{EventBody}
+use Rattle.wm_kept.specs.Log.{Log}
+use Rattle.wm_core.specs.Events.{IsToldOn}
 use Rattle.wm_core.specs.History.{Entry, Start, answer, done_by}
 use Rattle.wm_core.specs.declared.step.Answer.{Answer}
 
@@ -45,9 +48,10 @@ pub record Takes (old new : DeskValue) (result : Result Answer NoMemory) (entry 
   pub count : OnOk result (new.steps ≡ old.steps + 1)
   pub err : OnErr result (new ≡ old)
 
--- what is left to answer, and to set this mode, if any, is as a step
-pub record Commits (old new : DeskValue) (set : Option (List ℕ)) (result : Result (Unit {0}) NoMemory) (entry : Entry) : Type 0 where
-  pub stands : OnOk result (GoesOn old (in_mode set new) entry)
+-- what is left to answer, to set this mode, if any, and to tell these events, is as a step
+pub record Commits (old new : DeskValue) (set : Option (List ℕ)) (later : List EventBody) (result : Result (Unit {0}) NoMemory) (entry : Entry) : Type 0 where
+  pub stands : (log : Log) → IsToldOn new.events later log → OnOk result (GoesOn old (in_mode set log new) entry)
+  pub few : OnOk result (new.events.last ≤ old.events.last + 29443)
   pub plan : new.plan ≡ old.plan
   pub count : OnOk result (new.steps ≡ old.steps + 1)
   pub err : OnErr result (new ≡ old)

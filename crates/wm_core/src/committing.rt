@@ -1,12 +1,14 @@
 //! What a step leaves is taken: the tree, its arrangement, and what goes with its windows.
-ghost use Rattle.std.specs.Prelude.{◌≡◌, ℕ, ◌+◌, ◌<◌, ◌^◌, ◌||◌, List, None, Option, IfOk};
+ghost use Rattle.std.specs.Prelude.{◌≡◌, ℕ, ◌+◌, ◌≤◌, ◌<◌, ◌^◌, ◌||◌, List, None, Option, IfOk, length};
 ghost use Rattle.std.specs.Option.{option_map};
 ghost use Rattle.wm_arrange.specs.Arranged.{arranged};
 ghost use Rattle.wm_base.specs.declared.ids.ConId.{ConId};
 ghost use Rattle.wm_core.specs.ByWindow.{left_of, new_or};
-ghost use Rattle.wm_core.specs.DeskValue.{Follows, kill_after, kill_in};
+ghost use Rattle.wm_changes.specs.Changes.{changes};
+ghost use Rattle.wm_core.specs.DeskValue.{Follows, StandsFrom, kill_after, kill_in};
 ghost use Rattle.wm_core.specs.Effect.{changing, closed, leaving, passing, refused};
-ghost use Rattle.wm_core.specs.History.{done_by, Entry};
+ghost use Rattle.wm_core.specs.Events.{later_events};
+ghost use Rattle.wm_core.specs.History.{done_by, Entry, History, Start};
 ghost use Rattle.wm_core.specs.Steps.{Answers, Commits, MayCome, Takes};
 ghost use Rattle.wm_core.specs.Windows.{window_count};
 ghost use Rattle.wm_core.specs.declared.step.Answer.{Answer};
@@ -25,6 +27,8 @@ use std::collections::BTreeMap;
 use std::mem;
 use wm_arrange::{Arrangement, arrange};
 use wm_base::{Buffer, ConId, NoMemory, Text};
+use wm_changes::changes;
+use wm_json::EventBody;
 use wm_tree::Tree;
 
 impl Desk {
@@ -33,17 +37,27 @@ impl Desk {
         requires few { self.old.steps < 2 ^ 48 }
         ensures { (entry : Entry) → done_by self.old.plan.env self.old.tree entry ≡ refused answer self.old.tree → Answers self.old self.new result entry }
     {
-        self.pass(answer, None, false)
+        self.steps += 1;
+        answer
     }
 
-    /// Counts a step that leaves the tree, sets this mode, if any, and stops the desk or not.
-    pub(crate) fn pass(&mut self, answer: Answer, set: Option<Text>, stops: bool) -> Answer
+    /// Counts a step that leaves the tree, sets this mode, if any, stops the desk or not, and tells these events.
+    pub(crate) fn pass(
+        &mut self,
+        answer: Answer,
+        set: Option<Text>,
+        stops: bool,
+        later: Vec<EventBody>,
+    ) -> Answer
         requires few { self.old.steps < 2 ^ 48 }
-        ensures { (entry : Entry) (tick : Option (List ℕ)) → done_by self.old.plan.env self.old.tree entry ≡ passing answer self.old.tree set stops tick → Answers self.old self.new result entry }
+        requires short { length later.items ≤ 3 }
+        ensures { (entry : Entry) (tick : Option (List ℕ)) → done_by self.old.plan.env self.old.tree entry ≡ passing answer self.old.tree set stops tick
+            → later.items ≡ later_events self.old.mode self.old.stopped set stops tick → Answers self.old self.new result entry }
     {
         self.steps += 1;
         set_mode(&mut self.mode, set);
         self.stopped = either(self.stopped, stops);
+        self.events.push_all(later);
         answer
     }
 
@@ -70,7 +84,7 @@ impl Desk {
         closes: &[ConId],
     ) -> Result<(), NoMemory>
         requires { MayCome self.old tree opened }
-        ensures { (entry : Entry) (answer : Answer) (set : Option (List ℕ)) → done_by self.old.plan.env self.old.tree entry ≡ changing answer self.old.tree tree opened set stops closes.now → Commits self.old self.new set result entry }
+        ensures { (entry : Entry) (answer : Answer) (set : Option (List ℕ)) → done_by self.old.plan.env self.old.tree entry ≡ changing answer self.old.tree tree opened set stops closes.now → Commits self.old self.new set (later_events self.old.mode self.old.stopped set stops None) result entry }
     {
         let mut tree = tree;
         let done = self.exchange(&mut tree, opened, stops, closes);
@@ -87,7 +101,7 @@ impl Desk {
         closes: &[ConId],
     ) -> Result<(), NoMemory>
         requires { MayCome self.old tree.old opened }
-        ensures { (entry : Entry) (answer : Answer) (set : Option (List ℕ)) → done_by self.old.plan.env self.old.tree entry ≡ changing answer self.old.tree tree.old opened set stops closes.now → Commits self.old self.new set result entry }
+        ensures { (entry : Entry) (answer : Answer) (set : Option (List ℕ)) → done_by self.old.plan.env self.old.tree entry ≡ changing answer self.old.tree tree.old opened set stops closes.now → Commits self.old self.new set (later_events self.old.mode self.old.stopped set stops None) result entry }
     {
         let change = self.change_to(tree, opened, closes)?;
         if let Err(error) = own(&mut self.owners, tree, opened) {
@@ -99,16 +113,19 @@ impl Desk {
             newest,
             windows,
             gone,
+            events,
         } = change;
         if let Err(error) = self.txn.admit(self.steps, newest, opened, &gone) {
             disown(&mut self.owners, opened);
             drop(noted);
+            drop(events);
             return Err(error);
         }
         self.steps += 1;
         mem::swap(&mut self.tree, tree);
         self.windows = windows;
         self.stopped = either(self.stopped, stops);
+        self.events.push_all(events);
         note(&mut self.kills, noted, &gone);
         forget_owners(&mut self.owners, &gone);
         Ok(())
@@ -128,28 +145,49 @@ impl Desk {
         ensures newest { IfOk result (λ change. change.newest.parts ≡ arranged tree.now) }
         ensures windows { IfOk result (λ change. change.windows ≡ window_count tree.now) }
         ensures gone { Follows self.now.tree tree.now opened → IfOk result (λ change. change.gone.items ≡ closed self.now.tree tree.now opened) }
+        ensures events { (start : Start) (history : History) → StandsFrom start self.now history → IfOk result (λ change. change.events.items ≡ changes self.now.tree (arranged self.now.tree) tree.now (arranged tree.now)) }
+        ensures few { IfOk result (λ change. length change.events.items ≤ 29443) }
     {
         let noted = noted(&self.kills, closes, self.steps + 1)?;
-        let newest = arrange(self.alloc, tree)?;
         let windows = window_count(tree);
         let gone = closed(self.alloc, &self.tree, self.windows, tree, windows, opened)?;
+        let (newest, events) = self.rearrange(tree)?;
         Ok(Change {
             noted,
             newest,
             windows,
             gone,
+            events,
         })
+    }
+
+    /// The arrangement of a new tree, and the events that tell what is new in it.
+    fn rearrange(&self, tree: &Tree) -> Result<(Arrangement, Vec<EventBody>), NoMemory>
+        requires { trees.IsSound tree.now }
+        ensures newest { IfOk result (λ r. r.0.parts ≡ arranged tree.now) }
+        ensures events { (start : Start) (history : History) → StandsFrom start self.now history → IfOk result (λ r. r.1.items ≡ changes self.now.tree (arranged self.now.tree) tree.now (arranged tree.now)) }
+        ensures few { IfOk result (λ r. length r.1.items ≤ 29443) }
+    {
+        let newest = arrange(self.alloc, tree)?;
+        match changes(self.alloc, &self.tree, self.txn.newest(), tree, &newest) {
+            Ok(events) => Ok((newest, events)),
+            Err(error) => {
+                drop(newest);
+                Err(error)
+            }
+        }
     }
 }
 
 /// What changes with a new tree: the steps that asked windows to close, where some are asked, its arrangement, how many
-/// windows it has, and the windows that were closed.
+/// windows it has, the windows that were closed, and the events that tell it.
 #[derive(Drop)]
 struct Change {
     noted: Option<BTreeMap<u32, u64>>,
     newest: Arrangement,
     windows: u32,
     gone: Vec<ConId>,
+    events: Vec<EventBody>,
 }
 
 /// Takes the numbers of the steps that asked windows to close, if any were asked, and forgets those of windows that are gone.

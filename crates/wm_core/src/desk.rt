@@ -14,6 +14,7 @@ use std::collections::BTreeMap;
 use std::marker::Model;
 use wm_base::{List, NoMemory, Text};
 use wm_ids::IdMap;
+use wm_kept::Kept;
 use wm_layouts::Plan;
 use wm_paint::Frame;
 use wm_tree::Tree;
@@ -29,6 +30,7 @@ pub struct Desk {
     pub(crate) txn: Txn,
     pub(crate) mode: Text,
     pub(crate) stopped: bool,
+    pub(crate) events: Kept,
     pub(crate) kills: BTreeMap<u32, u64>,
     /// By the id of each open window, the number of its caller.
     pub(crate) owners: IdMap<u32>,
@@ -37,7 +39,7 @@ pub struct Desk {
 }
 
 impl Model for Desk {
-    ghost use Rattle.std.specs.Prelude.{◌≡◌, ◌≤◌};
+    ghost use Rattle.std.specs.Prelude.{◌≡◌, ◌≤◌, ◌*◌};
     ghost use Rattle.wm_tree.specs.Sound as trees;
     ghost use Rattle.wm_core.specs.DeskValue.{AreOwners, DeskValue, desk_code};
     ghost use Rattle.wm_core.specs.Windows.{window_count};
@@ -47,9 +49,9 @@ impl Model for Desk {
 
     ghost coded = { desk_code };
 
-    ghost view = { λ d. record { plan = d.plan; steps = d.steps; tree = d.tree; txn = d.txn; mode = d.mode; stopped = d.stopped; kills = d.kills.entries } };
+    ghost view = { λ d. record { plan = d.plan; steps = d.steps; tree = d.tree; txn = d.txn; mode = d.mode; stopped = d.stopped; events = d.events; kills = d.kills.entries } };
 
-    ghost invariant = { λ d. (((last_prefix d.txn ≤ d.steps) × (d.windows ≡ window_count d.tree)) × AreOwners d.owners d.tree) × trees.IsSound d.tree };
+    ghost invariant = { λ d. ((((last_prefix d.txn ≤ d.steps) × (d.events.last ≤ d.steps * 65535)) × (d.windows ≡ window_count d.tree)) × AreOwners d.owners d.tree) × trees.IsSound d.tree };
 }
 
 impl Desk {
@@ -70,7 +72,7 @@ impl Desk {
             Step::OutputAdd { plan } => self.add_output(who, plan),
             Step::OutputRemove { name } => self.remove_output(who, name),
             Step::Reserve { name, edges } => self.reserve(who, name, *edges),
-            Step::Tick { .. } => Ok(self.pass(Answer::Done, None, false)),
+            Step::Tick { payload } => self.tick(who, payload),
             Step::Key { .. } => unreachable!(),
         }
     }

@@ -2,6 +2,7 @@
 #![tactic(auto)]
 
 mod asked;
+mod beside;
 mod by_window;
 mod client;
 mod committing;

@@ -5,19 +5,21 @@ ghost use Rattle.wm_criteria.specs.declared.verdict.Verdict.TheVariants.{Ready};
 ghost use Rattle.wm_core.specs.declared.step.Answer.TheVariants.{Replies};
 ghost use Rattle.wm_criteria.specs.Prepared.{is_built};
 ghost use Rattle.std.specs.Prelude.{◌≡◌, ◌<◌, ◌^◌, [], ◌∷◌, map, None, IsTrue};
-ghost use Rattle.wm_core.specs.Act.{Run, text_of};
+ghost use Rattle.wm_core.specs.Act.{Run, Tick, text_of};
 ghost use Rattle.wm_core.specs.Effect.{changing, idled, ran, refused, reply_to};
+ghost use Rattle.wm_core.specs.Events.{later_events};
 ghost use Rattle.wm_core.specs.History.{Entry, done_by};
 ghost use Rattle.wm_core.specs.Steps.{MayCome, Takes};
 
+use crate::beside::later_events;
 use crate::desk::Desk;
 use crate::modes::set_mode;
 use crate::replies::replies_to;
 use crate::step::Answer;
 use wm_apply::{Applied, is_quiet, run, run_quiet};
-use wm_base::{List, NoMemory};
+use wm_base::{List, NoMemory, Str};
 use wm_criteria::{Prepared, Verdict};
-use wm_json::Reply;
+use wm_json::{EventBody, Reply, copy_str};
 use wm_language::Batch;
 use wm_tree::Tree;
 
@@ -53,15 +55,54 @@ impl Desk {
         requires { MayCome self.old tree None }
         ensures { (entry : Entry) → done_by self.old.plan.env self.old.tree entry ≡ changing (Replies (map reply_to applied.old.replies)) self.old.tree tree None applied.old.mode applied.old.exit applied.old.kills → Takes self.old self.new result entry }
     {
-        match replies_to(self.alloc, applied.replies.items()) {
-            Ok(replies) => {
-                self.commit(tree, None, applied.exit, applied.kills.items())?;
+        match self.beside(applied) {
+            Ok((replies, later)) => self.take_with(tree, applied, replies, later),
+            Err(error) => {
+                drop(tree);
+                Err(error)
+            }
+        }
+    }
+
+    /// The replies to the commands of a text, and what it tells beside the trees.
+    fn beside(&self, applied: &Applied) -> Result<(Vec<Reply>, Vec<EventBody>), NoMemory>
+        ensures replies { IfOk result (λ r. r.0.items ≡ map reply_to applied.now.replies) }
+        ensures later { IfOk result (λ r. r.1.items ≡ later_events self.now.mode self.now.stopped applied.now.mode applied.now.exit None) }
+    {
+        let replies = replies_to(self.alloc, applied.replies.items())?;
+        let later = later_events(
+            self.alloc,
+            &self.mode,
+            self.stopped,
+            &applied.mode,
+            applied.exit,
+            None,
+        )?;
+        Ok((replies, later))
+    }
+
+    /// Takes the tree, and then these replies and events.
+    fn take_with(
+        &mut self,
+        tree: Tree,
+        applied: &mut Applied,
+        replies: Vec<Reply>,
+        later: Vec<EventBody>,
+    ) -> Result<Answer, NoMemory>
+        requires come { MayCome self.old tree None }
+        requires replies { replies.items ≡ map reply_to applied.old.replies }
+        requires later { later.items ≡ later_events self.old.mode self.old.stopped applied.old.mode applied.old.exit None }
+        ensures { (entry : Entry) → done_by self.old.plan.env self.old.tree entry ≡ changing (Replies (map reply_to applied.old.replies)) self.old.tree tree None applied.old.mode applied.old.exit applied.old.kills → Takes self.old self.new result entry }
+    {
+        match self.commit(tree, None, applied.exit, applied.kills.items()) {
+            Ok(()) => {
                 set_mode(&mut self.mode, applied.mode.take());
+                self.events.push_all(later);
                 Ok(Answer::Replies(List::of(replies)))
             }
-            Err(_) => {
-                drop(tree);
-                Err(NoMemory)
+            Err(error) => {
+                drop(later);
+                Err(error)
             }
         }
     }
@@ -74,8 +115,33 @@ impl Desk {
     {
         let applied = run_quiet(self.alloc, &self.plan.env, batch)?;
         let replies = replies_to(self.alloc, applied.replies.items())?;
+        let later = later_events(
+            self.alloc,
+            &self.mode,
+            self.stopped,
+            &applied.mode,
+            applied.exit,
+            None,
+        )?;
         let answer = Answer::Replies(List::of(replies));
-        Ok(self.pass(answer, applied.mode, applied.exit))
+        Ok(self.pass(answer, applied.mode, applied.exit, later))
+    }
+
+    /// Tells a tick, which changes nothing else.
+    pub(crate) fn tick(&mut self, who: u32, payload: &Str) -> Result<Answer, NoMemory>
+        requires few { self.old.steps < 2 ^ 48 }
+        ensures { Takes self.old self.new result (record { who = who; act = Tick payload.now }) }
+    {
+        let tick = copy_str(self.alloc, payload)?;
+        let later = later_events(
+            self.alloc,
+            &self.mode,
+            self.stopped,
+            &None,
+            false,
+            Some(tick),
+        )?;
+        Ok(self.pass(Answer::Done, None, false, later))
     }
 
     /// Answers a text that is not run with this reply, and changes nothing.

@@ -1,8 +1,9 @@
 //! The opening of a desk.
-ghost use Rattle.std.specs.Prelude.{◌≡◌, [], IfOk};
+ghost use Rattle.std.specs.Prelude.{◌≡◌, [], codes, IfOk};
 ghost use Rattle.wm_arrange.specs.Arranged.{arranged};
 ghost use Rattle.wm_core.specs.DeskValue.{Stands};
 ghost use Rattle.wm_core.specs.History.{first, opening_of};
+ghost use Rattle.wm_kept.specs.Log.{kept_of};
 ghost use Rattle.wm_layouts.specs.Plan.{IsSound};
 ghost use Rattle.wm_tree.specs.Sound as trees;
 ghost use Rattle.wm_txn.specs.Machine.{last_prefix};
@@ -17,6 +18,7 @@ use std::collections::BTreeMap;
 use wm_arrange::arrange;
 use wm_base::{NoMemory, Text};
 use wm_ids::IdMap;
+use wm_kept::Kept;
 use wm_layouts::Plan;
 use wm_tree::Tree;
 use wm_txn::Txn;
@@ -28,8 +30,8 @@ impl Desk {
         ensures plan { IfOk result (λ desk. desk.plan ≡ plan) }
         ensures stands { IfOk result (λ desk. Stands desk []) }
     {
-        match opening(alloc, &plan) {
-            Ok((tree, txn, mode)) => {
+        match all_of(alloc, &plan) {
+            Ok(((tree, txn), (mode, events))) => {
                 let windows = window_count(&tree);
                 Ok(Desk {
                     alloc,
@@ -39,6 +41,7 @@ impl Desk {
                     txn,
                     mode,
                     stopped: false,
+                    events,
                     kills: BTreeMap::new(alloc),
                     owners: IdMap::new(alloc),
                     windows,
@@ -52,20 +55,48 @@ impl Desk {
     }
 }
 
-/// The tree, the transactions and the mode at the opening of a plan.
-fn opening(alloc: Global, plan: &Plan) -> Result<(Tree, Txn, Text), NoMemory>
+/// The mode and the events with which a desk opens.
+fn quiet(alloc: Global) -> Result<(Text, Kept), NoMemory>
+    ensures mode { IfOk result (λ r. r.0 ≡ codes "default") }
+    ensures events { IfOk result (λ r. r.1 ≡ kept_of []) }
+{
+    let mode = default_mode(alloc)?;
+    let events = Kept::new(alloc)?;
+    Ok((mode, events))
+}
+
+/// All with which a desk opens.
+fn all_of(alloc: Global, plan: &Plan) -> Result<((Tree, Txn), (Text, Kept)), NoMemory>
+    requires { IsSound plan.now }
+    ensures tree { IfOk result (λ r. r.0.0 ≡ (opening_of plan.now).opened) }
+    ensures sound { IfOk result (λ r. trees.IsSound r.0.0) }
+    ensures stands { IfOk result (λ r. transactions.Stands (first (opening_of plan.now)) [] r.0.1) }
+    ensures prefix { IfOk result (λ r. last_prefix r.0.1 ≡ 0) }
+    ensures mode { IfOk result (λ r. r.1.0 ≡ (opening_of plan.now).mode) }
+    ensures events { IfOk result (λ r. r.1.1 ≡ kept_of []) }
+{
+    let quiet = quiet(alloc)?;
+    match opening(alloc, plan) {
+        Ok(opened) => Ok((opened, quiet)),
+        Err(error) => {
+            drop(quiet);
+            Err(error)
+        }
+    }
+}
+
+/// The tree and the transactions at the opening of a plan.
+fn opening(alloc: Global, plan: &Plan) -> Result<(Tree, Txn), NoMemory>
     requires { IsSound plan.now }
     ensures tree { IfOk result (λ r. r.0 ≡ (opening_of plan.now).opened) }
     ensures sound { IfOk result (λ r. trees.IsSound r.0) }
     ensures stands { IfOk result (λ r. transactions.Stands (first (opening_of plan.now)) [] r.1) }
     ensures prefix { IfOk result (λ r. last_prefix r.1 ≡ 0) }
-    ensures mode { IfOk result (λ r. r.2 ≡ (opening_of plan.now).mode) }
 {
-    let mode = default_mode(alloc)?;
     let outputs = plan.outputs.items();
     let tree = Tree::start(alloc, outputs, plan.border, plan.inner, plan.outer)?;
     match first_of(alloc, &tree) {
-        Ok(txn) => Ok((tree, txn, mode)),
+        Ok(txn) => Ok((tree, txn)),
         Err(error) => {
             drop(tree);
             Err(error)

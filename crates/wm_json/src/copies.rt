@@ -5,7 +5,7 @@ use std::alloc::{AllocError, Global};
 use wm_base::{List, Props, Str, Text};
 
 /// An equal word.
-pub(crate) fn copy_str(alloc: Global, word: &Str) -> Result<Str, AllocError>
+pub fn copy_str(alloc: Global, word: &Str) -> Result<Str, AllocError>
     ensures { IfOk result (λ copy. copy ≡ word.now) }
 {
     Ok(Str::of(String::from_str(alloc, word.as_str())?))

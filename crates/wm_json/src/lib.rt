@@ -13,7 +13,7 @@ mod values;
 mod views;
 mod write;
 
-pub use copies::copy_texts;
+pub use copies::{copy_str, copy_texts};
 pub use event_copies::kind_of;
 pub use events::event_value;
 pub use nodes::node_value;

@@ -19,7 +19,7 @@ returns-then-not-is_window c =
 pub returns : goal.returns
 returns c =
     let i = c.self.inside in
-    let d : DeskValue = record { plan = i.plan; steps = i.steps; tree = i.tree; txn = i.txn; mode = i.mode; stopped = i.stopped; kills = i.kills.entries } in
+    let d : DeskValue = record { plan = i.plan; steps = i.steps; tree = i.tree; txn = i.txn; mode = i.mode; stopped = i.stopped; events = i.events; kills = i.kills.entries } in
     let entry : Entry = record { who = c.args.who; act = Ack c.args.con c.args.serial } in
     let said : Judge → Answer = λ judge. ack_said (judge c.args.con c.args.serial) in
     let its : is_window d.tree c.args.who c.args.con ≡ true = rw (← c.self.view_is) at (sym c.is_window.ensures.value ∙ c.if-not-is_window.false) in

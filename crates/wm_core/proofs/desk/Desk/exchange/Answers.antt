@@ -21,7 +21,7 @@ kept_by false number gone = refl
 pub returns : goal.returns
 returns c = λ entry said set is.
     let i = c.self.inside in
-    let d : DeskValue = record { plan = i.plan; steps = i.steps; tree = i.tree; txn = i.txn; mode = i.mode; stopped = i.stopped; kills = i.kills.entries } in
+    let d : DeskValue = record { plan = i.plan; steps = i.steps; tree = i.tree; txn = i.txn; mode = i.mode; stopped = i.stopped; events = i.events; kills = i.kills.entries } in
     let t = c.args.tree.now in
     let fresh = c.args.opened in
     let here : done_by d.plan.env d.tree entry ≡ changing said d.tree t fresh set c.args.stops c.args.closes.now = rw (← c.self.view_is) at is in

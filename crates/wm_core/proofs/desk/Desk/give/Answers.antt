@@ -26,7 +26,7 @@ returns-then-has_no_pixels c =
 pub returns : goal.returns
 returns c =
     let i = c.self.inside in
-    let d : DeskValue = record { plan = i.plan; steps = i.steps; tree = i.tree; txn = i.txn; mode = i.mode; stopped = i.stopped; kills = i.kills.entries } in
+    let d : DeskValue = record { plan = i.plan; steps = i.steps; tree = i.tree; txn = i.txn; mode = i.mode; stopped = i.stopped; events = i.events; kills = i.kills.entries } in
     let entry : Entry = record { who = c.args.who; act = Give c.args.con c.args.buffer } in
     let told = commits.Gave c.args.con c.args.buffer in
     let its : is_window d.tree c.args.who c.args.con ≡ true = rw (← c.self.view_is) at (sym c.is_window.ensures.value ∙ c.if-not-is_window.false) in

@@ -9,7 +9,7 @@ use Rattle.wm_core.proofs.desk.Desk.pass.Goals as goal
 pub returns : goal.returns
 returns c = λ entry tick is.
     let i = c.self.inside in
-    let d : DeskValue = record { plan = i.plan; steps = i.steps; tree = i.tree; txn = i.txn; mode = i.mode; stopped = i.stopped; kills = i.kills.entries } in
+    let d : DeskValue = record { plan = i.plan; steps = i.steps; tree = i.tree; txn = i.txn; mode = i.mode; stopped = i.stopped; events = i.events; kills = i.kills.entries } in
     let e = passing c.args.answer d.tree c.args.set c.args.stops tick in
     let here : done_by d.plan.env d.tree entry ≡ e = rw (← c.self.view_is) at is in
     record {

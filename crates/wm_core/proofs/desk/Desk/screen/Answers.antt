@@ -10,7 +10,7 @@ use Rattle.wm_core.proofs.desk.Desk.screen.Goals as goal
 pub returns-clause-rect : goal.returns-clause-rect
 returns-clause-rect c = λ start history s.
     let i = c.self.inside in
-    let d : DeskValue = record { plan = i.plan; steps = i.steps; tree = i.tree; txn = i.txn; mode = i.mode; stopped = i.stopped; kills = i.kills.entries } in
+    let d : DeskValue = record { plan = i.plan; steps = i.steps; tree = i.tree; txn = i.txn; mode = i.mode; stopped = i.stopped; events = i.events; kills = i.kills.entries } in
     let stood : StandsFrom start d history = rw (← c.self.view_is) at s in
     let shown = c.items.ensures ∙ c.current.ensures.history (first start) (entries start history) stood.commits in
     c.first_back.ensures ∙ (ap first_back shown ∙ screen_is start history stood.in_step)

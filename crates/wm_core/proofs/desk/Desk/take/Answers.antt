@@ -14,7 +14,7 @@ returns-in_ok-commit-in-Ok c = λ entry is.
     let here = is ∙ ap (λ ids. changing said d.tree c.args.tree None c.args.applied.now.mode c.args.applied.now.exit ids) (sym c.items-in-Ok.ensures) in
     let i = c.self-in-Ok.inside in
     let set = c.args.applied.now.mode in
-    let b : DeskValue = record { plan = i.plan; steps = i.steps; tree = i.tree; txn = i.txn; mode = i.mode; stopped = i.stopped; kills = i.kills.entries } in
+    let b : DeskValue = record { plan = i.plan; steps = i.steps; tree = i.tree; txn = i.txn; mode = i.mode; stopped = i.stopped; events = i.events; kills = i.kills.entries } in
     let made : Takes d (in_mode set c.commit.new.self) (Ok said) entry =
     answered_after d c.commit.new.self set said entry (there_by d entry _ is) (λ start history s. answered d start history s entry _ is) (c.in_ok-commit-in-Ok.ensures entry said set here) in
     let in_it : Takes d (in_mode set b) (Ok said) entry = subst (λ x. Takes d (in_mode set x) (Ok said) entry) (sym c.self-in-Ok.view_is) made in

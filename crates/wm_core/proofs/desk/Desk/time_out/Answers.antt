@@ -12,7 +12,7 @@ use Rattle.wm_core.proofs.desk.Desk.time_out.Goals as goal
 pub returns : goal.returns
 returns c =
     let i = c.self.inside in
-    let d : DeskValue = record { plan = i.plan; steps = i.steps; tree = i.tree; txn = i.txn; mode = i.mode; stopped = i.stopped; kills = i.kills.entries } in
+    let d : DeskValue = record { plan = i.plan; steps = i.steps; tree = i.tree; txn = i.txn; mode = i.mode; stopped = i.stopped; events = i.events; kills = i.kills.entries } in
     let entry : Entry = record { who = c.args.who; act = Deadline c.args.number } in
     let told = commits.Deadline c.args.number in
     record {
