@@ -1,3 +1,4 @@
+pub mod CameLemmas
 pub mod EntryLemmas
 pub mod FactLemmas
 pub mod StillLemmas
