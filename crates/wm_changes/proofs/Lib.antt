@@ -1,3 +1,5 @@
+pub mod CameLemmas
 pub mod EntryLemmas
 pub mod FactLemmas
+pub mod FewLemmas
 pub mod StillLemmas

@@ -4,6 +4,7 @@ use Rattle.std.proofs.lemmas.Bool.Decides.{nat_tests, Decides-eqb, Decides-int_e
 use Rattle.std.proofs.lemmas.Slice.Eq.{bytes_eq-Decides, slice_eq-Decides}
 use Rattle.std.specs.BTreeMap.{is_at}
 use Rattle.std.specs.Cmp.Lexicographic.{pointwise}
+use Rattle.std.specs.List.{flat_map}
 use Rattle.std.specs.List.Sorted.{IsStrictlySortedBy}
 use Rattle.std.specs.Map.{keys_of, lookup, values_of}
 use Rattle.std.specs.Ordering.{nat_cmp, int_eq}
@@ -15,7 +16,7 @@ use Rattle.wm_base.specs.declared.geometry.Rect.{Rect}
 use Rattle.wm_base.specs.declared.ids.ConId.{ConId}
 use Rattle.wm_changes.specs.declared.words.Change.{Change}
 use Rattle.wm_changes.specs.declared.words.Change.TheVariants.{Close, Empty}
-use Rattle.wm_changes.specs.Changes.{changes, close_line, empty_line, focus_events, space_line, told, told_of, window_line}
+use Rattle.wm_changes.specs.Changes.{changes, close_line, empty_line, focus_events, space_line, told, window_line}
 use Rattle.wm_changes.specs.Differences.{Word, differences, same_flag, same_id, space_words, title, window_words}
 use Rattle.wm_changes.specs.Facts.{SpaceFact, WindowFact, put_spaces, put_windows, spaces, spaces_in, top, windows, windows_in}
 use Rattle.wm_changes.specs.OutputChanges.{are_kept, has_output, is_kept, is_output, outputs_differ, same_edges}
@@ -92,7 +93,7 @@ none_differs t w event =
 window_found : (t : TreeValue) (found : Option WindowFact) (w : WindowFact) (event : Change → EventBody) → found ≡ Some w → told event (window_words t t found w) ≡ []
 window_found t found w event is = rw (is) (none_differs t w event)
 
-windows_still : (t : TreeValue) (a : List Placed) (es : List (ℕ × WindowFact)) → Found (windows t) es → Keyed (λ w. w.part.id.0) es → told_of (window_line t t a) (values_of es) ≡ []
+windows_still : (t : TreeValue) (a : List Placed) (es : List (ℕ × WindowFact)) → Found (windows t) es → Keyed (λ w. w.part.id.0) es → flat_map (window_line t t a) (values_of es) ≡ []
 windows_still t a [] found keyed = refl
 windows_still t a (e ∷ es) found keyed =
     let here : value_at (windows t) e.1.part.id ≡ Some e.1 = ap (λ n. lookup (is_at (nat_cmp n)) (windows t)) (sym keyed.0) ∙ found.0 in
@@ -102,7 +103,7 @@ windows_still t a (e ∷ es) found keyed =
 gone_not : {V : Type 0} (m : List (ℕ × V)) (c : ConId) (v : V) (event : Change → EventBody) (change : Change) → value_at m c ≡ Some v → told event ((not (holds m c), change) ∷ []) ≡ []
 gone_not m c v event change is = rw (ap is_some is) refl
 
-closed_still : (t : TreeValue) (a : List Placed) (es : List (ℕ × WindowFact)) → Found (windows t) es → Keyed (λ w. w.part.id.0) es → told_of (close_line t a t) (values_of es) ≡ []
+closed_still : (t : TreeValue) (a : List Placed) (es : List (ℕ × WindowFact)) → Found (windows t) es → Keyed (λ w. w.part.id.0) es → flat_map (close_line t a t) (values_of es) ≡ []
 closed_still t a [] found keyed = refl
 closed_still t a (e ∷ es) found keyed =
     let here : value_at (windows t) e.1.part.id ≡ Some e.1 = ap (λ n. lookup (is_at (nat_cmp n)) (windows t)) (sym keyed.0) ∙ found.0 in
@@ -122,13 +123,13 @@ keyed_windows (w ∷ ws) = keyed_insert (λ w. w.part.id.0) w (put_windows ws []
 space_found : (found : Option SpaceFact) (s : SpaceFact) (event : Change → EventBody) → found ≡ Some s → told event (space_words found s) ≡ []
 space_found found s event is = rw (is) (rw (text_own s.state.name, same_number s.output_id.0) refl)
 
-spaces_still : (t : TreeValue) (a : List Placed) (es : List (ℕ × SpaceFact)) → Found (spaces t) es → Keyed (λ s. s.part.id.0) es → told_of (space_line t t a) (values_of es) ≡ []
+spaces_still : (t : TreeValue) (a : List Placed) (es : List (ℕ × SpaceFact)) → Found (spaces t) es → Keyed (λ s. s.part.id.0) es → flat_map (space_line t t a) (values_of es) ≡ []
 spaces_still t a [] found keyed = refl
 spaces_still t a (e ∷ es) found keyed =
     let here : value_at (spaces t) e.1.part.id ≡ Some e.1 = ap (λ n. lookup (is_at (nat_cmp n)) (spaces t)) (sym keyed.0) ∙ found.0 in
     rw (space_found (value_at (spaces t) e.1.part.id) e.1 _ here) (spaces_still t a es found.1 keyed.1)
 
-emptied_still : (t : TreeValue) (a : List Placed) (es : List (ℕ × SpaceFact)) → Found (spaces t) es → Keyed (λ s. s.part.id.0) es → told_of (empty_line t a t) (values_of es) ≡ []
+emptied_still : (t : TreeValue) (a : List Placed) (es : List (ℕ × SpaceFact)) → Found (spaces t) es → Keyed (λ s. s.part.id.0) es → flat_map (empty_line t a t) (values_of es) ≡ []
 emptied_still t a [] found keyed = refl
 emptied_still t a (e ∷ es) found keyed =
     let here : value_at (spaces t) e.1.part.id ≡ Some e.1 = ap (λ n. lookup (is_at (nat_cmp n)) (spaces t)) (sym keyed.0) ∙ found.0 in

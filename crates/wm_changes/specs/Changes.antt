@@ -1,5 +1,5 @@
 -- The events that two trees, one before and one after, tell of.
-use Rattle.std.specs.Prelude.{ℕ, Bool, true, false, not, if◌then◌else◌, List, [], ◌∷◌, ◌++◌, Option, None, Some, option_map}
+use Rattle.std.specs.Prelude.{ℕ, Bool, true, false, not, if◌then◌else◌, List, [], ◌∷◌, ◌++◌, flat_map, Option, None, Some, option_map}
 use Rattle.std.specs.Map.{values_of}
 use Rattle.wm_arrange.specs.declared.parts.Placed.{Placed}
 use Rattle.wm_arrange.specs.AreaOf.{nowhere}
@@ -62,11 +62,6 @@ focus_of (Some view) = window_event view Focus ∷ []
 
 -- ---- all events
 
--- what is told of each of a list
-abbrev pub told_of : {A : Type 0} → (A → List EventBody) → List A → List EventBody
-told_of events [] = []
-told_of events (x ∷ xs) = events x ++ told_of events xs
-
 abbrev pub output_events : TreeValue → TreeValue → List EventBody
 output_events t u = if outputs_differ t u then body.Output ∷ [] else []
 
@@ -96,7 +91,7 @@ window_focus t u b = if same (focused t) (focused u) then [] else focus_of (opti
 
 -- windows and workspaces that are gone
 abbrev pub gone_events : TreeValue → List Placed → TreeValue → List EventBody
-gone_events t a u = told_of (close_line t a u) (values_of (windows t)) ++ told_of (empty_line t a u) (values_of (spaces t))
+gone_events t a u = flat_map (close_line t a u) (values_of (windows t)) ++ flat_map (empty_line t a u) (values_of (spaces t))
 
 -- what is focused
 abbrev pub focus_events : TreeValue → List Placed → TreeValue → List Placed → List EventBody
@@ -106,7 +101,7 @@ focus_events t a u b = space_focus t a u b ++ window_focus t u b
 abbrev pub changes : TreeValue → List Placed → TreeValue → List Placed → List EventBody
 changes t a u b =
     output_events t u
-    ++ told_of (space_line t u b) (values_of (spaces u))
-    ++ told_of (window_line t u b) (values_of (windows u))
+    ++ flat_map (space_line t u b) (values_of (spaces u))
+    ++ flat_map (window_line t u b) (values_of (windows u))
     ++ gone_events t a u
     ++ focus_events t a u b

@@ -1,5 +1,5 @@
 -- Laws of the events of two trees.
-use Rattle.std.specs.Prelude.{◌≡◌, ◌≤◌, ℕ, not, if◌then◌else◌, List, [], ◌∷◌, ◌++◌, length, map, filter, codes}
+use Rattle.std.specs.Prelude.{◌≡◌, ◌≤◌, ℕ, not, if◌then◌else◌, List, [], ◌∷◌, length, map, filter, flat_map, codes}
 use Rattle.std.specs.Map.{values_of}
 use Rattle.std.specs.Str.{bytes_eq}
 use Rattle.wm_arrange.specs.declared.parts.Placed.{Placed}
@@ -30,8 +30,7 @@ window_told word event = []
 
 -- the windows of which events tell the word
 abbrev pub windows_told : List ℕ → List EventBody → List ℕ
-windows_told word [] = []
-windows_told word (event ∷ events) = window_told word event ++ windows_told word events
+windows_told word events = flat_map (window_told word) events
 
 -- the windows of a tree that another one has not
 abbrev pub other_windows : TreeValue → TreeValue → List ℕ
@@ -54,8 +53,7 @@ space_told word event = []
 
 -- the workspaces of which events tell the word
 abbrev pub spaces_told : List ℕ → List EventBody → List ℕ
-spaces_told word [] = []
-spaces_told word (event ∷ events) = space_told word event ++ spaces_told word events
+spaces_told word events = flat_map (space_told word) events
 
 -- the workspaces of a tree that another one has not
 abbrev pub other_spaces : TreeValue → TreeValue → List ℕ

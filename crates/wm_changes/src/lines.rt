@@ -1,8 +1,8 @@
 //! The lines of events: workspaces and windows that are there now, and those that are gone.
-ghost use Rattle.std.specs.Prelude.{◌≡◌, ◌++◌, OnOk};
+ghost use Rattle.std.specs.Prelude.{◌≡◌, ◌++◌, OnOk, flat_map};
 ghost use Rattle.std.specs.BTreeMap.{values};
 ghost use Rattle.std.specs.Map.{values_of};
-ghost use Rattle.wm_changes.specs.Changes.{close_line, empty_line, space_line, told, told_of, window_event, window_line, window_view};
+ghost use Rattle.wm_changes.specs.Changes.{close_line, empty_line, space_line, told, window_event, window_line, window_view};
 ghost use Rattle.wm_changes.specs.Differences.{differences, is_urged};
 ghost use Rattle.wm_changes.specs.Facts.{spaces, windows};
 ghost use Rattle.wm_changes.specs.Scene.{IsScene};
@@ -28,7 +28,7 @@ pub fn tell_spaces(
 ) -> Result<(), NoMemory>
     requires before { IsScene before.now }
     requires after { IsScene after.now }
-    ensures { OnOk result (events.new.items ≡ events.old.items ++ told_of (space_line before.now.sight.tree.now after.now.sight.tree.now after.now.sight.arrangement.now.parts) (values_of (spaces after.now.sight.tree.now))) }
+    ensures { OnOk result (events.new.items ≡ events.old.items ++ flat_map (space_line before.now.sight.tree.now after.now.sight.tree.now after.now.sight.arrangement.now.parts) (values_of (spaces after.now.sight.tree.now))) }
 {
     for site in after.spaces.values() {
         tell_site(events, alloc, before, &after.sight, site)?;
@@ -68,7 +68,7 @@ pub fn tell_windows(
 ) -> Result<(), NoMemory>
     requires before { IsScene before.now }
     requires after { IsScene after.now }
-    ensures { OnOk result (events.new.items ≡ events.old.items ++ told_of (window_line before.now.sight.tree.now after.now.sight.tree.now after.now.sight.arrangement.now.parts) (values_of (windows after.now.sight.tree.now))) }
+    ensures { OnOk result (events.new.items ≡ events.old.items ++ flat_map (window_line before.now.sight.tree.now after.now.sight.tree.now after.now.sight.arrangement.now.parts) (values_of (windows after.now.sight.tree.now))) }
 {
     for window in after.windows.values() {
         tell_found(events, alloc, before, &after.sight, window)?;
@@ -136,7 +136,7 @@ pub fn tell_closed(
 ) -> Result<(), NoMemory>
     requires before { IsScene before.now }
     requires after { IsScene after.now }
-    ensures { OnOk result (events.new.items ≡ events.old.items ++ told_of (close_line before.now.sight.tree.now before.now.sight.arrangement.now.parts after.now.sight.tree.now) (values_of (windows before.now.sight.tree.now))) }
+    ensures { OnOk result (events.new.items ≡ events.old.items ++ flat_map (close_line before.now.sight.tree.now before.now.sight.arrangement.now.parts after.now.sight.tree.now) (values_of (windows before.now.sight.tree.now))) }
 {
     for window in before.windows.values() {
         let gone = after.windows.get(&window.part.id.0).is_none();
@@ -160,7 +160,7 @@ pub fn tell_emptied(
 ) -> Result<(), NoMemory>
     requires before { IsScene before.now }
     requires after { IsScene after.now }
-    ensures { OnOk result (events.new.items ≡ events.old.items ++ told_of (empty_line before.now.sight.tree.now before.now.sight.arrangement.now.parts after.now.sight.tree.now) (values_of (spaces before.now.sight.tree.now))) }
+    ensures { OnOk result (events.new.items ≡ events.old.items ++ flat_map (empty_line before.now.sight.tree.now before.now.sight.arrangement.now.parts after.now.sight.tree.now) (values_of (spaces before.now.sight.tree.now))) }
 {
     for site in before.spaces.values() {
         let gone = after.spaces.get(&site.part.id.0).is_none();

@@ -1,10 +1,11 @@
 use Rattle.std.proofs.Common.{◌≡◌, ◌++◌}
+use Rattle.std.specs.List.{flat_map}
 use Rattle.std.specs.BTreeMap.{values}
-use Rattle.wm_changes.specs.Changes.{space_line, told_of}
+use Rattle.wm_changes.specs.Changes.{space_line}
 use Rattle.wm_changes.proofs.lines.tell_spaces.Given as goal
 
 -- the events so far and those of the rest are those of all
 abbrev pub invariant-loop-site : goal.invariant-loop-site
 invariant-loop-site l =
-    l.events.items ++ told_of (space_line l.before.sight.tree.now l.after.sight.tree.now l.after.sight.arrangement.now.parts) l.site-iterator
-    ≡ l.initial.events.items ++ told_of (space_line l.before.sight.tree.now l.after.sight.tree.now l.after.sight.arrangement.now.parts) (values l.after.spaces)
+    l.events.items ++ flat_map (space_line l.before.sight.tree.now l.after.sight.tree.now l.after.sight.arrangement.now.parts) l.site-iterator
+    ≡ l.initial.events.items ++ flat_map (space_line l.before.sight.tree.now l.after.sight.tree.now l.after.sight.arrangement.now.parts) (values l.after.spaces)

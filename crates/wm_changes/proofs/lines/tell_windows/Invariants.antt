@@ -1,10 +1,11 @@
 use Rattle.std.proofs.Common.{◌≡◌, ◌++◌}
+use Rattle.std.specs.List.{flat_map}
 use Rattle.std.specs.BTreeMap.{values}
-use Rattle.wm_changes.specs.Changes.{window_line, told_of}
+use Rattle.wm_changes.specs.Changes.{window_line}
 use Rattle.wm_changes.proofs.lines.tell_windows.Given as goal
 
 -- the events so far and those of the rest are those of all
 abbrev pub invariant-loop-window : goal.invariant-loop-window
 invariant-loop-window l =
-    l.events.items ++ told_of (window_line l.before.sight.tree.now l.after.sight.tree.now l.after.sight.arrangement.now.parts) l.window-iterator
-    ≡ l.initial.events.items ++ told_of (window_line l.before.sight.tree.now l.after.sight.tree.now l.after.sight.arrangement.now.parts) (values l.after.windows)
+    l.events.items ++ flat_map (window_line l.before.sight.tree.now l.after.sight.tree.now l.after.sight.arrangement.now.parts) l.window-iterator
+    ≡ l.initial.events.items ++ flat_map (window_line l.before.sight.tree.now l.after.sight.tree.now l.after.sight.arrangement.now.parts) (values l.after.windows)
