@@ -26,7 +26,7 @@ use Rattle.wm_kept.specs.Log.{Log, kept_of}
 use Rattle.wm_core.specs.Events.{IsToldOn, events, later_events, told_by}
 use Rattle.wm_core.proofs.EventLemmas.{later_alone, nothing_by, told_nothing}
 use Rattle.wm_core.specs.Effect.{Effect, Judge, changing, closed, mode_after, passing, rearranged, refused, telling}
-use Rattle.wm_core.specs.History.{Entry, Start, answer, done_by, effect_after, entries, first, judged, kill_of, mode, opening_of, stopped, tree}
+use Rattle.wm_core.specs.History.{Entry, Start, answer, done_by, effect_after, entries, first, judged, kill_of, mode, opening_of, tree}
 use Rattle.wm_core.proofs.ContentLemmas.{content_held, contents_held}
 use Rattle.wm_core.proofs.FollowLemmas.{closed_are, comes, opens}
 use Rattle.wm_core.proofs.LookLemmas.{wants_same}

@@ -12,7 +12,11 @@ use Rattle.wm_tree.specs.TreeValue.{TreeValue}
 use Rattle.wm_base.specs.declared.errors.NoMemory.{NoMemory}
 use Rattle.wm_core.specs.DeskValue.{DeskValue, Stands, StandsFrom, in_mode}
 use Rattle.wm_core.specs.Effect.{done_or_refused, leaving, refused}
+use Rattle.wm_json.specs.declared.views.EventBody.{EventBody}
+use Rattle.wm_kept.specs.Log.{Log}
+use Rattle.wm_core.specs.Events.{IsToldOn, later_events}
 use Rattle.wm_core.specs.History.{Entry, opening_of}
+use Rattle.wm_core.proofs.EventLemmas.{nothing_later, told_nothing}
 use Rattle.wm_core.specs.Steps.{Answers, Commits, GoesOn, IsAnswer, IsThere, Takes}
 use Rattle.wm_core.specs.Outputs.{add_answer, added, remove_answer, removed, unless_full}
 use Rattle.wm_core.specs.declared.step.Answer.{Answer}
@@ -78,13 +82,20 @@ pub taken : (old new : DeskValue) (said : Answer) (entry : Entry) → Answers ol
 taken old new said entry a = record { there = a.there; answer = a.answer; stands = a.stands; plan = a.plan; count = a.count; err = tt }
 
 -- what is answered after the rest was done
-pub answered_after : (old new : DeskValue) (set : Option (List ℕ)) (said : Answer) (entry : Entry) → IsThere old entry said → IsAnswer old entry said → Commits old new set (Ok tt) entry → Takes old (in_mode set new) (Ok said) entry
-answered_after old new set said entry t a c = record { there = t; answer = a; stands = c.stands; plan = c.plan; count = c.count; err = tt }
+pub answered_after : (old new : DeskValue) (set : Option (List ℕ)) (later : List EventBody) (log : Log) (said : Answer) (entry : Entry) → IsThere old entry said → IsAnswer old entry said → IsToldOn new.events later log
+    → Commits old new set later (Ok tt) entry → Takes old (in_mode set log new) (Ok said) entry
+answered_after old new set later log said entry t a told c = record { there = t; answer = a; stands = c.stands log told; plan = c.plan; count = c.count; err = tt }
+
+-- the same, where no mode is set and nothing is left to tell
+pub answered_alone : (old new : DeskValue) (said : Answer) (entry : Entry) → IsThere old entry said → IsAnswer old entry said
+    → Commits old new None (later_events old.mode old.stopped None false None) (Ok tt) entry → Takes old new (Ok said) entry
+answered_alone old new said entry t a c =
+    answered_after old new None (later_events old.mode old.stopped None false None) new.events said entry t a (told_nothing new.events (later_events old.mode old.stopped None false None) (nothing_later old.mode old.stopped)) c
 
 -- after want of memory nothing is answered
-pub none_answered : (old new : DeskValue) (set : Option (List ℕ)) (entry : Entry) (r : Result Answer NoMemory) (e f : NoMemory) → IsErrAnd r (λ x. x ≡ f) → Commits old new set (Err e) entry → Takes old new r entry
-none_answered old new set entry (Ok said) e f is c = absurd is
-none_answered old new set entry (Err x) e f is c = record { there = tt; answer = tt; stands = tt; plan = c.plan; count = tt; err = c.err }
+pub none_answered : (old new : DeskValue) (set : Option (List ℕ)) (later : List EventBody) (entry : Entry) (r : Result Answer NoMemory) (e f : NoMemory) → IsErrAnd r (λ x. x ≡ f) → Commits old new set later (Err e) entry → Takes old new r entry
+none_answered old new set later entry (Ok said) e f is c = absurd is
+none_answered old new set later entry (Err x) e f is c = record { there = tt; answer = tt; stands = tt; plan = c.plan; count = tt; err = c.err }
 
 -- a desk that goes on stands for the entry from the opening of its plan
 pub goes_on : (old new : DeskValue) (entry : Entry) → GoesOn old new entry → new.plan ≡ old.plan → (history : List Entry) → Stands old history → Stands new (entry ∷ history)

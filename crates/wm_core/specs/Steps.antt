@@ -1,5 +1,5 @@
 -- What a step of a desk promises.
-use Rattle.std.specs.Prelude.{◌≡◌, ℕ, ◌≤◌, ◌<◌, ◌^◌, ◌+◌, List, ◌∷◌, Option, Result, IfOk, OnErr, OnOk}
+use Rattle.std.specs.Prelude.{◌≡◌, ℕ, ◌<◌, ◌^◌, ◌+◌, List, ◌∷◌, Option, Result, IfOk, OnErr, OnOk}
 use Rattle.wm_base.specs.declared.errors.NoMemory.{NoMemory}
 use Rattle.wm_base.specs.declared.ids.Buffer.{Buffer}
 use Rattle.wm_base.specs.declared.ids.ConId.{ConId}
@@ -51,7 +51,6 @@ pub record Takes (old new : DeskValue) (result : Result Answer NoMemory) (entry 
 -- what is left to answer, to set this mode, if any, and to tell these events, is as a step
 pub record Commits (old new : DeskValue) (set : Option (List ℕ)) (later : List EventBody) (result : Result (Unit {0}) NoMemory) (entry : Entry) : Type 0 where
   pub stands : (log : Log) → IsToldOn new.events later log → OnOk result (GoesOn old (in_mode set log new) entry)
-  pub few : OnOk result (new.events.last ≤ old.events.last + 29443)
   pub plan : new.plan ≡ old.plan
   pub count : OnOk result (new.steps ≡ old.steps + 1)
   pub err : OnErr result (new ≡ old)

@@ -18,7 +18,7 @@ pub fn later_events(
     stops: bool,
     tick: Option<Str>,
 ) -> Result<Vec<EventBody>, NoMemory>
-    ensures value { IfOk result (λ events. events.items ≡ later_events mode.now stopped set.now stops tick) }
+    ensures { IfOk result (λ events. events.items ≡ later_events mode.now stopped set.now stops tick) }
 {
     let mut events = Vec::new(alloc);
     push_mode(&mut events, mode, set)?;

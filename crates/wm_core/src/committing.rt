@@ -1,5 +1,5 @@
 //! What a step leaves is taken: the tree, its arrangement, and what goes with its windows.
-ghost use Rattle.std.specs.Prelude.{◌≡◌, ℕ, ◌+◌, ◌≤◌, ◌<◌, ◌^◌, ◌||◌, List, None, Option, IfOk, length};
+ghost use Rattle.std.specs.Prelude.{◌≡◌, ℕ, ◌+◌, ◌≤◌, ◌<◌, ◌^◌, ◌*◌, ◌||◌, List, None, Option, IfOk, OnOk, length};
 ghost use Rattle.std.specs.Option.{option_map};
 ghost use Rattle.wm_arrange.specs.Arranged.{arranged};
 ghost use Rattle.wm_base.specs.declared.ids.ConId.{ConId};
@@ -84,7 +84,8 @@ impl Desk {
         closes: &[ConId],
     ) -> Result<(), NoMemory>
         requires { MayCome self.old tree opened }
-        ensures { (entry : Entry) (answer : Answer) (set : Option (List ℕ)) → done_by self.old.plan.env self.old.tree entry ≡ changing answer self.old.tree tree opened set stops closes.now → Commits self.old self.new set (later_events self.old.mode self.old.stopped set stops None) result entry }
+        ensures commits { (entry : Entry) (answer : Answer) (set : Option (List ℕ)) → done_by self.old.plan.env self.old.tree entry ≡ changing answer self.old.tree tree opened set stops closes.now → Commits self.old self.new set (later_events self.old.mode self.old.stopped set stops None) result entry }
+        ensures room { OnOk result ((self.new.events.last + 3 ≤ self.new.steps * 65535) × (self.new.steps ≤ 2 ^ 48)) }
     {
         let mut tree = tree;
         let done = self.exchange(&mut tree, opened, stops, closes);
@@ -101,7 +102,8 @@ impl Desk {
         closes: &[ConId],
     ) -> Result<(), NoMemory>
         requires { MayCome self.old tree.old opened }
-        ensures { (entry : Entry) (answer : Answer) (set : Option (List ℕ)) → done_by self.old.plan.env self.old.tree entry ≡ changing answer self.old.tree tree.old opened set stops closes.now → Commits self.old self.new set (later_events self.old.mode self.old.stopped set stops None) result entry }
+        ensures commits { (entry : Entry) (answer : Answer) (set : Option (List ℕ)) → done_by self.old.plan.env self.old.tree entry ≡ changing answer self.old.tree tree.old opened set stops closes.now → Commits self.old self.new set (later_events self.old.mode self.old.stopped set stops None) result entry }
+        ensures room { OnOk result ((self.new.events.last + 3 ≤ self.new.steps * 65535) × (self.new.steps ≤ 2 ^ 48)) }
     {
         let change = self.change_to(tree, opened, closes)?;
         if let Err(error) = own(&mut self.owners, tree, opened) {

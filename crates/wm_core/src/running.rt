@@ -4,7 +4,7 @@ ghost use Rattle.wm_apply.specs.Quiet.{is_quiet};
 ghost use Rattle.wm_criteria.specs.declared.verdict.Verdict.TheVariants.{Ready};
 ghost use Rattle.wm_core.specs.declared.step.Answer.TheVariants.{Replies};
 ghost use Rattle.wm_criteria.specs.Prepared.{is_built};
-ghost use Rattle.std.specs.Prelude.{◌≡◌, ◌<◌, ◌^◌, [], ◌∷◌, map, None, IsTrue};
+ghost use Rattle.std.specs.Prelude.{◌≡◌, ◌<◌, ◌^◌, [], ◌∷◌, map, None, IfOk, IsTrue};
 ghost use Rattle.wm_core.specs.Act.{Run, Tick, text_of};
 ghost use Rattle.wm_core.specs.Effect.{changing, idled, ran, refused, reply_to};
 ghost use Rattle.wm_core.specs.Events.{later_events};

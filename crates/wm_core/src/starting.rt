@@ -30,18 +30,18 @@ impl Desk {
         ensures plan { IfOk result (λ desk. desk.plan ≡ plan) }
         ensures stands { IfOk result (λ desk. Stands desk []) }
     {
-        match all_of(alloc, &plan) {
-            Ok(((tree, txn), (mode, events))) => {
-                let windows = window_count(&tree);
+        match all_at_opening(alloc, &plan) {
+            Ok(opened) => {
+                let windows = window_count(&opened.tree);
                 Ok(Desk {
                     alloc,
                     plan,
                     steps: 0,
-                    tree,
-                    txn,
-                    mode,
+                    tree: opened.tree,
+                    txn: opened.txn,
+                    mode: opened.mode,
                     stopped: false,
-                    events,
+                    events: opened.events,
                     kills: BTreeMap::new(alloc),
                     owners: IdMap::new(alloc),
                     windows,
@@ -65,21 +65,35 @@ fn quiet(alloc: Global) -> Result<(Text, Kept), NoMemory>
     Ok((mode, events))
 }
 
+/// With what a desk opens beside its plan.
+#[derive(Drop)]
+struct Opened {
+    tree: Tree,
+    txn: Txn,
+    mode: Text,
+    events: Kept,
+}
+
 /// All with which a desk opens.
-fn all_of(alloc: Global, plan: &Plan) -> Result<((Tree, Txn), (Text, Kept)), NoMemory>
+fn all_at_opening(alloc: Global, plan: &Plan) -> Result<Opened, NoMemory>
     requires { IsSound plan.now }
-    ensures tree { IfOk result (λ r. r.0.0 ≡ (opening_of plan.now).opened) }
-    ensures sound { IfOk result (λ r. trees.IsSound r.0.0) }
-    ensures stands { IfOk result (λ r. transactions.Stands (first (opening_of plan.now)) [] r.0.1) }
-    ensures prefix { IfOk result (λ r. last_prefix r.0.1 ≡ 0) }
-    ensures mode { IfOk result (λ r. r.1.0 ≡ (opening_of plan.now).mode) }
-    ensures events { IfOk result (λ r. r.1.1 ≡ kept_of []) }
+    ensures tree { IfOk result (λ o. o.tree ≡ (opening_of plan.now).opened) }
+    ensures sound { IfOk result (λ o. trees.IsSound o.tree) }
+    ensures stands { IfOk result (λ o. transactions.Stands (first (opening_of plan.now)) [] o.txn) }
+    ensures prefix { IfOk result (λ o. last_prefix o.txn ≡ 0) }
+    ensures mode { IfOk result (λ o. o.mode ≡ (opening_of plan.now).mode) }
+    ensures events { IfOk result (λ o. o.events ≡ kept_of []) }
 {
-    let quiet = quiet(alloc)?;
+    let (mode, events) = quiet(alloc)?;
     match opening(alloc, plan) {
-        Ok(opened) => Ok((opened, quiet)),
+        Ok((tree, txn)) => Ok(Opened {
+            tree,
+            txn,
+            mode,
+            events,
+        }),
         Err(error) => {
-            drop(quiet);
+            drop(events);
             Err(error)
         }
     }

@@ -6,7 +6,7 @@ use Rattle.wm_core.specs.Effect.{leaving}
 use Rattle.wm_core.specs.declared.step.Answer.TheVariants.{Done}
 use Rattle.wm_core.proofs.FollowLemmas.{follows_then}
 use Rattle.wm_core.proofs.StandsLemmas.{answered, there_by}
-use Rattle.wm_core.proofs.StepLemmas.{answered_after, none_answered}
+use Rattle.wm_core.proofs.StepLemmas.{answered_alone, none_answered}
 use Rattle.wm_core.proofs.desk.Desk.finish.Goals as goal
 
 -- settling opens no window
@@ -20,10 +20,10 @@ pub returns : goal.returns
 returns c = λ entry is.
     let d = c.args.self.now in
     let here = is ∙ ap (λ z. leaving Done d.tree z None) (sym c.settle.ensures.tree) in
-    answered_after d c.commit.new.self None Done entry (there_by d entry _ is) (λ start history s. answered d start history s entry _ is) (c.in_ok-commit.ensures entry Done None here)
+    answered_alone d c.commit.new.self Done entry (there_by d entry _ is) (λ start history s. answered d start history s entry _ is) (c.in_ok-commit.ensures.commits entry Done None here)
 
 pub returns-in_err-commit : goal.returns-in_err-commit
 returns-in_err-commit c = λ entry is.
     let d = c.args.self.now in
     let here = is ∙ ap (λ z. leaving Done d.tree z None) (sym c.settle.ensures.tree) in
-    none_answered d c.commit.new.self None entry c.from_residual.result _ _ c.from_residual.ensures.1 (c.in_err-commit.ensures entry Done None here)
+    none_answered d c.commit.new.self None _ entry c.from_residual.result _ _ c.from_residual.ensures.1 (c.in_err-commit.ensures.commits entry Done None here)

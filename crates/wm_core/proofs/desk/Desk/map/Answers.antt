@@ -15,7 +15,7 @@ use Rattle.wm_core.specs.History.{Entry, done_by}
 use Rattle.wm_core.specs.declared.step.Answer.TheVariants.{Full, Mapped}
 use Rattle.wm_core.proofs.FollowLemmas.{follows_mapped}
 use Rattle.wm_core.proofs.StandsLemmas.{answered, there_by}
-use Rattle.wm_core.proofs.StepLemmas.{answered_after, none_answered, taken}
+use Rattle.wm_core.proofs.StepLemmas.{answered_alone, none_answered, taken}
 use Rattle.wm_core.proofs.desk.Desk.map.Goals as goal
 
 kept_newcomer : (i : ConId) (t : TreeValue) → Kept t (raised_unless_full i t)
@@ -59,7 +59,7 @@ returns-in_ok-commit-in-Ok c = λ then.
     let is : done_by d.plan.env t entry ≡ leaving (Mapped (id t.next_id)) t (mapped t c.args.who c.args.props.now c.args.buffer.size) (Some (id t.next_id, c.args.buffer)) = rw (pixels, room) refl in
     let here : done_by d.plan.env t entry ≡ leaving (Mapped c.in-Ok.id) t c.open.new.tree (Some (c.in-Ok.id, c.args.buffer)) =
     is ∙ ap₂ (λ i z. leaving (Mapped i) t z (Some (i, c.args.buffer))) (sym number) (sym made) in
-    answered_after d c.commit.new.self None (Mapped c.in-Ok.id) entry (there_by d entry _ here) (λ start history s. answered d start history s entry _ here) (c.in_ok-commit-in-Ok.ensures entry (Mapped c.in-Ok.id) None here)
+    answered_alone d c.commit.new.self (Mapped c.in-Ok.id) entry (there_by d entry _ here) (λ start history s. answered d start history s entry _ here) (c.in_ok-commit-in-Ok.ensures.commits entry (Mapped c.in-Ok.id) None here)
 
 pub returns-in_err-commit-in-Ok : goal.returns-in_err-commit-in-Ok
 returns-in_err-commit-in-Ok c = λ then.
@@ -74,7 +74,7 @@ returns-in_err-commit-in-Ok c = λ then.
     let is : done_by d.plan.env t entry ≡ leaving (Mapped (id t.next_id)) t (mapped t c.args.who c.args.props.now c.args.buffer.size) (Some (id t.next_id, c.args.buffer)) = rw (pixels, room) refl in
     let here : done_by d.plan.env t entry ≡ leaving (Mapped c.in-Ok.id) t c.open.new.tree (Some (c.in-Ok.id, c.args.buffer)) =
     is ∙ ap₂ (λ i z. leaving (Mapped i) t z (Some (i, c.args.buffer))) (sym number) (sym made) in
-    none_answered d c.commit.new.self None entry c.from_residual-in_err-commit-in-Ok.result _ _ c.from_residual-in_err-commit-in-Ok.ensures.1 (c.in_err-commit-in-Ok.ensures entry (Mapped c.in-Ok.id) None here)
+    none_answered d c.commit.new.self None _ entry c.from_residual-in_err-commit-in-Ok.result _ _ c.from_residual-in_err-commit-in-Ok.ensures.1 (c.in_err-commit-in-Ok.ensures.commits entry (Mapped c.in-Ok.id) None here)
 
 -- no other window comes
 pub commit-requires : goal.commit-requires
