@@ -2,4 +2,5 @@ pub mod CameLemmas
 pub mod EntryLemmas
 pub mod FactLemmas
 pub mod FewLemmas
+pub mod FoundLemmas
 pub mod StillLemmas
