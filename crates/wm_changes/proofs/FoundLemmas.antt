@@ -101,14 +101,14 @@ counts_one c part = by_same (same part.id c)
     by_same true = refl
     by_same false = refl
 
-zero_other : (c : ConId) (part : Part) → one_of c part ≡ 0 → same part.id c ≡ false
+pub zero_other : (c : ConId) (part : Part) → one_of c part ≡ 0 → same part.id c ≡ false
 zero_other c part h = by_same (same part.id c) (sym (counts_one c part) ∙ h)
   where
     by_same : (b : Bool) → count_of b ≡ 0 → b ≡ false
     by_same true z = absurd (omega (arith, z))
     by_same false z = refl
 
-own_one : (c : ConId) (part : Part) → same part.id c ≡ true → one_of c part ≡ 1
+pub own_one : (c : ConId) (part : Part) → same part.id c ≡ true → one_of c part ≡ 1
 own_one c part h = rw (h) refl
 
 row_first : (c : ConId) (s : Standing) (part : Part) (kids floats rest : Forest)

@@ -3,4 +3,5 @@ pub mod EntryLemmas
 pub mod FactLemmas
 pub mod FewLemmas
 pub mod FoundLemmas
+pub mod FoundSpaceLemmas
 pub mod StillLemmas

@@ -1,5 +1,5 @@
 //! Laws on the events of two trees.
-ghost use Rattle.wm_changes.specs.FactLaws.{WindowsAreFound};
+ghost use Rattle.wm_changes.specs.FactLaws.{SpacesAreFound, WindowsAreFound};
 ghost use Rattle.wm_changes.specs.Laws.{BegunSpacesCame, ClosedWindowsWent, EmptiedSpacesWent, EventsAreFew, NewWindowsCame, NothingIsToldOfNothing};
 
 /// A tree that is as it was tells nothing.
@@ -33,4 +33,10 @@ pub fn events_are_few()
 #[tactic(auto, using(crate::proofs::FoundLemmas::windows_found))]
 pub fn windows_are_found()
     ensures { WindowsAreFound }
+{}
+
+/// Each workspace of a sound tree is found, as it is and on the output that holds it, and nothing else is.
+#[tactic(auto, using(crate::proofs::FoundSpaceLemmas::spaces_found))]
+pub fn workspaces_are_found()
+    ensures { SpacesAreFound }
 {}
