@@ -1,5 +1,6 @@
 pub mod Maps
 pub mod Nodes
+pub mod Order
 pub mod Outputs
 pub mod Rows
 pub mod Sight

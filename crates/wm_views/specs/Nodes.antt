@@ -107,9 +107,13 @@ abbrev pub put_nodes : List (ℕ × ℕ) → List (ℕ × ℕ) → List (ℕ × 
 put_nodes [] done = done
 put_nodes (n ∷ ns) done = insert (put_nodes ns done) (node_spot n (put_nodes ns done)) n
 
--- the ids of children and floating windows by recency of their subtrees, those without any id in the list last
+-- children and floating windows at their places by recency of their subtrees, those without any id in the list last
+abbrev pub by_recency : List ConId → Forest → Forest → List (ℕ × ℕ)
+by_recency ids kids floats = put_nodes (placed_row ids kids) (put_nodes (placed_row ids floats) [])
+
+-- their ids
 abbrev pub focus : List ConId → Forest → Forest → List ℕ
-focus ids kids floats = map (λ n. n.1) (put_nodes (placed_row ids kids) (put_nodes (placed_row ids floats) []))
+focus ids kids floats = map (λ n. n.1) (by_recency ids kids floats)
 
 -- ---- views by kind
 

@@ -1,10 +1,10 @@
 -- Rows of sound trees, and what a walk keeps of the rows below a node.
-use Rattle.std.specs.Prelude.{◌≡◌, ◌≤◌, ℕ, Bool, true, List, []}
+use Rattle.std.specs.Prelude.{◌≡◌, ◌≤◌, ℕ, Bool, true, List}
 use Rattle.wm_base.specs.declared.ids.ConId.{ConId}
 use Rattle.wm_forest.specs.Counts.{row_length}
 use Rattle.wm_forest.specs.Forest.{Forest}
 use Rattle.wm_forest.specs.SoundRow.{IsSoundRow, Level, containers}
-use Rattle.wm_views.specs.Nodes.{placed_row, put_nodes}
+use Rattle.wm_views.specs.Nodes.{by_recency}
 use Rattle.wm_views.specs.declared.rows.Below.{Below}
 
 -- a row at this level of a sound tree, tiled or not
@@ -21,4 +21,4 @@ pub record IsKids (row : Forest) : Type 0 where
 
 -- the nodes of both rows stand at their places by recency
 pub record IsPlaced (ids : List ConId) (kids floats : Forest) (b : Below) : Type 0 where
-  pub placed : b.placed.items ≡ put_nodes (placed_row ids kids) (put_nodes (placed_row ids floats) [])
+  pub placed : b.placed.items ≡ by_recency ids kids floats

@@ -3,6 +3,7 @@
 
 mod cons;
 mod holders;
+mod laws;
 mod maps;
 mod nodes;
 mod numbers;
@@ -18,6 +19,7 @@ mod spaces;
 mod walk;
 
 pub use cons::{Above, con_view, space_view};
+pub use laws::{focus_is_by_recency, workspaces_are_in_order};
 pub use outputs::outputs_view;
 pub use root::tree_view;
 pub use sight::Sight;

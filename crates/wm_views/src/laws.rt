@@ -1,0 +1,16 @@
+//! Laws: what is told of a tree is in order, and is all there is.
+ghost use Rattle.wm_views.specs.Order.{NodesAreAll, RecencyRises, WorkspacesAreAll, WorkspacesRise};
+
+/// The workspaces stand by number, then by id, and they are those of the outputs, each as often as there.
+#[tactic(auto, using(crate::proofs::OrderLemmas::workspaces_rise, crate::proofs::OrderLemmas::workspaces_are_all))]
+pub fn workspaces_are_in_order()
+    ensures rise { WorkspacesRise }
+    ensures all { WorkspacesAreAll }
+{}
+
+/// The children and floating windows of a node stand by recency of their subtrees, and none is lost.
+#[tactic(auto, using(crate::proofs::OrderLemmas::recency_rises, crate::proofs::OrderLemmas::nodes_are_all))]
+pub fn focus_is_by_recency()
+    ensures rise { RecencyRises }
+    ensures all { NodesAreAll }
+{}
