@@ -36,9 +36,9 @@ pub record SpaceFact : Type 0 where
 
 -- ---- where nodes stand
 
--- the row of the root
+-- the row of the root: nothing holds it, and it is no row of children
 abbrev pub top : Standing
-top = record { holder = None; space = None; shares = 0; floating = false }
+top = record { holder = None; space = None; shares = 0; floating = true }
 
 -- the children of a node
 abbrev pub kid_standing : Standing → Part → Forest → Standing

@@ -1,4 +1,5 @@
 //! Laws on the events of two trees.
+ghost use Rattle.wm_changes.specs.FactLaws.{SpacesAreFound, WindowsAreFound};
 ghost use Rattle.wm_changes.specs.Laws.{BegunSpacesCame, ClosedWindowsWent, EmptiedSpacesWent, EventsAreFew, NewWindowsCame, NothingIsToldOfNothing};
 
 /// A tree that is as it was tells nothing.
@@ -26,4 +27,16 @@ pub fn workspaces_come_and_go()
 #[tactic(auto, using(crate::proofs::FewLemmas::few))]
 pub fn events_are_few()
     ensures { EventsAreFew }
+{}
+
+/// Each window of a sound tree is found, as it is and where it stands, and nothing else is.
+#[tactic(auto, using(crate::proofs::FoundLemmas::windows_found))]
+pub fn windows_are_found()
+    ensures { WindowsAreFound }
+{}
+
+/// Each workspace of a sound tree is found, as it is and on the output that holds it, and nothing else is.
+#[tactic(auto, using(crate::proofs::FoundSpaceLemmas::spaces_found))]
+pub fn workspaces_are_found()
+    ensures { SpacesAreFound }
 {}

@@ -18,12 +18,12 @@ pub struct Standing {
     pub floating: bool,
 }
 
-/// The row of the root.
+/// The row of the root: nothing holds it, and it is no row of children.
 pub const TOP: Standing = Standing {
     holder: None,
     space: None,
     shares: 0,
-    floating: false,
+    floating: true,
 };
 
 /// Where the children of a node stand.

@@ -1,6 +1,7 @@
 //! The windows of a tree, each as it stands there, by rising id.
-ghost use Rattle.std.specs.Prelude.{◌≡◌, IfOk, OnOk, [], ◌++◌};
-ghost use Rattle.wm_changes.specs.Facts.{IsNarrow, WindowFact, put_windows, top, window_here, windows, windows_in};
+ghost use Rattle.std.specs.Prelude.{◌≡◌, ◌≤◌, ◌++◌, IfOk, OnOk};
+ghost use Rattle.wm_changes.specs.Facts.{IsNarrow, float_standing, kid_standing, put_windows, window_here, windows, windows_in};
+ghost use Rattle.wm_forest.specs.Counts.{row_length};
 ghost use Rattle.wm_forest.specs.Look.{con_kind};
 ghost use Rattle.wm_tree.specs.Sound.{IsSound};
 
@@ -42,7 +43,8 @@ pub fn windows(alloc: Global, tree: &Tree) -> Result<BTreeMap<u32, Found<'_>>, N
 }
 
 /// Puts in the windows of a row and of what is below it.
-#[tactic(auto, using(crate::proofs::FactLemmas::windows_both))]
+#[cycle(gather)]
+#[tactic(auto, using(crate::proofs::FactLemmas::windows_row))]
 fn gather<'a>(
     map: &mut BTreeMap<u32, Found<'a>>,
     standing: Standing,
@@ -55,10 +57,27 @@ fn gather<'a>(
         return Ok(());
     };
     gather(map, standing, &row.rest())?;
-    gather(map, float_standing(standing, part), &row.floats())?;
-    let kids = row.kids();
-    gather(map, kid_standing(standing, part, &kids), &kids)?;
+    gather_below(map, standing, part, &row.kids(), &row.floats())?;
     put(map, standing, part)
+}
+
+/// Puts in the windows below a node.
+#[cycle(gather)]
+#[tactic(auto, using(crate::proofs::FactLemmas::windows_both))]
+fn gather_below<'a>(
+    map: &mut BTreeMap<u32, Found<'a>>,
+    standing: Standing,
+    part: &Part,
+    kids: &Cursor<'a>,
+    floats: &Cursor<'a>,
+) -> Result<(), NoMemory>
+    requires few { row_length kids.now ≤ 256 }
+    requires kids { IsNarrow kids.now }
+    requires floats { IsNarrow floats.now }
+    ensures { OnOk result (map.new.entries ≡ put_windows (windows_in (kid_standing standing part.now kids.now) kids.now ++ windows_in (float_standing standing part.now) floats.now) map.old.entries) }
+{
+    gather(map, float_standing(standing, part), floats)?;
+    gather(map, kid_standing(standing, part, kids), kids)
 }
 
 /// Puts a node in, where it is a window.
