@@ -1,9 +1,10 @@
-//! The program cases_bytes: frames, replies, views, texts, rectangles, sources and sinks, pictures and maps, from files of
-//! such cases.
+//! The program cases_bytes: frames, replies, views, kept events, texts, rectangles, sources and sinks, pictures and maps, from
+//! files of such cases.
 #![tactic(auto)]
 
 mod fields;
 mod frames;
+mod kept;
 mod limits;
 mod lists;
 mod maps;
@@ -71,12 +72,13 @@ fn tell(words: &mut Words<'_>, out: &mut String) -> Result<(), Fault> {
     }
 }
 
-/// The same, of pictures, maps and rectangles.
+/// The same, of pictures, maps, kept events and rectangles.
 fn tell_picture(word: &str, words: &mut Words<'_>, out: &mut String) -> Result<(), Fault> {
     match word {
         "frame" => pictures::tell_frame(words, out),
         "canvas" => pictures::tell_canvas(words, out),
         "map" => maps::tell_map(words, out),
+        "kept" => kept::tell_kept(words, out),
         "inset" => rects::tell_inset(words, out),
         "overlap" => rects::tell_overlap(words, out),
         _ => tell_text(word, words, out),

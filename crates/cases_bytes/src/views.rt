@@ -123,7 +123,7 @@ fn push_event(alloc: Global, event: &EventView, out: &mut String) -> Result<(), 
 
 /// What an event tells: `output`, `workspace CHANGE NODE` or `workspace CHANGE NODE || NODE`, `window CHANGE NODE`,
 /// `mode NAME`, `binding SYMBOL MODIFIER COMMAND`, `tick FIRST PAYLOAD` or `shutdown`.
-fn body_of(words: &mut Words<'_>) -> Result<EventBody, Fault> {
+pub fn body_of(words: &mut Words<'_>) -> Result<EventBody, Fault> {
     match words.word() {
         "output" => Ok(EventBody::Output),
         "workspace" => workspace_change(words),

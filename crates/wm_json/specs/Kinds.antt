@@ -1,4 +1,4 @@
--- The kinds of events, and events by their numbers.
+-- The kinds of events.
 use Rattle.std.specs.Prelude.{ℕ}
 use Rattle.wm_json.specs.declared.views.EventBody.{EventBody}
 use Rattle.wm_json.specs.declared.views.EventBody.TheVariants as body

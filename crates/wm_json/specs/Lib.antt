@@ -1,4 +1,5 @@
 pub mod Arrays
+pub mod Copies
 pub mod Events
 pub mod Kinds
 pub mod Nodes

@@ -1,4 +1,4 @@
-//! JSON of replies, views and events, compact and with keys in byte order.
+//! JSON of replies, views and events, compact and with keys in byte order, and copies of nodes and events.
 #![tactic(auto)]
 
 mod copies;

@@ -1,5 +1,6 @@
 //! Copies of nodes with their subtrees.
 ghost use Rattle.std.specs.Prelude.{◌≡◌, IfOk};
+ghost use Rattle.wm_json.specs.Copies.{with_names, with_rows, with_said, with_window, with_words};
 ghost use Rattle.wm_json.specs.declared.views.NodeView.TheViews.{out-NodeView, roll-NodeView};
 
 use crate::copies::{copy_props_if, copy_str, copy_text_if, copy_texts};
@@ -101,21 +102,7 @@ struct Said {
 
 /// The node of these, else as this one is.
 fn joined(n: &NodeView, said: Said, window: Window, rows: Rows) -> NodeView
-    ensures { result ≡ roll-NodeView (record (out-NodeView n.now) {
-      border = said.words.border;
-      layout = said.words.layout;
-      orientation = said.words.orientation;
-      kind = said.words.kind;
-      name = said.names.name;
-      output = said.names.output;
-      current_workspace = said.names.current_workspace;
-      focus = said.lists.focus;
-      marks = said.lists.marks;
-      window_properties = window.properties;
-      window_type = window.kind;
-      nodes = rows.nodes;
-      floating_nodes = rows.floating;
-    }) }
+    ensures { result ≡ roll-NodeView (with_window window (with_said said (with_rows rows (out-NodeView n.now)))) }
 {
     let Said {
         names,
@@ -158,7 +145,7 @@ fn joined(n: &NodeView, said: Said, window: Window, rows: Rows) -> NodeView
 
 /// The node with these nodes below it, else an equal one.
 fn copy_above(alloc: Global, n: &NodeView, rows: Rows) -> Result<NodeView, AllocError>
-    ensures { IfOk result (λ copy. copy ≡ roll-NodeView (record (out-NodeView n.now) { nodes = rows.nodes; floating_nodes = rows.floating })) }
+    ensures { IfOk result (λ copy. copy ≡ roll-NodeView (with_rows rows (out-NodeView n.now))) }
 {
     match copy_names(n) {
         Ok(names) => copy_named(alloc, n, names, rows),
@@ -171,13 +158,7 @@ fn copy_above(alloc: Global, n: &NodeView, rows: Rows) -> Result<NodeView, Alloc
 
 /// The node with these names and with these nodes below it, else an equal one.
 fn copy_named(alloc: Global, n: &NodeView, names: Names, rows: Rows) -> Result<NodeView, AllocError>
-    ensures { IfOk result (λ copy. copy ≡ roll-NodeView (record (out-NodeView n.now) {
-      name = names.name;
-      output = names.output;
-      current_workspace = names.current_workspace;
-      nodes = rows.nodes;
-      floating_nodes = rows.floating;
-    })) }
+    ensures { IfOk result (λ copy. copy ≡ roll-NodeView (with_names names (with_rows rows (out-NodeView n.now)))) }
 {
     match copy_words(alloc, n) {
         Ok(words) => copy_worded(alloc, n, names, words, rows),
@@ -197,17 +178,7 @@ fn copy_worded(
     words: Words,
     rows: Rows,
 ) -> Result<NodeView, AllocError>
-    ensures { IfOk result (λ copy. copy ≡ roll-NodeView (record (out-NodeView n.now) {
-      border = words.border;
-      layout = words.layout;
-      orientation = words.orientation;
-      kind = words.kind;
-      name = names.name;
-      output = names.output;
-      current_workspace = names.current_workspace;
-      nodes = rows.nodes;
-      floating_nodes = rows.floating;
-    })) }
+    ensures { IfOk result (λ copy. copy ≡ roll-NodeView (with_words words (with_names names (with_rows rows (out-NodeView n.now))))) }
 {
     match copy_lists(alloc, n) {
         Ok(lists) => copy_said(
@@ -230,19 +201,7 @@ fn copy_worded(
 
 /// The node that says this of itself, with these nodes below it, else an equal one.
 fn copy_said(n: &NodeView, said: Said, rows: Rows) -> Result<NodeView, AllocError>
-    ensures { IfOk result (λ copy. copy ≡ roll-NodeView (record (out-NodeView n.now) {
-      border = said.words.border;
-      layout = said.words.layout;
-      orientation = said.words.orientation;
-      kind = said.words.kind;
-      name = said.names.name;
-      output = said.names.output;
-      current_workspace = said.names.current_workspace;
-      focus = said.lists.focus;
-      marks = said.lists.marks;
-      nodes = rows.nodes;
-      floating_nodes = rows.floating;
-    })) }
+    ensures { IfOk result (λ copy. copy ≡ roll-NodeView (with_said said (with_rows rows (out-NodeView n.now)))) }
 {
     match copy_window(n) {
         Ok(window) => Ok(joined(n, said, window, rows)),
