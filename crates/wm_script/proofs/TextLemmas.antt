@@ -4,7 +4,7 @@ use Rattle.std.specs.Str.{is_utf8, IsUtf8}
 use Rattle.std.proofs.lemmas.Bool.Decides.{leb_tells}
 use Rattle.std.proofs.lemmas.Str.{IsUtf8-from_is_utf8, is_utf8-from_IsUtf8}
 use Rattle.wm_script.specs.declared.line.Deed.TheVariants.{Run}
-use Rattle.wm_script.specs.Quoted.{short_text}
+use Rattle.wm_script.specs.Quoted.{short_text, text_within}
 use Rattle.wm_script.specs.Lines.{run_at}
 
 -- bytes that are no UTF-8
@@ -24,6 +24,13 @@ run_no_text bytes bad = rw (not_utf8 bytes bad) refl
 
 at_most : (a b : ℕ) → a ≤ b → leb a b ≡ true
 at_most a b h = ⊎_elim (λ p. p.0) (λ p. absurd (omega (arith, p.1, h))) (leb_tells a b)
+
+-- a text of these bytes is taken where they are UTF-8, and no more than a limit
+pub is_within : (most : ℕ) (bytes : List ℕ) → IsUtf8 bytes → length bytes ≤ most → text_within most bytes ≡ Some bytes
+is_within most bytes text short = rw (is_utf8-from_IsUtf8 bytes text, at_most (length bytes) most short) refl
+
+pub is_none_within : (most : ℕ) (bytes : List ℕ) → (IsUtf8 bytes → ⊥) → text_within most bytes ≡ None
+is_none_within most bytes bad = rw (not_utf8 bytes bad) refl
 
 -- a quoted text is taken where it is UTF-8 and short
 pub is_short : (bytes : List ℕ) → IsUtf8 bytes → length bytes ≤ 1024 → short_text bytes ≡ Some bytes

@@ -9,10 +9,10 @@ use Rattle.wm_base.specs.declared.plan.OutputPlan.{OutputPlan}
 use Rattle.wm_layouts.specs.Plan.{is_fit_rect}
 use Rattle.wm_script.specs.Fields.{behind, buffer_at, edges_at, edges_of, if_end, number_at, or_else, or_none, rect_at, serial_at}
 use Rattle.wm_script.specs.Properties.{none_given, properties_at, props_of}
-use Rattle.wm_script.specs.Quoted.{name_at, quoted_at}
+use Rattle.wm_script.specs.Quoted.{name_at, quoted_at, quoted_within}
 use Rattle.wm_script.specs.declared.line.Deed.{Deed}
 use Rattle.wm_script.specs.declared.line.Line.{Line}
-use Rattle.wm_script.specs.declared.line.Deed.TheVariants.{Output, Border, Inner, Outer, Map, Retitle, Urgent, Close, Gone, OutputAdd, OutputRemove, Reserve, Ack, Give, Deadline, Wants, Run, Paint, Marks}
+use Rattle.wm_script.specs.declared.line.Deed.TheVariants.{Output, Border, Inner, Outer, Map, Retitle, Urgent, Close, Gone, OutputAdd, OutputRemove, Reserve, Ack, Give, Deadline, Wants, Run, Tick, Paint, Tree, Workspaces, Outputs, Marks}
 
 -- a number of at most `most`, to the end of the line
 abbrev pub number_line : ℕ → (ℕ → Deed) → List ℕ → Option Deed
@@ -144,12 +144,24 @@ client_line_of text =
 abbrev pub run_at : List ℕ → Option Deed
 run_at text = if is_utf8 text then Some (Run text) else None
 
+-- `"T"`, a text of at most 4,096 bytes, to the end of the line
+abbrev pub tick_at : List ℕ → Option Deed
+tick_at text = or_none (quoted_within 4096 text) (λ said. if_end (Tick said.0) said.1)
+
+-- what a line looks at that is told as one value
+abbrev pub look_line_of : List ℕ → Option Deed
+look_line_of text =
+    or_else (behind (codes "tree") text) (if_end Tree)
+    (or_else (behind (codes "workspaces") text) (if_end Workspaces)
+    (or_else (behind (codes "outputs") text) (if_end Outputs)
+    (or_else (behind (codes "marks") text) (if_end Marks) None)))
+
 -- what a line says that is none of these
 abbrev pub other_line_of : List ℕ → Option Deed
 other_line_of text =
     or_else (behind (codes "run ") text) run_at
-    (or_else (behind (codes "paint") text) (if_end Paint)
-    (or_else (behind (codes "marks") text) (if_end Marks) None))
+    (or_else (behind (codes "tick ") text) tick_at
+    (or_else (behind (codes "paint") text) (if_end Paint) (look_line_of text)))
 
 -- one reading of a line, or else another
 abbrev pub or_line : Option Deed → Option Deed → Option Deed

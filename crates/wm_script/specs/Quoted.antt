@@ -28,14 +28,22 @@ abbrev pub unquoted : Bool → List ℕ → Option (List ℕ × List ℕ)
 unquoted escaped [] = None
 unquoted escaped (c ∷ cs) = if closes escaped c then Some ([], cs) else onto_text (stands_for escaped c) (unquoted (escapes escaped c) cs)
 
+-- the bytes are UTF-8, and at most this many
+abbrev pub text_within : ℕ → List ℕ → Option (List ℕ)
+text_within most bytes = if is_utf8 bytes && nat_le (length bytes) most then Some bytes else None
+
 -- the bytes are UTF-8, and at most 1,024
 abbrev pub short_text : List ℕ → Option (List ℕ)
-short_text bytes = if is_utf8 bytes && nat_le (length bytes) 1024 then Some bytes else None
+short_text bytes = text_within 1024 bytes
 
--- a quoted text, and what is behind it
+-- a quoted text of at most this many bytes, and what is behind it
+abbrev pub quoted_within : ℕ → List ℕ → Option (List ℕ × List ℕ)
+quoted_within most text =
+    or_none (behind (34 ∷ []) text) (λ inside. or_none (unquoted false inside) (λ found. or_none (text_within most found.0) (λ said. Some (said, found.1))))
+
+-- a quoted text of at most 1,024 bytes, and what is behind it
 abbrev pub quoted_at : List ℕ → Option (List ℕ × List ℕ)
-quoted_at text =
-    or_none (behind (34 ∷ []) text) (λ inside. or_none (unquoted false inside) (λ found. or_none (short_text found.0) (λ said. Some (said, found.1))))
+quoted_at text = quoted_within 1024 text
 
 -- a word, which is all up to the first blank
 abbrev pub word_at : List ℕ → Option (List ℕ × List ℕ)

@@ -7,7 +7,7 @@ use Rattle.wm_script.specs.Lines.{is_plan_deed, line_of}
 use Rattle.wm_script.specs.declared.script.ScriptRefusal.{ScriptRefusal}
 use Rattle.wm_script.specs.declared.script.ScriptRefusal.TheVariants as refusals
 use Rattle.wm_script.specs.declared.line.Deed.{Deed}
-use Rattle.wm_script.specs.declared.line.Deed.TheVariants.{Output, Border, Inner, Outer, Map, OutputAdd, Reserve, Give, Run}
+use Rattle.wm_script.specs.declared.line.Deed.TheVariants.{Output, Border, Inner, Outer, Map, OutputAdd, Reserve, Give, Run, Tick}
 use Rattle.wm_script.specs.declared.line.Line.{Line}
 
 -- ---- lines
@@ -75,7 +75,8 @@ script_from before (text ∷ texts) = read_from (in_order before (line_of text))
 abbrev pub script : List ℕ → Result (List Line) ℕ
 script bytes = script_from [] (lines_of bytes)
 
--- a line's output, border, gap, buffer and edges are within the limits, and its text within the size of an input
+-- a line's output, border, gap, buffer and edges are within the limits, its command text is within the size of an input, and
+-- what it tells all has at most 4,096 bytes
 abbrev pub IsFitDeed : Deed → Type 0
 IsFitDeed (Output o) = IsFitOutput o
 IsFitDeed (Border b) = IsFitBorder b
@@ -86,6 +87,7 @@ IsFitDeed (Give con buffer) = IsFitSize buffer.size
 IsFitDeed (OutputAdd o) = IsFitEdges o.reserved
 IsFitDeed (Reserve name edges) = IsFitEdges edges
 IsFitDeed (Run text) = length text ≤ 16777216
+IsFitDeed (Tick text) = length text ≤ 4096
 IsFitDeed other = Unit {0}
 
 abbrev pub IsFitLine : Line → Type 0

@@ -43,8 +43,16 @@ pub enum Deed {
     Deadline(u64),
     /// Runs a text.
     Run(Str),
+    /// Tells all who watch the desk this text.
+    Tick(Str),
     /// Paints the frame.
     Paint,
+    /// Tells the tree.
+    Tree,
+    /// Tells the workspaces.
+    Workspaces,
+    /// Tells the outputs.
+    Outputs,
     /// Tells all marks.
     Marks,
     /// Tells what is asked of the caller's windows above this serial and this number of a step.

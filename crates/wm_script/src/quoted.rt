@@ -1,12 +1,15 @@
 //! Texts of a line: quoted ones, and names.
-ghost use Rattle.std.specs.Prelude.{◌≡◌, ◌++◌, ◌==◌, IfOk, OnOk, false, length, not, take_while};
+ghost use Rattle.std.specs.Prelude.{◌≡◌, ◌++◌, ◌==◌, IfOk, OnOk, false, length, not, take_while, ◌≤◌, IfSome};
 ghost use Rattle.std.specs.Option.{option_map};
-ghost use Rattle.wm_script.specs.Quoted.{closes, escapes, name_at, onto_text, quoted_at, short_text, stands_for, unquoted, word_at};
+ghost use Rattle.wm_script.specs.Quoted.{closes, escapes, name_at, onto_text, quoted_at, quoted_within, short_text, stands_for, text_within, unquoted, word_at};
 
 use crate::fields::behind;
 use std::alloc::{AllocError, Global};
 use std::str;
-use wm_base::{NoMemory, Text, TextRefusal};
+use wm_base::{NoMemory, Str, Text, TextRefusal};
+
+/// How long the text is at most that all are told, in bytes.
+const MOST_TOLD: usize = 4096;
 
 /// A quoted text of at most 1,024 bytes, and what follows it. `\"`, `\\` and `\n` stand for a quotation mark, a
 /// backslash and a line feed.
@@ -21,6 +24,24 @@ pub fn quoted(alloc: Global, text: &[u8]) -> Result<Option<(Text, &[u8])>, NoMem
         return Ok(None);
     };
     match short_text(alloc, &bytes)? {
+        Some(said) => Ok(Some((said, rest))),
+        None => Ok(None),
+    }
+}
+
+/// A quoted text of at most 4,096 bytes, and what follows it.
+pub fn long_quoted(alloc: Global, text: &[u8]) -> Result<Option<(Str, &[u8])>, NoMemory>
+    ensures value { IfOk result (λ said. option_map (λ found. (found.0, found.1.now)) said ≡ quoted_within 4096 text.now) }
+    ensures within { IfOk result (λ said. IfSome said (λ found. length found.0 ≤ 4096)) }
+{
+    let Some(inside) = behind(text, b"\"") else {
+        return Ok(None);
+    };
+    let mut bytes = Vec::new(alloc);
+    let Some(rest) = unquote(inside, &mut bytes)? else {
+        return Ok(None);
+    };
+    match long_text(alloc, &bytes)? {
         Some(said) => Ok(Some((said, rest))),
         None => Ok(None),
     }
@@ -102,6 +123,21 @@ fn push_meant(escaped: bool, c: u8, said: &mut Vec<u8>) -> Result<(), AllocError
         (true, _) => said.extend_from_slice(&[b'\\', c])?,
     }
     Ok(())
+}
+
+/// The text of these bytes. `None` exactly where they are no UTF-8, or more than 4,096.
+#[tactic(auto, using(crate::proofs::TextLemmas::is_within, crate::proofs::TextLemmas::is_none_within))]
+fn long_text(alloc: Global, bytes: &[u8]) -> Result<Option<Str>, NoMemory>
+    ensures value { IfOk result (λ said. said ≡ text_within 4096 bytes.now) }
+    ensures within { IfOk result (λ said. IfSome said (λ text. length text ≤ 4096)) }
+{
+    match str::from_utf8(bytes) {
+        Ok(text) if text.len() <= MOST_TOLD => {
+            let text = String::from_str(alloc, text)?;
+            Ok(Some(Str::of(text)))
+        }
+        _ => Ok(None),
+    }
 }
 
 /// The text of these bytes. `None` exactly where they are no UTF-8, or more than 1,024.

@@ -1,7 +1,7 @@
 //! The script: its lines, and their order.
 ghost use Rattle.std.specs.Prelude.{◌≡◌, ◌==◌, ◌<◌, ◌≤◌, ◌∷◌, true, not, IfOk, IfErr, IfSome, Ok, length, take_while, vec_len};
 ghost use Rattle.wm_script.specs.declared.script.ScriptRefusal.TheVariants as refusals;
-ghost use Rattle.wm_script.specs.Lines.{by_caller, deed_of, is_plan_deed, line_of, other_line_of, run_at, spoken_at};
+ghost use Rattle.wm_script.specs.Lines.{by_caller, deed_of, is_plan_deed, line_of, look_line_of, other_line_of, run_at, spoken_at, tick_at};
 ghost use Rattle.wm_script.specs.Script.{deed_may_follow, has_begun, in_order, is_another, is_plan, lines_of, may_follow, outputs_in, script, IsFitDeed, IsFitLine, IsRefused, IsSoundScript};
 
 use crate::client_lines::client_line;
@@ -9,6 +9,7 @@ use crate::fields::{at_end, behind, number};
 use crate::line::{Deed, Line};
 use crate::output_lines::output_line;
 use crate::plan_lines::plan_line;
+use crate::quoted::long_quoted;
 use crate::window_lines::window_line;
 use std::alloc::{AllocFailed, Global};
 use std::str;
@@ -74,7 +75,7 @@ fn read_deed(alloc: Global, text: &[u8]) -> Result<Option<Deed>, NoMemory>
     }
 }
 
-/// What a line says that runs a text, paints or looks.
+/// What a line says that runs or tells a text, paints or looks.
 fn other_line(alloc: Global, text: &[u8]) -> Result<Option<Deed>, NoMemory>
     requires { length text.now ≤ 16777216 }
     ensures value { IfOk result (λ line. line ≡ other_line_of text.now) }
@@ -83,11 +84,40 @@ fn other_line(alloc: Global, text: &[u8]) -> Result<Option<Deed>, NoMemory>
     if let Some(rest) = behind(text, b"run ") {
         return run_line(alloc, rest);
     }
-    if let Some(rest) = behind(text, b"paint") {
-        return Ok(at_end(rest, Deed::Paint));
+    if let Some(rest) = behind(text, b"tick ") {
+        return tick_line(alloc, rest);
     }
-    match behind(text, b"marks") {
-        Some(rest) => Ok(at_end(rest, Deed::Marks)),
+    match behind(text, b"paint") {
+        Some(rest) => Ok(at_end(rest, Deed::Paint)),
+        None => Ok(look_line(text)),
+    }
+}
+
+/// What a line looks at that is told as one value.
+fn look_line(text: &[u8]) -> Option<Deed>
+    ensures value { result ≡ look_line_of text.now }
+    ensures fit { IfSome result IsFitDeed }
+{
+    if let Some(rest) = behind(text, b"tree") {
+        return at_end(rest, Deed::Tree);
+    }
+    if let Some(rest) = behind(text, b"workspaces") {
+        return at_end(rest, Deed::Workspaces);
+    }
+    if let Some(rest) = behind(text, b"outputs") {
+        return at_end(rest, Deed::Outputs);
+    }
+    let rest = behind(text, b"marks")?;
+    at_end(rest, Deed::Marks)
+}
+
+/// `"T"`, to the end of the line.
+fn tick_line(alloc: Global, text: &[u8]) -> Result<Option<Deed>, NoMemory>
+    ensures value { IfOk result (λ line. line ≡ tick_at text.now) }
+    ensures fit { IfOk result (λ line. IfSome line IsFitDeed) }
+{
+    match long_quoted(alloc, text)? {
+        Some((said, rest)) => Ok(at_end(rest, Deed::Tick(said))),
         None => Ok(None),
     }
 }
