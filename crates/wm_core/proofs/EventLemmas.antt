@@ -32,7 +32,6 @@ nothing_later mode stopped = ap₂ (λ m s. m ++ ([] ++ s)) (same_mode mode) (go
 pub nothing_by : (t : TreeValue) (mode : List ℕ) (stopped : Bool) → changes t (arranged t) t (arranged t) ++ later_events mode stopped None false None ≡ []
 nothing_by t mode stopped = later_alone t mode stopped None false None ∙ nothing_later mode stopped
 
-
 -- where nothing is told the log is as it was
 pub told_nothing : (log : Log) (bodies : List EventBody) → bodies ≡ [] → IsToldOn log bodies log
 told_nothing log bodies none all is = is ∙ ap kept_of (sym (ap (λ more. all ++ more) none ∙ append-nil all))

@@ -13,4 +13,4 @@ pub returns : goal.returns
 returns c = λ start history s.
     let stood = subst (λ (d : DeskValue). transactions.Stands (first start) (entries start history) d.txn) (sym c.self.view_is) s.commits in
     let parts : c.newest.result.now.parts ≡ arranged c.args.self.now.tree = c.newest.ensures.history (first start) (entries start history) stood ∙ (arrangement_is start history ∙ ap arranged (sym s.tree_is)) in
-    ap (λ v. views.Workspaces v) (c.of.ensures ∙ ( c.in_ok-spaces.ensures ∙ ap₂ workspaces_view (ap (λ (d : DeskValue). d.tree) c.self.view_is) parts))
+    ap (λ v. views.Workspaces v) (c.of.ensures ∙ (c.in_ok-spaces.ensures ∙ ap₂ workspaces_view (ap (λ (d : DeskValue). d.tree) c.self.view_is) parts))
