@@ -7,7 +7,7 @@ ghost use Rattle.wm_core.specs.ByWindow.{left_of, new_or};
 ghost use Rattle.wm_changes.specs.Changes.{changes};
 ghost use Rattle.wm_core.specs.DeskValue.{Follows, StandsFrom, kill_after, kill_in};
 ghost use Rattle.wm_core.specs.Effect.{changing, closed, leaving, passing, refused};
-ghost use Rattle.wm_core.specs.Events.{later_events};
+ghost use Rattle.wm_core.specs.Events.{IsToldOn, later_events};
 ghost use Rattle.wm_core.specs.History.{done_by, Entry, History, Start};
 ghost use Rattle.wm_core.specs.Steps.{Answers, Commits, MayCome, Takes};
 ghost use Rattle.wm_core.specs.Windows.{window_count};
@@ -29,6 +29,7 @@ use wm_arrange::{Arrangement, arrange};
 use wm_base::{Buffer, ConId, NoMemory, Text};
 use wm_changes::changes;
 use wm_json::EventBody;
+use wm_kept::Kept;
 use wm_tree::Tree;
 
 impl Desk {
@@ -111,24 +112,21 @@ impl Desk {
             return Err(error);
         }
         let Change {
-            noted,
             newest,
             windows,
             gone,
-            events,
+            told,
         } = change;
         if let Err(error) = self.txn.admit(self.steps, newest, opened, &gone) {
             disown(&mut self.owners, opened);
-            drop(noted);
-            drop(events);
+            drop(told);
             return Err(error);
         }
         self.steps += 1;
         mem::swap(&mut self.tree, tree);
         self.windows = windows;
         self.stopped = either(self.stopped, stops);
-        self.events.push_all(events);
-        note(&mut self.kills, noted, &gone);
+        tell(&mut self.kills, &mut self.events, told, &gone);
         forget_owners(&mut self.owners, &gone);
         Ok(())
     }
@@ -143,23 +141,22 @@ impl Desk {
         requires few { self.now.steps < 2 ^ 48 }
         requires sound { trees.IsSound tree.now }
         ensures noted { (v : ConId) → IfOk result (λ change.
-            kill_in (new_or (option_map (λ m. m.entries) change.noted) self.now.kills) v ≡ kill_after closes.now (self.now.steps + 1) v (kill_in self.now.kills v)) }
+            kill_in (new_or (option_map (λ m. m.entries) change.told.noted) self.now.kills) v ≡ kill_after closes.now (self.now.steps + 1) v (kill_in self.now.kills v)) }
         ensures newest { IfOk result (λ change. change.newest.parts ≡ arranged tree.now) }
         ensures windows { IfOk result (λ change. change.windows ≡ window_count tree.now) }
         ensures gone { Follows self.now.tree tree.now opened → IfOk result (λ change. change.gone.items ≡ closed self.now.tree tree.now opened) }
-        ensures events { (start : Start) (history : History) → StandsFrom start self.now history → IfOk result (λ change. change.events.items ≡ changes self.now.tree (arranged self.now.tree) tree.now (arranged tree.now)) }
-        ensures few { IfOk result (λ change. length change.events.items ≤ 29443) }
+        ensures events { (start : Start) (history : History) → StandsFrom start self.now history → IfOk result (λ change. change.told.events.items ≡ changes self.now.tree (arranged self.now.tree) tree.now (arranged tree.now)) }
+        ensures few { IfOk result (λ change. length change.told.events.items ≤ 29443) }
     {
         let noted = noted(&self.kills, closes, self.steps + 1)?;
         let windows = window_count(tree);
         let gone = closed(self.alloc, &self.tree, self.windows, tree, windows, opened)?;
         let (newest, events) = self.rearrange(tree)?;
         Ok(Change {
-            noted,
             newest,
             windows,
             gone,
-            events,
+            told: Told { noted, events },
         })
     }
 
@@ -181,23 +178,33 @@ impl Desk {
     }
 }
 
-/// What changes with a new tree: the steps that asked windows to close, where some are asked, its arrangement, how many
-/// windows it has, the windows that were closed, and the events that tell it.
+/// What changes with a new tree: its arrangement, how many windows it has, the windows that were closed, and what is told.
 #[derive(Drop)]
 struct Change {
-    noted: Option<BTreeMap<u32, u64>>,
     newest: Arrangement,
     windows: u32,
     gone: Vec<ConId>,
+    told: Told,
+}
+
+/// What a new tree tells: the steps that asked windows to close, where some are asked, and the events.
+#[derive(Drop)]
+struct Told {
+    noted: Option<BTreeMap<u32, u64>>,
     events: Vec<EventBody>,
 }
 
-/// Takes the numbers of the steps that asked windows to close, if any were asked, and forgets those of windows that are gone.
-fn note(kills: &mut BTreeMap<u32, u64>, noted: Option<BTreeMap<u32, u64>>, gone: &[ConId])
-    ensures { (v : ConId) → kill_in kills.new.entries v ≡ left_of gone.now v (kill_in (new_or (option_map (λ m. m.entries) noted) kills.old.entries) v) }
+/// Takes the numbers of the steps that asked windows to close, if any were asked, forgets those of windows that are gone,
+/// and tells the events.
+fn tell(kills: &mut BTreeMap<u32, u64>, events: &mut Kept, told: Told, gone: &[ConId])
+    requires { events.old.last + length told.events.items < 2 ^ 64 }
+    ensures kills { (v : ConId) → kill_in kills.new.entries v ≡ left_of gone.now v (kill_in (new_or (option_map (λ m. m.entries) told.noted) kills.old.entries) v) }
+    ensures events { IsToldOn events.old told.events.items events.new }
+    ensures last { events.new.last ≡ events.old.last + length told.events.items }
 {
-    renew(kills, noted);
+    renew(kills, told.noted);
     forget(kills, gone);
+    events.push_all(told.events);
 }
 
 /// Whether one of the two holds.

@@ -114,15 +114,7 @@ impl Desk {
         ensures { (entry : Entry) → done_by self.old.plan.env self.old.tree entry ≡ idled (outcome self.old.plan.env (Ready batch.now) None self.old.tree) → Takes self.old self.new result entry }
     {
         let applied = run_quiet(self.alloc, &self.plan.env, batch)?;
-        let replies = replies_to(self.alloc, applied.replies.items())?;
-        let later = later_events(
-            self.alloc,
-            &self.mode,
-            self.stopped,
-            &applied.mode,
-            applied.exit,
-            None,
-        )?;
+        let (replies, later) = self.beside(&applied)?;
         let answer = Answer::Replies(List::of(replies));
         Ok(self.pass(answer, applied.mode, applied.exit, later))
     }

@@ -8,7 +8,7 @@ use Rattle.wm_txn.specs.History as commits
 use Rattle.wm_txn.specs.Stands as transactions
 use Rattle.wm_core.specs.DeskValue.{AreOwners, DeskValue, Follows, StandsFrom, kill_after, kill_in, may_come}
 use Rattle.wm_changes.specs.Changes.{changes}
-use Rattle.wm_kept.specs.Log.{Log, kept_of}
+use Rattle.wm_kept.specs.Log.{kept_of}
 use Rattle.wm_core.specs.Effect.{changing, closed, mode_after}
 use Rattle.wm_core.specs.Events.{IsToldOn, later_events}
 use Rattle.wm_core.proofs.EventLemmas.{told_both}
@@ -37,8 +37,8 @@ returns-clause-commits c = λ entry said set is.
           let stood : StandsFrom start d history = rw (← c.self.view_is) at s in
           let lasts : (v : ConId) → may_come t v ≡ true → list_any (same v) c.deref-2.result.now ≡ false = λ v may.
           ap (list_any (same v)) (c.deref-2.ensures.value ∙ (rw (← c.self.view_is) at (c.in_ok-change.ensures.gone c.requires.follows))) ∙ not_gone d start history stood t fresh c.self.invariant.1 c.requires.sound f v may in
-          let kept : (v : ConId) → may_come t v ≡ true → kill_in c.note.new.kills.entries v ≡ kill_after c.args.closes.now (d.steps + 1) v (kill_in d.kills v) = λ v may.
-          c.note.ensures v ∙ (kept_by _ _ (lasts v may) ∙ (rw (← c.self.view_is) at (c.in_ok-change.ensures.noted v))) in
+          let kept : (v : ConId) → may_come t v ≡ true → kill_in c.tell.new.kills.entries v ≡ kill_after c.args.closes.now (d.steps + 1) v (kill_in d.kills v) = λ v may.
+          c.tell.ensures.kills v ∙ (kept_by _ _ (lasts v may) ∙ (rw (← c.self.view_is) at (c.in_ok-change.ensures.noted v))) in
           let o = first start in
           let h = entries start history in
           let Fit : List Placed → List ConId → Type 0 = λ parts ids. transactions.IsFit o h parts fresh ids in
@@ -46,13 +46,13 @@ returns-clause-commits c = λ entry said set is.
           let fit : Fit (arranged t) (closed d.tree t fresh) = fits d start history stood t fresh c.self.invariant.1 c.requires.sound f in
           let admitted = c.in_default-admit.ensures.stands o h (place d start history stood) stood.commits (subst (λ z. Fit z c.deref.result.now) (sym newest) (subst (Fit (arranged t)) (sym gone) fit)) in
           let came : Came (arranged t) (closed d.tree t fresh) = subst (Came (arranged t)) gone (subst (λ z. Came z c.deref.result.now) newest admitted) in
-          let Stops : Bool → Type 0 = λ b. StandsFrom start (record { plan = d.plan; steps = d.steps + 1; tree = t; txn = c.admit.new.self; mode = mode_after set d.mode; stopped = b; events = log; kills = c.note.new.kills.entries }) (entry ∷ history) in
+          let Stops : Bool → Type 0 = λ b. StandsFrom start (record { plan = d.plan; steps = d.steps + 1; tree = t; txn = c.admit.new.self; mode = mode_after set d.mode; stopped = b; events = log; kills = c.tell.new.kills.entries }) (entry ∷ history) in
           let changed = changes d.tree (arranged d.tree) t (arranged t) in
-          let seen : c.in_ok-change.change.events.items ≡ changed = rw (← c.self.view_is) at (c.in_ok-change.ensures.events start history s) in
-          let first_told : IsToldOn d.events changed c.push_all.new.self = λ all was. c.push_all.ensures.history all was ∙ ap (λ bodies. kept_of (all ++ bodies)) seen in
-          let logged : IsToldOn d.events (changed ++ later_events d.mode d.stopped set c.args.stops None) log = told_both d.events c.push_all.new.self log changed (later_events d.mode d.stopped set c.args.stops None) first_told (rw (← c.self.view_is) at told) in
+          let seen : c.in_ok-change.change.told.events.items ≡ changed = rw (← c.self.view_is) at (c.in_ok-change.ensures.events start history s) in
+          let first_told : IsToldOn d.events changed c.tell.new.events = λ all was. c.tell.ensures.events all was ∙ ap (λ bodies. kept_of (all ++ bodies)) seen in
+          let logged : IsToldOn d.events (changed ++ later_events d.mode d.stopped set c.args.stops None) log = told_both d.events c.tell.new.events log changed (later_events d.mode d.stopped set c.args.stops None) first_told (rw (← c.self.view_is) at told) in
           rw c.swap.ensures.x_after (subst Stops (sym c.either-self-inside.ensures)
-          (stands_left d start history stood t fresh c.self.invariant.1 c.requires.sound f entry said c.admit.new.self set c.args.stops c.args.closes.now log c.note.new.kills.entries here logged kept came));
+          (stands_left d start history stood t fresh c.self.invariant.1 c.requires.sound f entry said c.admit.new.self set c.args.stops c.args.closes.now log c.tell.new.kills.entries here logged kept came));
       plan = rw (← c.self.view_is) refl;
       count = rw (← c.self.view_is) refl;
       err = tt;
@@ -61,7 +61,7 @@ returns-clause-commits c = λ entry said set is.
 pub returns-clause-room : goal.returns-clause-room
 returns-clause-room c =
     let few : c.self.inside.steps < 2 ^ 48 = rw (← c.self.view_is) at c.requires.few in
-    (omega (arith, c.self.invariant.0.0.0.1, ap (λ (k : Log). k.last) c.push_all.ensures.value, c.in_ok-change.ensures.few), omega (arith, few))
+    (omega (arith, c.self.invariant.0.0.0.1, c.tell.ensures.last, c.in_ok-change.ensures.few), omega (arith, few))
 
 -- the callers are those of the new tree
 pub invariant_of-self-2 : goal.invariant_of-self-2
@@ -71,7 +71,7 @@ invariant_of-self-2 c =
     let owners : AreOwners c.forget_owners.new.owners c.args.tree.now =
     owners_after t c.args.tree.now c.args.opened c.self.invariant.1 c.requires.sound f c.self.inside.owners c.own.new.owners c.forget_owners.new.owners c.deref-3.result.now
     (c.deref-3.ensures.value ∙ (rw (← c.self.view_is) at (c.in_ok-change.ensures.gone c.requires.follows))) c.self.invariant.0.1 c.in_default.ensures.ok c.forget_owners.ensures in
-    rw c.swap.ensures.x_after ((((omega (arith, c.in_default-admit.ensures.prefix), omega (arith, c.self.invariant.0.0.0.1, ap (λ (k : Log). k.last) c.push_all.ensures.value, c.in_ok-change.ensures.few)), c.in_ok-change.ensures.windows), owners), c.requires.sound)
+    rw c.swap.ensures.x_after ((((omega (arith, c.in_default-admit.ensures.prefix), omega (arith, c.self.invariant.0.0.0.1, c.tell.ensures.last, c.in_ok-change.ensures.few)), c.in_ok-change.ensures.windows), owners), c.requires.sound)
 
 -- where there was no memory the callers are those of the old tree
 pub invariant_of-self-in-Err-admit : goal.invariant_of-self-in-Err-admit

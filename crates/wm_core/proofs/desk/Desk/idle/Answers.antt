@@ -1,9 +1,8 @@
-use Rattle.std.proofs.Common.{◌≡◌, map, None, ap, sym, ◌∙◌}
+use Rattle.std.proofs.Common.{◌≡◌, None, ap, sym, ◌∙◌}
 use Rattle.wm_apply.specs.Batches.{Outcome, outcome}
 use Rattle.wm_criteria.specs.declared.verdict.Verdict.TheVariants.{Ready}
 use Rattle.wm_core.specs.DeskValue.{DeskValue}
-use Rattle.wm_core.specs.Effect.{idled, passing, reply_to}
-use Rattle.wm_core.specs.Events.{later_events}
+use Rattle.wm_core.specs.Effect.{idled, passing}
 use Rattle.wm_core.specs.declared.step.Answer.TheVariants.{Replies}
 use Rattle.wm_core.proofs.StepLemmas.{taken}
 use Rattle.wm_core.proofs.desk.Desk.idle.Goals as goal
@@ -14,6 +13,5 @@ returns c = λ entry is.
     let a = c.in_ok-applied.applied in
     let done : Outcome = record { tree = d.tree; replies = a.replies; mode = a.mode; exit = a.exit; kills = a.kills } in
     let left : outcome d.plan.env (Ready c.args.batch.now) None d.tree ≡ done = ap (λ (d : DeskValue). outcome d.plan.env (Ready c.args.batch.now) None c.args.self.now.tree) (sym c.self.view_is) ∙ c.in_ok-applied.ensures None d.tree in
-    let replied = c.of.ensures ∙ (c.in_ok-replies.ensures ∙ ap (map reply_to) c.items.ensures) in
-    let later : c.in_ok-later.later.items ≡ later_events d.mode d.stopped a.mode a.exit None = c.in_ok-later.ensures ∙ ap (λ (d : DeskValue). later_events d.mode d.stopped a.mode a.exit None) c.self.view_is in
-    taken _ _ _ _ (c.pass.ensures entry None (is ∙ (ap idled left ∙ ap (λ z. passing (Replies z) d.tree a.mode a.exit None) (sym replied))) later)
+    let replied = c.of.ensures ∙ c.in_ok-replies.ensures.replies in
+    taken _ _ _ _ (c.pass.ensures entry None (is ∙ (ap idled left ∙ ap (λ z. passing (Replies z) d.tree a.mode a.exit None) (sym replied))) c.in_ok-replies.ensures.later)
