@@ -217,9 +217,13 @@ con_node t parts above part c (Placeholder props swallows) kids = any_con t part
 
 -- ---- rows
 
--- with the rows below it: their views, and their order by recency
+-- with the views of the rows below it, and the ids of them by recency
+abbrev pub rowed : List NodeView → List NodeView → List ℕ → Shown → Shown
+rowed nodes floating focus v = record v { nodes = nodes; floating_nodes = floating; focus = focus }
+
+-- with the views of its children and floating windows
 abbrev pub with_rows : List ConId → Forest → Forest → List NodeView → List NodeView → Shown → Shown
-with_rows ids kids floats nodes floating v = record v { nodes = nodes; floating_nodes = floating; focus = focus ids kids floats }
+with_rows ids kids floats nodes floating v = rowed nodes floating (focus ids kids floats) v
 
 -- above the children of a node
 abbrev pub over_kids : List Placed → ConId → Forest → Above
