@@ -1,3 +1,4 @@
+pub mod FocusLemmas
 pub mod MapLemmas
 pub mod NodeLemmas
 pub mod OrderLemmas

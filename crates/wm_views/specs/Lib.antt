@@ -1,3 +1,4 @@
+pub mod FocusLaws
 pub mod Maps
 pub mod Nodes
 pub mod Order

@@ -1,5 +1,5 @@
 //! The views of the scratchpad: an output with one workspace, whose floating windows are those of the scratchpad.
-ghost use Rattle.std.specs.Prelude.{◌≡◌, ◌++◌, ◌∷◌, [], codes, IfOk, OnOk};
+ghost use Rattle.std.specs.Prelude.{◌≡◌, ◌++◌, ◌∷◌, [], IfOk, OnOk};
 ghost use Rattle.wm_arrange.specs.AreaOf.{nowhere};
 ghost use Rattle.wm_forest.specs.Forest.{end};
 ghost use Rattle.wm_forest.specs.SoundRow.{containers};

@@ -1,5 +1,5 @@
 //! A tree with its arrangement, and maps of what is looked up in them.
-ghost use Rattle.std.specs.Prelude.{◌≡◌, length, IfOk};
+ghost use Rattle.std.specs.Prelude.{◌≡◌, IfOk};
 ghost use Rattle.wm_forest.specs.Recency.{lists};
 ghost use Rattle.wm_base.specs.declared.ids.ConId.{ConId};
 ghost use Rattle.wm_views.specs.Maps.{area, rect_at, value_at};
