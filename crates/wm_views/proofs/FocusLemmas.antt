@@ -19,7 +19,8 @@ use Rattle.wm_json.specs.declared.views.NodeView.TheViews.{out-NodeView, roll-No
 use Rattle.wm_tree.specs.TreeValue.{TreeValue}
 use Rattle.wm_views.specs.declared.cons.Above.{Above}
 use Rattle.wm_views.specs.FocusLaws.{FocusIsOfCons, FocusIsOfOutputs, FocusIsOfSpaces, id_of}
-use Rattle.wm_views.specs.Nodes.{Shown, by_recency, con_node, con_views, cons, focus, least_place, output_nodes, outputs_under, over_kids, placed_row, put_nodes, space_nodes, spaces_under}
+use Rattle.wm_views.specs.Nodes.{Shown, con_node, con_views, cons, output_nodes, outputs_under, over_kids, space_nodes, spaces_under}
+use Rattle.wm_views.specs.Recency.{by_recency, focus, least_place, placed_row, put_nodes}
 use Rattle.wm_views.specs.Rows.{IsRowAt}
 use Rattle.wm_views.proofs.OrderLemmas.{all_nodes, nodes_are_all}
 use Rattle.wm_views.proofs.RowLemmas.{con_rest, output_rest, space_rest}

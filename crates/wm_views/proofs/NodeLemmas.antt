@@ -14,7 +14,8 @@ use Rattle.wm_tree.specs.TreeValue.{TreeValue}
 use Rattle.wm_views.specs.declared.cons.Above.{Above}
 use Rattle.wm_views.specs.declared.rows.Below.{Below}
 use Rattle.wm_views.specs.Maps.{area}
-use Rattle.wm_views.specs.Nodes.{Shown, by_recency, con_node, con_views, cons, focus, over_floats, over_kids, rowed, space_node, space_nodes}
+use Rattle.wm_views.specs.Nodes.{Shown, con_node, con_views, cons, over_floats, over_kids, rowed, space_node, space_nodes}
+use Rattle.wm_views.specs.Recency.{by_recency, focus}
 use Rattle.wm_views.specs.Rows.{IsPlaced}
 
 -- a view that has the fields of another, with equal rows, is that one with these rows

@@ -9,7 +9,8 @@ use Rattle.wm_json.specs.declared.views.NodeView.{NodeView}
 use Rattle.wm_json.specs.declared.views.NodeView.TheViews.{out-NodeView}
 use Rattle.wm_tree.specs.TreeValue.{TreeValue}
 use Rattle.wm_views.specs.declared.cons.Above.{Above}
-use Rattle.wm_views.specs.Nodes.{cons, focus, outputs_under, root_focus, spaces_under}
+use Rattle.wm_views.specs.Nodes.{cons, outputs_under, root_focus, spaces_under}
+use Rattle.wm_views.specs.Recency.{focus}
 use Rattle.wm_views.specs.Rows.{IsRowAt}
 
 abbrev pub id_of : NodeView → ℕ

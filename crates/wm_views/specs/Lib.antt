@@ -3,6 +3,7 @@ pub mod Maps
 pub mod Nodes
 pub mod Order
 pub mod Outputs
+pub mod Recency
 pub mod Rows
 pub mod Sight
 pub mod Workspaces

@@ -4,7 +4,8 @@ ghost use Rattle.wm_forest.specs.Look.{output_kind, space_kind};
 ghost use Rattle.wm_forest.specs.SoundRow.{containers, outputs, spaces};
 ghost use Rattle.wm_json.specs.declared.views.NodeView.TheViews.{roll-NodeView};
 ghost use Rattle.wm_views.specs.Maps.{area};
-ghost use Rattle.wm_views.specs.Nodes.{cons, least_place, output_node, output_nodes, outputs_under, over_floats, over_kids, placed_row, put_nodes, space_nodes, spaces_under};
+ghost use Rattle.wm_views.specs.Nodes.{cons, output_node, output_nodes, outputs_under, over_floats, over_kids, space_nodes, spaces_under};
+ghost use Rattle.wm_views.specs.Recency.{least_place, placed_row, put_nodes};
 ghost use Rattle.wm_views.specs.Rows.{IsKids, IsPlaced, IsRowAt};
 ghost use Rattle.wm_views.specs.Sight.{IsSight};
 

@@ -4,7 +4,8 @@ ghost use Rattle.wm_arrange.specs.AreaOf.{nowhere};
 ghost use Rattle.wm_forest.specs.Forest.{end};
 ghost use Rattle.wm_forest.specs.SoundRow.{containers};
 ghost use Rattle.wm_json.specs.declared.views.NodeView.TheViews.{roll-NodeView};
-ghost use Rattle.wm_views.specs.Nodes.{cons, least_place, over_floats, scratch_output, scratch_space, scratch_view};
+ghost use Rattle.wm_views.specs.Nodes.{cons, over_floats, scratch_output, scratch_space, scratch_view};
+ghost use Rattle.wm_views.specs.Recency.{least_place};
 ghost use Rattle.wm_views.specs.Rows.{IsPlaced, IsRowAt};
 ghost use Rattle.wm_views.specs.Sight.{IsSight};
 

@@ -4,7 +4,7 @@ ghost use Rattle.wm_forest.specs.Recency.{lists};
 ghost use Rattle.wm_base.specs.declared.ids.ConId.{ConId};
 ghost use Rattle.wm_views.specs.Maps.{area, rect_at, value_at};
 ghost use Rattle.wm_views.specs.declared.maps.Wanted.TheVariants.{Areas, Contents, Titles};
-ghost use Rattle.wm_views.specs.Nodes.{place_of};
+ghost use Rattle.wm_views.specs.Recency.{place_of};
 ghost use Rattle.wm_views.specs.Sight.{IsSight};
 
 use crate::maps::{Wanted, ids, rects};

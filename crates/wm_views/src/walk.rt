@@ -2,7 +2,8 @@
 ghost use Rattle.std.specs.Prelude.{◌≡◌, ◌++◌, IfOk, OnOk};
 ghost use Rattle.wm_forest.specs.Look.{con_kind};
 ghost use Rattle.wm_forest.specs.SoundRow.{containers};
-ghost use Rattle.wm_views.specs.Nodes.{con_views, cons, least_place, over_floats, over_kids, placed_row, put_nodes};
+ghost use Rattle.wm_views.specs.Nodes.{con_views, cons, over_floats, over_kids};
+ghost use Rattle.wm_views.specs.Recency.{least_place, placed_row, put_nodes};
 ghost use Rattle.wm_views.specs.Rows.{IsKids, IsRowAt};
 ghost use Rattle.wm_views.specs.Sight.{IsSight};
 

@@ -1,5 +1,5 @@
 use Rattle.std.proofs.Common.{refl, ap, ◌∙◌}
-use Rattle.wm_views.specs.Nodes.{placed_row, put_nodes}
+use Rattle.wm_views.specs.Recency.{placed_row, put_nodes}
 use Rattle.wm_views.proofs.NodeLemmas.{con_over}
 use Rattle.wm_views.proofs.walk.+cons.Goals as goal
 
