@@ -1,5 +1,5 @@
 -- Texts that are UTF-8, or are not.
-use Rattle.std.proofs.Common.{◌≡◌, ◌∙◌, refl, ap, ℕ, List, None, Some, Bool, true, false, leb, length, ◌≤◌, ⊎_elim, arith}
+use Rattle.std.proofs.Common.{◌≡◌, ◌∙◌, refl, ap, ℕ, List, None, Some, Bool, true, false, leb, length, ◌≤◌, ◌<◌, ⊎_elim, arith}
 use Rattle.std.specs.Str.{is_utf8, IsUtf8}
 use Rattle.std.proofs.lemmas.Bool.Decides.{leb_tells}
 use Rattle.std.proofs.lemmas.Str.{IsUtf8-from_is_utf8, is_utf8-from_IsUtf8}
@@ -25,9 +25,15 @@ run_no_text bytes bad = rw (not_utf8 bytes bad) refl
 at_most : (a b : ℕ) → a ≤ b → leb a b ≡ true
 at_most a b h = ⊎_elim (λ p. p.0) (λ p. absurd (omega (arith, p.1, h))) (leb_tells a b)
 
+more_than : (a b : ℕ) → b < a → leb a b ≡ false
+more_than a b h = ⊎_elim (λ p. absurd (omega (arith, p.1, h))) (λ p. p.0) (leb_tells a b)
+
 -- a text of these bytes is taken where they are UTF-8, and no more than a limit
 pub is_within : (most : ℕ) (bytes : List ℕ) → IsUtf8 bytes → length bytes ≤ most → text_within most bytes ≡ Some bytes
 is_within most bytes text short = rw (is_utf8-from_IsUtf8 bytes text, at_most (length bytes) most short) refl
+
+pub is_longer : (most : ℕ) (bytes : List ℕ) → IsUtf8 bytes → most < length bytes → text_within most bytes ≡ None
+is_longer most bytes text long = rw (is_utf8-from_IsUtf8 bytes text, more_than (length bytes) most long) refl
 
 pub is_none_within : (most : ℕ) (bytes : List ℕ) → (IsUtf8 bytes → ⊥) → text_within most bytes ≡ None
 is_none_within most bytes bad = rw (not_utf8 bytes bad) refl

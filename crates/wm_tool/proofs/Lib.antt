@@ -8,3 +8,5 @@ pub mod MessageLemmas
 pub mod PlanLemmas
 pub mod RefusalLemmas
 pub mod RunLemmas
+pub mod TellLemmas
+pub mod ValueLemmas

@@ -8,7 +8,9 @@ use Rattle.wm_script.specs.declared.line.Deed.{Deed}
 use Rattle.wm_script.specs.declared.line.Deed.TheVariants as deed
 use Rattle.wm_script.specs.declared.line.Line.{Line}
 use Rattle.wm_tool.specs.declared.status.Refused.{Refused}
-use Rattle.wm_tool.specs.Output.{act_in, after, after_effect, answer_text, deed_step, effect_of, effect_text, line_step, one_if_some, takes, Takes, entry_of, line_texts, out_from, start, told}
+use Rattle.wm_tool.specs.Output.{act_in, after, after_effect, answer_text, deed_step, effect_of, effect_text, line_step, one_if_some, takes, Takes, entry_of, line_texts, looks_or, Looks, out_from, query_in, start, told, view_text}
+use Rattle.wm_core.specs.Look.{look}
+use Rattle.wm_core.specs.declared.look.Query.{Query}
 use Rattle.wm_tool.specs.Refusals.{IsRising, refusal_at}
 use Rattle.wm_tool.specs.Running.{Leads, Notes, Plays, Stops}
 use Rattle.wm_core.specs.Act.{Act}
@@ -17,6 +19,9 @@ use Rattle.wm_tool.proofs.RunLemmas.{stops_step, plays_step, run_same}
 deed_longer : (who : ℕ) (d : Deed) (rs : List Refused) (h : History) → length (after_effect (effect_of who rs h d) h) ≡ length h + length (deed_step d)
 deed_longer who (deed.Run text) rs h = omega arith
 deed_longer who deed.Paint rs h = omega arith
+deed_longer who deed.Tree rs h = omega arith
+deed_longer who deed.Workspaces rs h = omega arith
+deed_longer who deed.Outputs rs h = omega arith
 deed_longer who deed.Marks rs h = omega arith
 deed_longer who (deed.Wants serial kill) rs h = omega arith
 deed_longer who other rs h = omega arith
@@ -27,6 +32,9 @@ line_longer l rs h = deed_longer l.who l.deed rs h
 deed_same : (who : ℕ) (d : Deed) (rs more : List Refused) (h : History) → IsRising (length (after_effect (effect_of who rs h d) h)) more → effect_of who (rs ++ more) h d ≡ effect_of who rs h d
 deed_same who (deed.Run text) rs more h rising = ap (λ e. Takes e) (run_same who rs more h text rising)
 deed_same who deed.Paint rs more h rising = refl
+deed_same who deed.Tree rs more h rising = refl
+deed_same who deed.Workspaces rs more h rising = refl
+deed_same who deed.Outputs rs more h rising = refl
 deed_same who deed.Marks rs more h rising = refl
 deed_same who (deed.Wants serial kill) rs more h rising = refl
 deed_same who other rs more h rising = refl
@@ -38,9 +46,31 @@ line_same l rs more h rising = deed_same l.who l.deed rs more h rising
 step_effect : (who : ℕ) (d : Deed) (act : Act) → act_in d ≡ Some act → (rs : List Refused) (h : History) → effect_of who rs h d ≡ Takes (entry_of who act)
 step_effect who (deed.Run text) act e rs h = cc
 step_effect who deed.Paint act e rs h = cc
+step_effect who deed.Tree act e rs h = cc
+step_effect who deed.Workspaces act e rs h = cc
+step_effect who deed.Outputs act e rs h = cc
 step_effect who deed.Marks act e rs h = cc
 step_effect who (deed.Wants serial kill) act e rs h = cc
 step_effect who other act e rs h = ap (takes who) e
+
+-- a line that looks
+look_effect : (who : ℕ) (d : Deed) (q : Query) → query_in d ≡ Some q → (rs : List Refused) (h : History) → effect_of who rs h d ≡ Looks who q
+look_effect who (deed.Run text) q e rs h = cc
+look_effect who deed.Paint q e rs h = cc
+look_effect who other q e rs h = ap (λ o. looks_or who o (takes who (act_in other))) e
+
+pub look_count : (d : Deed) (q : Query) → query_in d ≡ Some q → deed_step d ≡ []
+look_count deed.Tree q e = refl
+look_count deed.Workspaces q e = refl
+look_count deed.Outputs q e = refl
+look_count deed.Marks q e = refl
+look_count (deed.Wants serial kill) q e = refl
+look_count other q e = cc
+
+pub look_leads : (start : Start) (desk : DeskValue) (l : Line) (q : Query) (rs : List Refused) (before text : List ℕ) → query_in l.deed ≡ Some q
+    → Leads desk desk (λ h. h) (λ h. view_text (look start h l.who q)) before text → Leads desk desk (after l rs) (told start l rs) before text
+look_leads start desk l q rs before text e leads =
+    λ history stands. subst (λ d. Stands desk (after_effect d history) × (text ≡ before ++ effect_text start history d)) (sym (look_effect l.who l.deed q e rs history)) (leads history stands)
 
 pub step_count : (d : Deed) (act : Act) → act_in d ≡ Some act → deed_step d ≡ None ∷ []
 step_count (deed.Run text) act e = cc

@@ -6,3 +6,4 @@ pub mod Planning
 pub mod Refusals
 pub mod Running
 pub mod Status
+pub mod Values

@@ -12,7 +12,11 @@ use Rattle.wm_core.specs.declared.step.Answer.{Answer}
 use Rattle.wm_core.specs.declared.step.Answer.TheVariants as answers
 use Rattle.wm_json.specs.Replies.{replies_text}
 use Rattle.wm_core.specs.Frame.{frame}
+use Rattle.json.specs.Print.{quoted}
 use Rattle.wm_json.specs.Arrays.{texts_text}
+use Rattle.wm_json.specs.Nodes.{node_text}
+use Rattle.wm_json.specs.Objects.{always, object_text}
+use Rattle.wm_json.specs.Spaces.{outputs_text, workspaces_text}
 use Rattle.wm_core.specs.Look.{look}
 use Rattle.wm_core.specs.declared.look.Query.{Query}
 use Rattle.wm_core.specs.declared.look.Query.TheVariants as query
@@ -47,7 +51,7 @@ answer_text answers.BadRect = codes "bad-rect" ++ new_line
 
 -- the opening of the standard plan
 abbrev pub start : Start
-start = record { opened = opening default_outputs Bare 0 0; env = bare_env; windows = [] }
+start = record { opened = opening default_outputs Bare 0 0; env = bare_env; mode = codes "default"; config = []; windows = [] }
 
 -- ---- the plan of a script
 
@@ -78,7 +82,7 @@ outputs_or_default [] = default_outputs
 outputs_or_default (o ∷ outputs) = o ∷ outputs
 
 abbrev pub opening_set : List OutputPlan → Setting → Start
-opening_set outputs s = record { opened = opening outputs s.border s.inner s.outer; env = bare_env; windows = [] }
+opening_set outputs s = record { opened = opening outputs s.border s.inner s.outer; env = bare_env; mode = codes "default"; config = []; windows = [] }
 
 -- the opening of a script
 abbrev pub start_of : List Line → Start
@@ -118,19 +122,31 @@ act_in (deed.Deadline number) = Some (acts.Deadline number)
 act_in (deed.OutputAdd plan) = Some (acts.OutputAdd plan)
 act_in (deed.OutputRemove name) = Some (acts.OutputRemove name)
 act_in (deed.Reserve name edges) = Some (acts.Reserve name edges)
+act_in (deed.Tick text) = Some (acts.Tick text)
 act_in other = None
 
 abbrev pub takes : ℕ → Option Act → Effect
 takes who None = Rests
 takes who (Some act) = Takes (entry_of who act)
 
+-- what a line looks at
+abbrev pub query_in : Deed → Option Query
+query_in deed.Tree = Some query.Tree
+query_in deed.Workspaces = Some query.Workspaces
+query_in deed.Outputs = Some query.Outputs
+query_in deed.Marks = Some query.Marks
+query_in (deed.Wants serial kill) = Some (query.Wants serial kill)
+query_in other = None
+
+abbrev pub looks_or : ℕ → Option Query → Effect → Effect
+looks_or who None other = other
+looks_or who (Some q) other = Looks who q
+
 -- what comes of what a caller does after a history; nothing comes of the plan
 abbrev pub effect_of : ℕ → List Refused → History → Deed → Effect
 effect_of who refused history (deed.Run text) = Takes (run_entry who refused history text)
 effect_of who refused history deed.Paint = Paints
-effect_of who refused history deed.Marks = Looks who query.Marks
-effect_of who refused history (deed.Wants serial kill) = Looks who (query.Wants serial kill)
-effect_of who refused history other = takes who (act_in other)
+effect_of who refused history other = looks_or who (query_in other) (takes who (act_in other))
 
 abbrev pub after_effect : Effect → History → History
 after_effect Rests history = history
@@ -147,11 +163,25 @@ abbrev pub want_text : Want → List ℕ
 want_text (want.Configure con serial size) = codes "configure " ++ (decimal con.0 ++ (codes " " ++ (decimal serial ++ (codes " " ++ (size_text size ++ new_line)))))
 want_text (want.Kill con number) = codes "kill " ++ (decimal con.0 ++ (codes " " ++ (decimal number ++ new_line)))
 
--- the lines that tell a view; no line of a script looks at the state
+-- the object of one text under this key
+abbrev pub text_object : List ℕ → List ℕ → List ℕ
+text_object key text = object_text (always key (quoted text) ∷ [])
+
+-- a view as one JSON value; what is asked of windows has none, nor has what neither a line nor a message looks at
+abbrev pub view_json : View → List ℕ
+view_json (view.Tree node) = node_text node
+view_json (view.Workspaces spaces) = workspaces_text spaces
+view_json (view.Outputs outputs) = outputs_text outputs
+view_json (view.Marks marks) = texts_text marks
+view_json (view.Modes modes) = texts_text modes
+view_json (view.Mode mode) = text_object (codes "name") mode
+view_json (view.Config config) = text_object (codes "config") config
+view_json other = []
+
+-- the lines that tell a view
 abbrev pub view_text : View → List ℕ
-view_text (view.Marks marks) = texts_text marks ++ new_line
-view_text (view.State state) = []
 view_text (view.Wants wants) = flat_map want_text wants ++ (codes "end" ++ new_line)
+view_text other = view_json other ++ new_line
 
 -- the answer of a step, the frame, or what the caller sees
 abbrev pub effect_text : Start → History → Effect → List ℕ

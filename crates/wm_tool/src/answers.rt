@@ -1,16 +1,16 @@
-//! The lines that tell answers and views.
+//! The lines that tell answers and what is seen.
 ghost use Rattle.std.specs.Prelude.{◌≡◌, ◌++◌, OnOk};
 ghost use Rattle.std.specs.List.{flat_map};
-ghost use Rattle.wm_core.specs.declared.look.View.TheVariants as views;
 ghost use Rattle.wm_core.specs.declared.state.Want.TheVariants as wanted;
 ghost use Rattle.wm_core.specs.declared.step.Answer.TheVariants as answers;
 ghost use Rattle.wm_paint.specs.FrameText.{new_line};
 ghost use Rattle.wm_tool.specs.Output.{answer_text, view_text, want_text};
 
+use crate::views::view_json;
 use std::alloc::Global;
-use wm_base::{ConId, Limit, NoMemory, Size, Text};
+use wm_base::{ConId, Limit, NoMemory, Size};
 use wm_core::{Answer, View, Want};
-use wm_json::{Reply, replies_json, texts_json};
+use wm_json::{Reply, replies_json};
 
 /// Adds the line that tells the answer.
 pub fn push_answer(alloc: Global, piece: &mut Vec<u8>, answer: &Answer) -> Result<(), NoMemory>
@@ -89,21 +89,15 @@ pub fn push_view(alloc: Global, piece: &mut Vec<u8>, view: &View) -> Result<(), 
     ensures { OnOk result (piece.new.items ≡ piece.old.items ++ view_text view.now) }
 {
     match view {
-        View::Marks(marks) => push_marks(alloc, piece, marks.items()),
-        View::State(_) => Ok(()),
         View::Wants(wants) => {
             push_wants(alloc, piece, wants.items())?;
             push_text(piece, "end\n")
         }
+        _ => {
+            let line = view_json(alloc, view)?;
+            push_line(piece, &line)
+        }
     }
-}
-
-/// Adds the line of the marks.
-fn push_marks(alloc: Global, piece: &mut Vec<u8>, marks: &[Text]) -> Result<(), NoMemory>
-    ensures { OnOk result (piece.new.items ≡ piece.old.items ++ view_text (views.Marks marks.now)) }
-{
-    let line = texts_json(alloc, marks)?;
-    push_line(piece, &line)
 }
 
 /// Adds a line for each thing that is asked.

@@ -5,16 +5,17 @@ ghost use Rattle.std.specs.List.{AllByRecursion};
 ghost use Rattle.wm_frames.specs.Frame.{IsShort};
 ghost use Rattle.wm_core.specs.History.{answer, History, opening_of};
 ghost use Rattle.wm_json.specs.Replies.{replies_text, success_text, VERSION_TEXT};
-ghost use Rattle.wm_layouts.specs.Plan.{IsStandard};
 ghost use Rattle.wm_criteria.specs.Building.{Log};
 ghost use Rattle.wm_ports.specs.Told.{TakesAll, TakesPart};
 ghost use Rattle.wm_tool.specs.Ending.{HasStopped};
-ghost use Rattle.wm_tool.specs.Ipc.{after_message, framed, message_step, message_texts, plain_payload, replied, replies_from, replies_of, request_by};
+ghost use Rattle.wm_tool.specs.Ipc.{after_message, framed, message_step, message_texts, replied, replies_from, replies_of};
 ghost use Rattle.wm_tool.specs.Output.{run_entry};
+ghost use Rattle.wm_tool.specs.Planning.{IsPlain};
 ghost use Rattle.wm_tool.specs.Refusals.{refusal_at, IsBacked};
 ghost use Rattle.wm_tool.specs.Running.{Leads, Notes, Plays, Stops};
 ghost use Rattle.wm_tool.specs.declared.status.Refused.{Refused};
 
+use crate::asked::{answer_other, answer_tick};
 use crate::judging::run_text;
 use crate::planning::standard_desk;
 use crate::replay::Stop;
@@ -24,17 +25,14 @@ use wm_base::NoMemory;
 use wm_core::{Answer, Desk};
 use wm_criteria::Build;
 use wm_frames::{Decoder, Message, encode};
-use wm_json::{Reply, compact, replies_json, success_value, version_value};
+use wm_json::{Reply, replies_json};
 use wm_ports::{Sink, write_all};
 
 /// RUN_COMMAND: the payload is a command text.
 const RUN_COMMAND: u32 = 0;
 
-/// GET_VERSION.
-const GET_VERSION: u32 = 7;
-
-/// GET_BINDING_STATE, the greatest type that is known.
-const LAST_KIND: u32 = 12;
+/// SEND_TICK: the payload is told to all who watch the desk.
+const SEND_TICK: u32 = 10;
 
 /// Answers the queued messages on the desk of the standard plan, for caller 0. Patterns that are refused are listed.
 pub fn answer_all<B: Build, W: Sink>(
@@ -72,7 +70,7 @@ fn answer_queue<B: Build, W: Sink>(
 ) -> Result<(), Stop>
     requires few { desk.old.steps + length decoder.old.queue ≤ 16777216 }
     requires short { AllByRecursion IsShort decoder.old.queue }
-    requires plan { IsStandard desk.old.plan }
+    requires plan { IsPlain desk.old.plan }
     requires empty { piece.old.items ≡ [] }
     ensures ok { (old : Option (List ℕ)) → (whole : List Refused → List ℕ) → (texts : List (Option (List ℕ))) → (first : Log) →
         Plays old (W.taken sink.old) desk.old refused.old.items [] (replies_from decoder.old.queue) whole texts (message_texts decoder.old.queue) first (B.log build.old) →
@@ -113,7 +111,10 @@ fn answer_message<B: Build>(
     if message.kind == RUN_COMMAND {
         return answer_command(alloc, desk, message, build, refused, piece);
     }
-    push_reply(message.kind, kind_payload(alloc, message.kind)?, piece)
+    if message.kind == SEND_TICK {
+        return answer_tick(alloc, desk, message, piece);
+    }
+    answer_other(alloc, desk, message, piece)
 }
 
 /// Answers a message that asks to run a text.
@@ -179,7 +180,11 @@ fn answer_replies(alloc: Global, answer: &Answer) -> Result<Vec<u8>, NoMemory>
 
 /// Adds the frame of a reply of this type, where there is one. A payload whose length does not fit 32 bits is
 /// want of memory.
-fn push_reply(kind: u32, payload: Option<Vec<u8>>, piece: &mut Vec<u8>) -> Result<(), NoMemory>
+pub(crate) fn push_reply(
+    kind: u32,
+    payload: Option<Vec<u8>>,
+    piece: &mut Vec<u8>,
+) -> Result<(), NoMemory>
     ensures { OnOk result (piece.new.items ≡ piece.old.items ++ framed kind (option_map (λ bytes. bytes.items) payload)) }
 {
     let Some(payload) = payload else {
@@ -193,32 +198,4 @@ fn push_reply(kind: u32, payload: Option<Vec<u8>>, piece: &mut Vec<u8>) -> Resul
         payload: wm_base::List::of(payload),
     };
     encode(&reply, piece)
-}
-
-/// The payload of the reply to a message of this type that runs no text, where it has one.
-fn kind_payload(alloc: Global, kind: u32) -> Result<Option<Vec<u8>>, NoMemory>
-    requires { (kind ≡ 0) → ⊥ }
-    ensures { (payload : List ℕ) → IfOk result (λ p. option_map (λ bytes. bytes.items) p ≡ plain_payload (request_by kind payload)) }
-{
-    match kind {
-        GET_VERSION => Ok(Some(version_text(alloc)?)),
-        0..=LAST_KIND => Ok(Some(refusal_text(alloc)?)),
-        _ => Ok(None),
-    }
-}
-
-/// The text of the object that names this program's version.
-fn version_text(alloc: Global) -> Result<Vec<u8>, NoMemory>
-    ensures { IfOk result (λ bytes. bytes.items ≡ VERSION_TEXT) }
-{
-    let value = version_value(alloc)?;
-    compact(alloc, &value)
-}
-
-/// The text of the object that says that nothing was done.
-fn refusal_text(alloc: Global) -> Result<Vec<u8>, NoMemory>
-    ensures { IfOk result (λ bytes. bytes.items ≡ success_text false) }
-{
-    let value = success_value(alloc, false)?;
-    compact(alloc, &value)
 }

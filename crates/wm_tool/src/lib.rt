@@ -2,6 +2,7 @@
 #![tactic(auto)]
 
 mod answers;
+mod asked;
 mod drawing;
 mod ipc;
 mod judging;
@@ -10,6 +11,7 @@ mod replay;
 mod run;
 mod status;
 mod steps;
+mod views;
 
 pub use run::tool;
 pub use status::{Refused, Status};

@@ -4,11 +4,11 @@ ghost use Rattle.wm_core.specs.DeskValue.{Stands};
 ghost use Rattle.wm_core.specs.History.{opening_of};
 ghost use Rattle.wm_layouts.specs.Plan.{IsSound, IsStandard, bare_env};
 ghost use Rattle.wm_tool.specs.Output.{outputs_or_default, plain, set_by, start_of};
-ghost use Rattle.wm_tool.specs.Planning.{setting_of};
+ghost use Rattle.wm_tool.specs.Planning.{setting_of, IsPlain};
 ghost use Rattle.wm_script.specs.Script.{IsFitLine, IsSoundScript, outputs_in};
 
 use std::alloc::{AllocError, Global};
-use wm_base::{List, NoMemory, OutputPlan};
+use wm_base::{List, NoMemory, OutputPlan, Str};
 use wm_core::Desk;
 use wm_layouts::{Plan, copy_output};
 use wm_script::{Deed, Line};
@@ -25,11 +25,22 @@ pub fn desk_of(alloc: Global, lines: &[Line]) -> Result<Desk, NoMemory>
 
 /// The desk at the opening of the standard plan.
 pub fn standard_desk(alloc: Global) -> Result<Desk, NoMemory>
-    ensures plan { IfOk result (λ desk. IsStandard desk.plan) }
+    ensures plan { IfOk result (λ desk. IsPlain desk.plan) }
     ensures stands { IfOk result (λ desk. Stands desk []) }
 {
-    let plan = Plan::standard(alloc)?;
+    let plan = plain_plan(alloc)?;
     Desk::start(alloc, plan)
+}
+
+/// The standard plan, with no text of a configuration.
+fn plain_plan(alloc: Global) -> Result<Plan, NoMemory>
+    ensures standard { IfOk result (λ plan. IsStandard plan) }
+    ensures config { IfOk result (λ plan. plan.config ≡ []) }
+    ensures sound { IfOk result (λ plan. IsSound plan) }
+{
+    let mut plan = Plan::standard(alloc)?;
+    plan.config = Str::of(String::new(alloc));
+    Ok(plan)
 }
 
 /// The plan that the lines make of the standard one.
@@ -53,9 +64,10 @@ fn plan_on_outputs(alloc: Global, lines: &[Line]) -> Result<Plan, NoMemory>
     ensures outputs { IfOk result (λ plan. plan.outputs ≡ outputs_or_default (outputs_in lines.now)) }
     ensures setting { IfOk result (λ plan. setting_of plan ≡ plain) }
     ensures env { IfOk result (λ plan. plan.env ≡ bare_env) }
+    ensures config { IfOk result (λ plan. plan.config ≡ []) }
     ensures sound { IfOk result (λ plan. IsSound plan) }
 {
-    let mut plan = Plan::standard(alloc)?;
+    let mut plan = plain_plan(alloc)?;
     let outputs = copy_outputs(alloc, lines)?;
     if outputs.is_empty() {
         return Ok(plan);
@@ -87,6 +99,7 @@ fn set(plan: &mut Plan, line: &Line)
     ensures setting { setting_of plan.new ≡ set_by line.now.deed (setting_of plan.old) }
     ensures outputs { plan.new.outputs ≡ plan.old.outputs }
     ensures env { plan.new.env ≡ plan.old.env }
+    ensures config { plan.new.config ≡ plan.old.config }
 {
     match &line.deed {
         Deed::Border(border) => plan.border = *border,

@@ -11,7 +11,7 @@ ghost use Rattle.wm_defs.specs.Counts.{Rose};
 ghost use Rattle.wm_criteria.specs.Building.{Log};
 ghost use Rattle.wm_ports.specs.Told.{TakesAll, TakesPart};
 ghost use Rattle.wm_tool.specs.Ending.{HasStopped};
-ghost use Rattle.wm_tool.specs.Output.{after, answer_text, entry_of, line_step, line_texts, out_from, run_entry, start_of, told, view_text};
+ghost use Rattle.wm_tool.specs.Output.{after, answer_text, entry_of, line_step, line_texts, out_from, query_in, run_entry, start_of, told, view_text};
 ghost use Rattle.wm_tool.specs.Refusals.{refusal_at, IsBacked};
 ghost use Rattle.wm_tool.specs.Running.{Leads, Notes, Plays, Stops, Writes};
 ghost use Rattle.wm_script.specs.Script.{IsFitLine, IsSoundScript};
@@ -176,18 +176,30 @@ pub(crate) fn run_line<B: Build>(
             run_and_tell(alloc, desk, line.who, text.as_str(), build, refused, piece)
         }
         Deed::Paint => paint(alloc, desk, piece),
-        Deed::Marks => look(alloc, desk, line.who, &Query::Marks, piece),
-        Deed::Wants { serial, kill } => {
-            let query = Query::Wants {
-                serial: *serial,
-                kill: *kill,
-            };
-            look(alloc, desk, line.who, &query, piece)
-        }
-        deed => match step_of(deed)? {
-            Some(step) => take(alloc, desk, line.who, step, piece),
-            None => Ok(()),
+        deed => match query_in(deed) {
+            Some(query) => look(alloc, desk, line.who, &query, piece),
+            None => match step_of(alloc, deed)? {
+                Some(step) => take(alloc, desk, line.who, step, piece),
+                None => Ok(()),
+            },
         },
+    }
+}
+
+/// What a line looks at.
+fn query_in(deed: &Deed) -> Option<Query>
+    ensures { result ≡ query_in deed.now }
+{
+    match deed {
+        Deed::Tree => Some(Query::Tree),
+        Deed::Workspaces => Some(Query::Workspaces),
+        Deed::Outputs => Some(Query::Outputs),
+        Deed::Marks => Some(Query::Marks),
+        Deed::Wants { serial, kill } => Some(Query::Wants {
+            serial: *serial,
+            kill: *kill,
+        }),
+        _ => None,
     }
 }
 
@@ -256,5 +268,7 @@ fn look(
         (λ history. view_text (look (opening_of desk.now.plan) history who query.now)) piece.old.items piece.new.items) }
 {
     let view = desk.look(who, query)?;
-    push_view(alloc, piece, &view)
+    let told = push_view(alloc, piece, &view);
+    drop(view);
+    told
 }

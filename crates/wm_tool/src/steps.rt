@@ -1,5 +1,5 @@
 //! The steps that lines of a script take.
-ghost use Rattle.std.specs.Prelude.{◌≡◌, None, Some, IfOk, IfSome};
+ghost use Rattle.std.specs.Prelude.{◌≡◌, ◌≤◌, None, Some, IfOk, IfSome, length};
 ghost use Rattle.std.specs.Option.{option_map};
 ghost use Rattle.wm_core.specs.Act as acts;
 ghost use Rattle.wm_core.specs.Act.{act_of};
@@ -9,14 +9,16 @@ ghost use Rattle.wm_layouts.specs.Sizes.{IsFitSize};
 ghost use Rattle.wm_script.specs.Script.{IsFitDeed};
 ghost use Rattle.wm_tool.specs.Output.{act_in};
 
-use wm_base::{Buffer, ConId, Edges, NoMemory, OutputPlan, Props, Text};
+use std::alloc::Global;
+use wm_base::{Buffer, ConId, Edges, NoMemory, OutputPlan, Props, Str, Text};
 use wm_core::{ClientStep, Step};
+use wm_json::copy_str;
 use wm_layouts::copy_output;
 use wm_script::Deed;
 use wm_tree::copy_props;
 
 /// The step of a line that takes one and runs no text.
-pub fn step_of(deed: &Deed) -> Result<Option<Step>, NoMemory>
+pub fn step_of(alloc: Global, deed: &Deed) -> Result<Option<Step>, NoMemory>
     requires { IsFitDeed deed.now }
     ensures act { IfOk result (λ step. option_map act_of step ≡ act_in deed.now) }
     ensures fit { IfOk result (λ step. IfSome step IsFitStep) }
@@ -39,6 +41,7 @@ pub fn step_of(deed: &Deed) -> Result<Option<Step>, NoMemory>
         Deed::OutputAdd(plan) => add_step(plan),
         Deed::OutputRemove(name) => remove_step(name),
         Deed::Reserve { name, edges } => reserve_step(name, *edges),
+        Deed::Tick(payload) => tick_step(alloc, payload),
         _ => Ok(None),
     }
 }
@@ -83,6 +86,16 @@ fn remove_step(name: &Text) -> Result<Option<Step>, NoMemory>
 {
     let name = name.clone()?;
     Ok(Some(Step::OutputRemove { name }))
+}
+
+/// The step that tells a text to all who watch the desk.
+fn tick_step(alloc: Global, payload: &Str) -> Result<Option<Step>, NoMemory>
+    requires { length payload.now ≤ 4096 }
+    ensures act { IfOk result (λ step. option_map act_of step ≡ Some (acts.Tick payload.now)) }
+    ensures fit { IfOk result (λ step. IfSome step IsFitStep) }
+{
+    let payload = copy_str(alloc, payload)?;
+    Ok(Some(Step::Tick { payload }))
 }
 
 /// The step that reserves the edges of an output.

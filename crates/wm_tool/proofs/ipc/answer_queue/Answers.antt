@@ -1,12 +1,12 @@
 use Rattle.std.proofs.Common.{[], ap, arith, length, refl, sym, subst}
-use Rattle.wm_layouts.specs.Plan.{IsStandard}
+use Rattle.wm_tool.specs.Planning.{IsPlain}
 use Rattle.std.specs.List.{AllByRecursion}
 use Rattle.wm_frames.specs.Frame.{IsShort}
 use Rattle.wm_core.specs.History.{opening_of}
 use Rattle.wm_ports.specs.Told.{TakesAll, TakesPart}
-use Rattle.wm_tool.specs.Ipc.{after_message, message_texts, replied, replies_from, request_of, text_of_request}
+use Rattle.wm_tool.specs.Ipc.{after_message, message_texts, replied, replies_from, request_of}
 use Rattle.wm_tool.specs.Running.{Leads, Plays}
-use Rattle.wm_tool.proofs.MessageLemmas.{one_text, plays_message, stops_message}
+use Rattle.wm_tool.proofs.MessageLemmas.{one_request, plays_message, stops_message}
 use Rattle.wm_tool.proofs.RunLemmas.{fails, on_err, writes, writes_all}
 use Rattle.wm_tool.proofs.ipc.answer_queue.Goals as goal
 
@@ -37,8 +37,8 @@ loop-message-preserved g c =
     let desk = c.loop-message.desk in
     let kept = c.loop-message.invariant in
     record {
-      few = omega (arith, kept.few, c.in_ok-answered.ensures.steps, one_text (text_of_request (request_of c.in-Some.message)), ap length c.in-Some.ensures.queue);
-      plan = subst IsStandard (sym c.in_ok-answered.ensures.plan) kept.plan;
+      few = omega (arith, kept.few, c.in_ok-answered.ensures.steps, one_request (request_of c.in-Some.message), ap length c.in-Some.ensures.queue);
+      plan = subst IsPlain (sym c.in_ok-answered.ensures.plan) kept.plan;
       short = (subst (AllByRecursion IsShort) c.in-Some.ensures.queue kept.short).1;
       empty = c.clear.ensures.items;
       plays = λ old whole texts first p.

@@ -2,7 +2,7 @@ use Rattle.std.proofs.Common.{◌≡◌, ℕ, ◌+◌, ◌≤◌, List, [], Opti
 use Rattle.std.specs.List.{AllByRecursion}
 use Rattle.wm_criteria.specs.Building.{Log}
 use Rattle.wm_frames.specs.Frame.{IsShort}
-use Rattle.wm_layouts.specs.Plan.{IsStandard}
+use Rattle.wm_tool.specs.Planning.{IsPlain}
 use Rattle.wm_tool.specs.declared.status.Refused.{Refused}
 use Rattle.wm_tool.specs.Ipc.{message_texts, replies_from}
 use Rattle.wm_tool.specs.Running.{Plays}
@@ -12,7 +12,7 @@ use Rattle.wm_tool.proofs.ipc.answer_queue.Given as goal
 abbrev pub invariant-loop-message : goal.invariant-loop-message
 invariant-loop-message g l = record {
   few : l.desk.steps + length l.decoder.queue ≤ 16777216;
-  plan : IsStandard l.desk.plan;
+  plan : IsPlain l.desk.plan;
   short : AllByRecursion IsShort l.decoder.queue;
   empty : l.piece.items ≡ [];
   plays : (old : Option (List ℕ)) (whole : List Refused → List ℕ) (texts : List (Option (List ℕ))) (first : Log)

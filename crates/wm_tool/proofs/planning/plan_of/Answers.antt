@@ -15,6 +15,7 @@ loop-rest-preserved c =
       sound = c.set.ensures.sound;
       outputs = c.set.ensures.outputs ∙ kept.outputs;
       env = c.set.ensures.env ∙ kept.env;
+      config = c.set.ensures.config ∙ kept.config;
       fit = All-take IsFitLine _ _ (All-drop IsFitLine 1 rest kept.fit);
       set =
           ap (set_by_all (take (length rest - 1) (drop 1 rest))) c.set.ensures.setting

@@ -1,4 +1,4 @@
-use Rattle.std.proofs.Common.{◌≡◌, All, length}
+use Rattle.std.proofs.Common.{◌≡◌, [], All, length}
 use Rattle.wm_layouts.specs.Plan.{IsSound, bare_env}
 use Rattle.wm_tool.specs.Output.{outputs_or_default, plain, set_by_all}
 use Rattle.wm_tool.specs.Planning.{setting_of}
@@ -11,6 +11,7 @@ invariant-loop-rest l = record {
   sound : IsSound l.plan;
   outputs : l.plan.outputs ≡ outputs_or_default (outputs_in l.lines);
   env : l.plan.env ≡ bare_env;
+  config : l.plan.config ≡ [];
   fit : All IsFitLine l.rest;
   set : set_by_all l.rest (setting_of l.plan) ≡ set_by_all l.lines plain;
 }

@@ -1,12 +1,12 @@
-use Rattle.std.proofs.Common.{◌≡◌, ◌+◌, ℕ, List, [], ◌∷◌, Option, None, Some, length, subst, sym}
+use Rattle.std.proofs.Common.{◌≡◌, ◌∙◌, ◌+◌, arith, refl, ℕ, List, [], ◌∷◌, Option, None, Some, length, subst, sym}
 use Rattle.std.specs.Option.{option_map}
 use Rattle.std.specs.Prelude.{OnOk}
 use Rattle.wm_core.specs.Act.{act_of}
 use Rattle.wm_core.specs.History.{History, opening_of}
 use Rattle.wm_tool.specs.Running.{Leads, Notes}
-use Rattle.wm_tool.specs.Output.{act_in, after_effect, deed_step, Effect, effect_of, effect_text, line_step, run_entry, Takes}
-use Rattle.wm_tool.proofs.LineLemmas.{step_count, step_leads}
-use Rattle.wm_tool.proofs.RunLemmas.{ok_weaker, unchanged}
+use Rattle.wm_tool.specs.Output.{act_in, after_effect, deed_step, Effect, effect_of, effect_text, line_step, query_in, run_entry, Takes}
+use Rattle.wm_tool.proofs.LineLemmas.{look_count, look_leads, step_count, step_leads}
+use Rattle.wm_tool.proofs.RunLemmas.{ok_weaker, on_ok, unchanged}
 use Rattle.wm_tool.proofs.replay.run_line.Goals as goal
 
 pub returns-in-Run : goal.returns-in-Run
@@ -33,11 +33,25 @@ returns-in-Some g c =
     let line = c.args.line.now in
     let desk = c.args.desk.now in
     let refused = c.args.refused.now.items in
-    let act : act_in line.deed ≡ Some (act_of c.in-Some.step) = sym (subst (λ step. option_map act_of step ≡ act_in line.deed) c.in-Some.is c.in_ok-step-in_default.ensures.act) in
-    let one : None ∷ [] ≡ line_step line = sym (step_count line.deed (act_of c.in-Some.step) act) in
+    let is : query_in line.deed ≡ Some c.in-Some.query = sym c.query_in.ensures ∙ c.in-Some.is in
+    record {
+      ok = λ none. ok_weaker c.look.result c.look.ensures (λ leads.
+          look_leads (opening_of desk.plan) desk line c.in-Some.query refused c.args.piece.now.items c.look.new.piece.items is leads);
+      steps = subst (λ steps. OnOk c.look.result (desk.steps ≡ desk.steps + length steps)) (sym (look_count line.deed c.in-Some.query is)) (on_ok c.look.result (omega arith));
+      plan = on_ok c.look.result refl;
+      notes = unchanged desk.steps (line_step line) refused (g.B.Build.log c.args.build.now);
+    }
+
+pub returns-in-Some-2 : goal.returns-in-Some-2
+returns-in-Some-2 g c =
+    let line = c.args.line.now in
+    let desk = c.args.desk.now in
+    let refused = c.args.refused.now.items in
+    let act : act_in line.deed ≡ Some (act_of c.in-Some-2.step) = sym (subst (λ step. option_map act_of step ≡ act_in line.deed) c.in-Some-2.is c.in_ok-step-in-None.ensures.act) in
+    let one : None ∷ [] ≡ line_step line = sym (step_count line.deed (act_of c.in-Some-2.step) act) in
     record {
       ok = λ none. ok_weaker c.take.result c.take.ensures.ok (λ leads.
-          step_leads (opening_of desk.plan) desk c.take.new.desk line (act_of c.in-Some.step) refused c.args.piece.now.items c.take.new.piece.items act leads);
+          step_leads (opening_of desk.plan) desk c.take.new.desk line (act_of c.in-Some-2.step) refused c.args.piece.now.items c.take.new.piece.items act leads);
       steps = subst (λ steps. OnOk c.take.result (c.take.new.desk.steps ≡ desk.steps + length steps)) one c.take.ensures.steps;
       plan = c.take.ensures.plan;
       notes = unchanged desk.steps (line_step line) refused (g.B.Build.log c.args.build.now);
