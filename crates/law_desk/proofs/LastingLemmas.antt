@@ -2,7 +2,6 @@
 use Rattle.std.proofs.Common.{◌≡◌, ◌≢◌, ℕ, Bool, true, false, cond, not, List, [], ◌∷◌, ◌++◌, Option, None, Some, is_some, refl, ap, sym, subst, ◌∙◌}
 use Rattle.wm_base.specs.declared.errors.Limit.{Limit}
 use Rattle.wm_base.specs.declared.geometry.Edges.{Edges}
-use Rattle.wm_base.specs.declared.geometry.Size.{Size}
 use Rattle.wm_base.specs.declared.ids.ConId.{ConId}
 use Rattle.wm_base.specs.declared.plan.OutputPlan.{OutputPlan}
 use Rattle.wm_base.specs.declared.properties.Props.{Props}
@@ -13,7 +12,7 @@ use Rattle.wm_core.specs.declared.step.Answer.{Answer}
 use Rattle.wm_core.specs.declared.step.Answer.TheVariants as answers
 use Rattle.wm_apply.specs.Batches.{outcome}
 use Rattle.wm_apply.specs.Quiet.{is_quiet}
-use Rattle.wm_core.specs.Effect.{Effect, ack_said, done_or_refused, effect, has_no_pixels, idled, limit_of, map_effect, ran, refused, run_effect, telling, window_answer}
+use Rattle.wm_core.specs.Effect.{ack_said, done_or_refused, effect, has_no_pixels, idled, limit_of, map_effect, ran, refused, run_effect, telling, window_answer}
 use Rattle.wm_core.specs.History.{Entry, Start, opening_of, tree}
 use Rattle.wm_criteria.specs.declared.verdict.Verdict.{Verdict}
 use Rattle.wm_criteria.specs.declared.verdict.Verdict.TheVariants.{Ready, Bad, PatternRefused}
