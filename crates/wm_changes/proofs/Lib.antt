@@ -5,3 +5,4 @@ pub mod FewLemmas
 pub mod FoundLemmas
 pub mod FoundSpaceLemmas
 pub mod StillLemmas
+pub mod ToldLemmas

@@ -97,11 +97,10 @@ gone_events t a u = flat_map (close_line t a u) (values_of (windows t)) ++ flat_
 abbrev pub focus_events : TreeValue → List Placed → TreeValue → List Placed → List EventBody
 focus_events t a u b = space_focus t a u b ++ window_focus t u b
 
+-- outputs, workspaces and windows that are new or differ
+abbrev pub here_events : TreeValue → TreeValue → List Placed → List EventBody
+here_events t u b = output_events t u ++ flat_map (space_line t u b) (values_of (spaces u)) ++ flat_map (window_line t u b) (values_of (windows u))
+
 -- the events of two trees with their arrangements, in the order in which they are told
 abbrev pub changes : TreeValue → List Placed → TreeValue → List Placed → List EventBody
-changes t a u b =
-    output_events t u
-    ++ flat_map (space_line t u b) (values_of (spaces u))
-    ++ flat_map (window_line t u b) (values_of (windows u))
-    ++ gone_events t a u
-    ++ focus_events t a u b
+changes t a u b = here_events t u b ++ gone_events t a u ++ focus_events t a u b

@@ -6,3 +6,4 @@ pub mod Facts
 pub mod Laws
 pub mod OutputChanges
 pub mod Scene
+pub mod Shot

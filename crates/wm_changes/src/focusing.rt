@@ -1,76 +1,77 @@
 //! The events of what is focused.
 ghost use Rattle.std.specs.Prelude.{◌≡◌, ◌++◌, Some, IfOk, OnOk};
-ghost use Rattle.std.specs.Option.{option_map};
-ghost use Rattle.wm_base.specs.declared.ids.ConId.{ConId};
-ghost use Rattle.wm_changes.specs.Changes.{focus_event, focus_of, space_focus, space_view, window_focus, window_view};
-ghost use Rattle.wm_changes.specs.Facts.{spaces, windows};
+ghost use Rattle.std.specs.Option.{option_copied, option_map};
+ghost use Rattle.wm_changes.specs.Changes.{focus_event, space_focus, space_view, window_focus};
 ghost use Rattle.wm_changes.specs.Scene.{IsScene};
-ghost use Rattle.wm_views.specs.Maps.{value_at};
-ghost use Rattle.wm_views.specs.Sight.{IsSight};
 
 use crate::scene::Scene;
 use crate::spaces::Site;
-use crate::telling::{space_view, tell_window};
+use crate::telling::tell_window;
+use crate::viewer::Viewer;
 use crate::words::Change;
 use std::alloc::Global;
-use wm_base::{ConId, NoMemory};
+use wm_base::NoMemory;
 use wm_json::{EventBody, NodeView};
-use wm_views::Sight;
 
 /// Tells of the focused workspace, where it is another one, with the one that was focused as it was.
 pub fn tell_space_focus(
     events: &mut Vec<EventBody>,
     alloc: Global,
+    old: &mut Viewer<'_>,
+    new: &mut Viewer<'_>,
     before: &Scene<'_>,
     after: &Scene<'_>,
 ) -> Result<(), NoMemory>
     requires before { IsScene before.now }
     requires after { IsScene after.now }
-    ensures { OnOk result (events.new.items ≡ events.old.items ++ space_focus before.now.sight.tree.now before.now.sight.arrangement.now.parts after.now.sight.tree.now after.now.sight.arrangement.now.parts) }
+    requires old_tree { old.old.tree ≡ before.now.tree.now }
+    requires new_tree { new.old.tree ≡ after.now.tree.now }
+    ensures events { OnOk result (events.new.items ≡ events.old.items ++ space_focus before.now.tree.now old.old.parts after.now.tree.now new.old.parts) }
+    ensures viewer { new.new ≡ new.old }
 {
-    let old = before.sight.tree.shown();
-    let new = after.sight.tree.shown();
-    if old == new {
+    let left = before.tree.shown();
+    let shown = after.tree.shown();
+    if left == shown {
         return Ok(());
     }
-    tell_focused(events, alloc, before, after, old, new)
+    match after.spaces.get(&shown.0) {
+        None => Ok(()),
+        Some(site) => tell_focused(events, alloc, old, new, before.spaces.get(&left.0), site),
+    }
 }
 
-/// Tells that a workspace is focused now, where it is there, with the one that was.
+/// Tells that a workspace is focused now, with the one that was.
 fn tell_focused(
     events: &mut Vec<EventBody>,
     alloc: Global,
-    before: &Scene<'_>,
-    after: &Scene<'_>,
-    old: ConId,
-    new: ConId,
+    old: &mut Viewer<'_>,
+    new: &mut Viewer<'_>,
+    left: Option<&Site<'_>>,
+    site: &Site<'_>,
 ) -> Result<(), NoMemory>
-    requires before { IsScene before.now }
-    requires after { IsScene after.now }
-    ensures { OnOk result (events.new.items ≡ events.old.items ++ focus_event
-        (option_map (space_view before.now.sight.tree.now before.now.sight.arrangement.now.parts) (value_at (spaces before.now.sight.tree.now) old))
-        (option_map (space_view after.now.sight.tree.now after.now.sight.arrangement.now.parts) (value_at (spaces after.now.sight.tree.now) new))) }
+    ensures events { OnOk result (events.new.items ≡ events.old.items ++ focus_event (option_map (space_view old.old.tree old.old.parts) (option_copied left.entry)) (Some (space_view new.old.tree new.old.parts site.now))) }
+    ensures viewer { new.new ≡ new.old }
 {
-    match after.spaces.get(&new.0) {
-        None => Ok(()),
-        Some(site) => {
-            let old = view_of(alloc, before, old)?;
-            push_focus(events, alloc, &after.sight, site, old)
-        }
+    match view_of(alloc, old, left) {
+        Ok(before) => push_focus(events, alloc, new, site, before),
+        Err(error) => Err(error),
     }
 }
 
-/// The workspace with this id as events show it.
-fn view_of(alloc: Global, scene: &Scene<'_>, id: ConId) -> Result<Option<NodeView>, NoMemory>
-    requires { IsScene scene.now }
-    ensures { IfOk result (λ view. view ≡ option_map (space_view scene.now.sight.tree.now scene.now.sight.arrangement.now.parts) (value_at (spaces scene.now.sight.tree.now) id)) }
+/// A workspace as events show it, where there is one.
+fn view_of(
+    alloc: Global,
+    viewer: &mut Viewer<'_>,
+    site: Option<&Site<'_>>,
+) -> Result<Option<NodeView>, NoMemory>
+    ensures { IfOk result (λ view. view ≡ option_map (space_view viewer.old.tree viewer.old.parts) (option_copied site.entry)) }
 {
-    match scene.spaces.get(&id.0) {
-        None => Ok(None),
-        Some(site) => match space_view(alloc, &scene.sight, site) {
-            Ok(view) => Ok(Some(view)),
-            Err(error) => Err(error),
-        },
+    let Some(site) = site else {
+        return Ok(None);
+    };
+    match viewer.space(alloc, site) {
+        Ok(view) => Ok(Some(view)),
+        Err(error) => Err(error),
     }
 }
 
@@ -78,14 +79,14 @@ fn view_of(alloc: Global, scene: &Scene<'_>, id: ConId) -> Result<Option<NodeVie
 fn push_focus(
     events: &mut Vec<EventBody>,
     alloc: Global,
-    sight: &Sight<'_>,
+    viewer: &mut Viewer<'_>,
     site: &Site<'_>,
     before: Option<NodeView>,
 ) -> Result<(), NoMemory>
-    requires { IsSight sight.now }
-    ensures { OnOk result (events.new.items ≡ events.old.items ++ focus_event before (Some (space_view sight.now.tree.now sight.now.arrangement.now.parts site.now))) }
+    ensures events { OnOk result (events.new.items ≡ events.old.items ++ focus_event before (Some (space_view viewer.old.tree viewer.old.parts site.now))) }
+    ensures viewer { viewer.new ≡ viewer.old }
 {
-    match space_view(alloc, sight, site) {
+    match viewer.space(alloc, site) {
         Ok(current) => push_views(events, alloc, current, before),
         Err(error) => {
             drop(before);
@@ -123,25 +124,20 @@ fn push_views(
 pub fn tell_window_focus(
     events: &mut Vec<EventBody>,
     alloc: Global,
+    viewer: &mut Viewer<'_>,
     before: &Scene<'_>,
     after: &Scene<'_>,
 ) -> Result<(), NoMemory>
-    requires before { IsScene before.now }
     requires after { IsScene after.now }
-    ensures { OnOk result (events.new.items ≡ events.old.items ++ window_focus before.now.sight.tree.now after.now.sight.tree.now after.now.sight.arrangement.now.parts) }
+    requires tree { viewer.old.tree ≡ after.now.tree.now }
+    ensures { OnOk result (events.new.items ≡ events.old.items ++ window_focus before.now.tree.now after.now.tree.now viewer.old.parts) }
 {
-    let new = after.sight.focused;
-    if before.sight.focused == new {
+    let focused = after.tree.focused();
+    if before.tree.focused() == focused {
         return Ok(());
     }
-    match after.windows.get(&new.0) {
+    match after.windows.get(&focused.0) {
         None => Ok(()),
-        Some(window) => tell_window(
-            events,
-            alloc,
-            &after.sight,
-            window,
-            &[(true, Change::Focus)],
-        ),
+        Some(window) => tell_window(events, alloc, viewer, window, &[(true, Change::Focus)]),
     }
 }

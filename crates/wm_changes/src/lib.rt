@@ -11,6 +11,7 @@ mod scene;
 mod spaces;
 mod standing;
 mod telling;
+mod viewer;
 mod windows;
 mod words;
 

@@ -6,72 +6,79 @@ ghost use Rattle.wm_changes.specs.Changes.{close_line, empty_line, space_line, t
 ghost use Rattle.wm_changes.specs.Differences.{differences, is_urged};
 ghost use Rattle.wm_changes.specs.Facts.{spaces, windows};
 ghost use Rattle.wm_changes.specs.Scene.{IsScene};
-ghost use Rattle.wm_views.specs.Sight.{IsSight};
 
 use crate::comparing::{is_filled, is_floated, is_marked, is_moved, is_retitled, same_flag};
 use crate::scene::Scene;
 use crate::spaces::Site;
 use crate::telling::{tell_space, tell_window};
+use crate::viewer::Viewer;
 use crate::windows::Found;
 use crate::words::Change;
 use std::alloc::Global;
 use wm_base::{ConId, NoMemory};
 use wm_json::EventBody;
-use wm_views::Sight;
 
 /// Tells of the workspaces that are new, or have another name or output.
+#[tactic(auto, using(crate::proofs::ToldLemmas::lines_more))]
 pub fn tell_spaces(
     events: &mut Vec<EventBody>,
     alloc: Global,
+    viewer: &mut Viewer<'_>,
     before: &Scene<'_>,
     after: &Scene<'_>,
 ) -> Result<(), NoMemory>
     requires before { IsScene before.now }
     requires after { IsScene after.now }
-    ensures { OnOk result (events.new.items ≡ events.old.items ++ flat_map (space_line before.now.sight.tree.now after.now.sight.tree.now after.now.sight.arrangement.now.parts) (values_of (spaces after.now.sight.tree.now))) }
+    ensures events { OnOk result (events.new.items ≡ events.old.items ++ flat_map (space_line before.now.tree.now viewer.old.tree viewer.old.parts) (values_of (spaces after.now.tree.now))) }
+    ensures viewer { viewer.new ≡ viewer.old }
 {
     for site in after.spaces.values() {
-        tell_site(events, alloc, before, &after.sight, site)?;
+        tell_site(events, alloc, viewer, before, site)?;
     }
     Ok(())
 }
 
 /// Tells of a workspace, where it is new, or has another name or output.
+#[tactic(auto, using(crate::proofs::ToldLemmas::two_told))]
 fn tell_site(
     events: &mut Vec<EventBody>,
     alloc: Global,
+    viewer: &mut Viewer<'_>,
     before: &Scene<'_>,
-    sight: &Sight<'_>,
     site: &Site<'_>,
 ) -> Result<(), NoMemory>
-    requires before { IsScene before.now }
-    requires sight { IsSight sight.now }
-    ensures { OnOk result (events.new.items ≡ events.old.items ++ space_line before.now.sight.tree.now sight.now.tree.now sight.now.arrangement.now.parts site.now) }
+    requires { IsScene before.now }
+    ensures events { OnOk result (events.new.items ≡ events.old.items ++ space_line before.now.tree.now viewer.old.tree viewer.old.parts site.now) }
+    ensures viewer { viewer.new ≡ viewer.old }
 {
     match before.spaces.get(&site.part.id.0) {
-        None => tell_space(events, alloc, sight, site, &[(true, Change::Init)]),
+        None => tell_space(events, alloc, viewer, site, true, Change::Init),
         Some(old) => {
             let renamed = old.state.name.as_str() != site.state.name.as_str();
             let moved = old.output_id != site.output_id;
-            let words = [(renamed, Change::Rename), (moved, Change::Move)];
-            tell_space(events, alloc, sight, site, &words)
+            tell_space(events, alloc, viewer, site, renamed, Change::Rename)?;
+            tell_space(events, alloc, viewer, site, moved, Change::Move)
         }
     }
 }
 
 /// Tells of the windows that are new, or differ from what they were.
+#[tactic(auto, using(crate::proofs::ToldLemmas::lines_more))]
 pub fn tell_windows(
     events: &mut Vec<EventBody>,
     alloc: Global,
+    viewer: &mut Viewer<'_>,
     before: &Scene<'_>,
     after: &Scene<'_>,
 ) -> Result<(), NoMemory>
     requires before { IsScene before.now }
     requires after { IsScene after.now }
-    ensures { OnOk result (events.new.items ≡ events.old.items ++ flat_map (window_line before.now.sight.tree.now after.now.sight.tree.now after.now.sight.arrangement.now.parts) (values_of (windows after.now.sight.tree.now))) }
+    requires tree { viewer.old.tree ≡ after.now.tree.now }
+    ensures events { OnOk result (events.new.items ≡ events.old.items ++ flat_map (window_line before.now.tree.now after.now.tree.now viewer.old.parts) (values_of (windows after.now.tree.now))) }
+    ensures viewer { viewer.new ≡ viewer.old }
 {
     for window in after.windows.values() {
-        tell_found(events, alloc, before, &after.sight, window)?;
+        tell_found(events, alloc, viewer, before, after, window)?;
     }
     Ok(())
 }
@@ -80,17 +87,20 @@ pub fn tell_windows(
 fn tell_found(
     events: &mut Vec<EventBody>,
     alloc: Global,
+    viewer: &mut Viewer<'_>,
     before: &Scene<'_>,
-    sight: &Sight<'_>,
+    after: &Scene<'_>,
     window: &Found<'_>,
 ) -> Result<(), NoMemory>
     requires before { IsScene before.now }
-    requires sight { IsSight sight.now }
-    ensures { OnOk result (events.new.items ≡ events.old.items ++ window_line before.now.sight.tree.now sight.now.tree.now sight.now.arrangement.now.parts window.now) }
+    requires after { IsScene after.now }
+    requires tree { viewer.old.tree ≡ after.now.tree.now }
+    ensures events { OnOk result (events.new.items ≡ events.old.items ++ window_line before.now.tree.now after.now.tree.now viewer.old.parts window.now) }
+    ensures viewer { viewer.new ≡ viewer.old }
 {
     match before.windows.get(&window.part.id.0) {
-        None => tell_window(events, alloc, sight, window, &[(true, Change::New)]),
-        Some(old) => tell_differences(events, alloc, &before.sight, sight, old, window),
+        None => tell_window(events, alloc, viewer, window, &[(true, Change::New)]),
+        Some(old) => tell_differences(events, alloc, viewer, before, after, old, window),
     }
 }
 
@@ -98,73 +108,76 @@ fn tell_found(
 fn tell_differences(
     events: &mut Vec<EventBody>,
     alloc: Global,
-    old_sight: &Sight<'_>,
-    sight: &Sight<'_>,
+    viewer: &mut Viewer<'_>,
+    before: &Scene<'_>,
+    after: &Scene<'_>,
     old: &Found<'_>,
     window: &Found<'_>,
 ) -> Result<(), NoMemory>
-    requires old { IsSight old_sight.now }
-    requires sight { IsSight sight.now }
-    ensures { OnOk result (events.new.items ≡ events.old.items ++ told (window_event (window_view sight.now.tree.now sight.now.arrangement.now.parts window.now)) (differences old_sight.now.tree.now sight.now.tree.now old.now window.now)) }
+    requires before { IsScene before.now }
+    requires after { IsScene after.now }
+    requires tree { viewer.old.tree ≡ after.now.tree.now }
+    ensures events { OnOk result (events.new.items ≡ events.old.items ++ told (window_event (window_view after.now.tree.now viewer.old.parts window.now)) (differences before.now.tree.now after.now.tree.now old.now window.now)) }
+    ensures viewer { viewer.new ≡ viewer.old }
 {
     let words = [
         (is_retitled(old, window), Change::Title),
         (is_moved(old, window), Change::Move),
         (is_floated(old, window), Change::Floating),
         (is_filled(old, window), Change::FullscreenMode),
-        (is_urged(old_sight, sight, window.part.id), Change::Urgent),
+        (is_urged(before, after, window.part.id), Change::Urgent),
         (is_marked(old, window), Change::Mark),
     ];
-    tell_window(events, alloc, sight, window, &words)
+    tell_window(events, alloc, viewer, window, &words)
 }
 
 /// Whether a window is urgent now, or no longer is.
-fn is_urged(before: &Sight<'_>, after: &Sight<'_>, id: ConId) -> bool
-    requires before { IsSight before.now }
-    requires after { IsSight after.now }
+fn is_urged(before: &Scene<'_>, after: &Scene<'_>, id: ConId) -> bool
+    requires before { IsScene before.now }
+    requires after { IsScene after.now }
     ensures { result ≡ is_urged before.now.tree.now after.now.tree.now id }
 {
     !same_flag(before.is_urgent(id), after.is_urgent(id))
 }
 
 /// Tells of the windows that are gone.
+#[tactic(auto, using(crate::proofs::ToldLemmas::lines_more))]
 pub fn tell_closed(
     events: &mut Vec<EventBody>,
     alloc: Global,
+    viewer: &mut Viewer<'_>,
     before: &Scene<'_>,
     after: &Scene<'_>,
 ) -> Result<(), NoMemory>
     requires before { IsScene before.now }
     requires after { IsScene after.now }
-    ensures { OnOk result (events.new.items ≡ events.old.items ++ flat_map (close_line before.now.sight.tree.now before.now.sight.arrangement.now.parts after.now.sight.tree.now) (values_of (windows before.now.sight.tree.now))) }
+    ensures events { OnOk result (events.new.items ≡ events.old.items ++ flat_map (close_line viewer.old.tree viewer.old.parts after.now.tree.now) (values_of (windows before.now.tree.now))) }
+    ensures viewer { viewer.new ≡ viewer.old }
 {
     for window in before.windows.values() {
         let gone = after.windows.get(&window.part.id.0).is_none();
-        tell_window(
-            events,
-            alloc,
-            &before.sight,
-            window,
-            &[(gone, Change::Close)],
-        )?;
+        tell_window(events, alloc, viewer, window, &[(gone, Change::Close)])?;
     }
     Ok(())
 }
 
 /// Tells of the workspaces that are gone.
+#[tactic(auto, using(crate::proofs::ToldLemmas::lines_more))]
 pub fn tell_emptied(
     events: &mut Vec<EventBody>,
     alloc: Global,
+    viewer: &mut Viewer<'_>,
     before: &Scene<'_>,
     after: &Scene<'_>,
 ) -> Result<(), NoMemory>
     requires before { IsScene before.now }
     requires after { IsScene after.now }
-    ensures { OnOk result (events.new.items ≡ events.old.items ++ flat_map (empty_line before.now.sight.tree.now before.now.sight.arrangement.now.parts after.now.sight.tree.now) (values_of (spaces before.now.sight.tree.now))) }
+    ensures events { OnOk result (events.new.items ≡ events.old.items ++ flat_map (empty_line viewer.old.tree viewer.old.parts after.now.tree.now) (values_of (spaces before.now.tree.now))) }
+    ensures viewer { viewer.new ≡ viewer.old }
 {
     for site in before.spaces.values() {
         let gone = after.spaces.get(&site.part.id.0).is_none();
-        tell_space(events, alloc, &before.sight, site, &[(gone, Change::Empty)])?;
+        tell_space(events, alloc, viewer, site, gone, Change::Empty)?;
     }
     Ok(())
 }

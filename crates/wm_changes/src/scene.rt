@@ -1,44 +1,73 @@
-//! A tree with its arrangement, and the windows and workspaces that were found in it.
-ghost use Rattle.std.specs.Prelude.{◌≡◌, IfOk};
+//! A tree, and the windows and workspaces that were found in it.
+ghost use Rattle.std.specs.Prelude.{◌≡◌, ◌||◌, IfOk, OnOk};
+ghost use Rattle.wm_base.specs.declared.ids.ConId.{ConId};
 ghost use Rattle.wm_changes.specs.Scene.{IsScene};
+ghost use Rattle.wm_forest.specs.Look.{same};
+ghost use Rattle.wm_forest.specs.Recency.{lists};
 ghost use Rattle.wm_tree.specs.Sound.{IsSound};
+ghost use Rattle.wm_views.specs.Maps.{holds};
 
 use crate::spaces::{Site, spaces};
 use crate::windows::{Found, windows};
 use std::alloc::Global;
 use std::collections::BTreeMap;
-use wm_arrange::Arrangement;
-use wm_base::NoMemory;
+use wm_base::{ConId, NoMemory};
+use wm_ids::IdMap;
 use wm_tree::Tree;
-use wm_views::Sight;
 
-/// A tree with its arrangement, its windows and its workspaces, each under its id.
+/// A tree with its windows and its workspaces, each under its id, and the ids of its urgent windows.
 #[derive(Drop)]
 pub struct Scene<'a> {
-    pub sight: Sight<'a>,
+    pub tree: &'a Tree,
     pub windows: BTreeMap<u32, Found<'a>>,
     pub spaces: BTreeMap<u32, Site<'a>>,
+    pub urgent: IdMap<()>,
 }
 
 impl<'a> Scene<'a> {
     /// What is found in a tree.
-    pub fn new(
-        alloc: Global,
-        tree: &'a Tree,
-        arrangement: &'a Arrangement,
-    ) -> Result<Scene<'a>, NoMemory>
+    pub fn new(alloc: Global, tree: &'a Tree) -> Result<Scene<'a>, NoMemory>
         requires { IsSound tree.now }
         ensures scene { IfOk result (λ scene. IsScene scene) }
-        ensures tree { IfOk result (λ scene. scene.sight.tree.now ≡ tree.now) }
-        ensures parts { IfOk result (λ scene. scene.sight.arrangement.now ≡ arrangement.now) }
+        ensures tree { IfOk result (λ scene. scene.tree.now ≡ tree.now) }
     {
+        let urgent = ids(alloc, tree.urgent_ids())?;
         let windows = windows(alloc, tree)?;
         let spaces = spaces(alloc, tree)?;
-        let sight = Sight::new(alloc, tree, arrangement)?;
         Ok(Scene {
-            sight,
+            tree,
             windows,
             spaces,
+            urgent,
         })
     }
+
+    /// Whether the id is that of an urgent window.
+    pub fn is_urgent(&self, id: ConId) -> bool
+        requires { IsScene self.now }
+        ensures { result ≡ lists id self.now.tree.now.urgent }
+    {
+        self.urgent.get(id.0).is_some()
+    }
+}
+
+/// The ids of a list.
+#[tactic(auto, using(wm_views::proofs::MapLemmas::any_assoc))]
+fn ids(alloc: Global, list: &[ConId]) -> Result<IdMap<()>, NoMemory>
+    ensures { IfOk result (λ map. (c : ConId) → holds map c ≡ lists c list.now) }
+{
+    let mut map = IdMap::new(alloc);
+    let mut rest = list;
+    while let [id, after @ ..] = rest {
+        add(&mut map, *id)?;
+        rest = after;
+    }
+    Ok(map)
+}
+
+fn add(map: &mut IdMap<()>, id: ConId) -> Result<(), NoMemory>
+    ensures { (c : ConId) → OnOk result (holds map.new c ≡ (holds map.old c || same id c)) }
+{
+    map.insert(id.0, ())?;
+    Ok(())
 }

@@ -1,100 +1,31 @@
 //! The events of one window and of one workspace.
-ghost use Rattle.std.specs.Prelude.{◌≡◌, ◌∷◌, ◌++◌, [], IfOk, OnOk};
-ghost use Rattle.wm_changes.specs.Changes.{above, holder_area, space_event, space_view, told, window_event, window_view};
-ghost use Rattle.wm_views.specs.Sight.{IsSight};
+ghost use Rattle.std.specs.Prelude.{◌≡◌, ◌∷◌, ◌++◌, [], OnOk};
+ghost use Rattle.wm_changes.specs.Changes.{space_event, space_view, told, window_event, window_view};
 
 use crate::spaces::Site;
-use crate::standing::Standing;
+use crate::viewer::Viewer;
 use crate::windows::Found;
 use crate::words::Change;
 use std::alloc::Global;
-use wm_base::{ConId, NoMemory, Rect};
-use wm_forest::Row;
-use wm_json::{EventBody, NodeView};
-use wm_tree::Cursor;
-use wm_views::{Above, Sight, con_view, space_view as view_of};
-
-const NOWHERE: Rect = Rect {
-    x: 0,
-    y: 0,
-    w: 0,
-    h: 0,
-};
-
-/// A window as events show it.
-pub fn window_view(
-    alloc: Global,
-    sight: &Sight<'_>,
-    window: &Found<'_>,
-) -> Result<NodeView, NoMemory>
-    requires { IsSight sight.now }
-    ensures { IfOk result (λ view. view ≡ window_view sight.now.tree.now sight.now.arrangement.now.parts window.now) }
-{
-    let nothing = Row::new();
-    let above = above(sight, window.standing);
-    con_view(
-        alloc,
-        sight,
-        &above,
-        window.part,
-        window.state,
-        &Cursor::at(&nothing),
-    )
-}
-
-/// What stands above a node.
-fn above(sight: &Sight<'_>, standing: Standing) -> Above
-    requires { IsSight sight.now }
-    ensures { result ≡ above sight.now.arrangement.now.parts standing }
-{
-    Above {
-        rect: holder_area(sight, standing.holder),
-        shares: standing.shares,
-        floating: standing.floating,
-    }
-}
-
-fn holder_area(sight: &Sight<'_>, holder: Option<ConId>) -> Rect
-    requires { IsSight sight.now }
-    ensures { result ≡ holder_area sight.now.arrangement.now.parts holder }
-{
-    match holder {
-        None => NOWHERE,
-        Some(id) => sight.area(id),
-    }
-}
-
-/// A workspace as events show it.
-pub fn space_view(alloc: Global, sight: &Sight<'_>, site: &Site<'_>) -> Result<NodeView, NoMemory>
-    requires { IsSight sight.now }
-    ensures { IfOk result (λ view. view ≡ space_view sight.now.tree.now sight.now.arrangement.now.parts site.now) }
-{
-    view_of(
-        alloc,
-        sight,
-        site.output,
-        site.part,
-        site.state,
-        &site.kids,
-        &site.floats,
-    )
-}
+use wm_base::NoMemory;
+use wm_json::EventBody;
 
 /// Tells the words that hold of a window.
+#[tactic(auto, using(crate::proofs::ToldLemmas::told_more))]
 pub fn tell_window(
     events: &mut Vec<EventBody>,
     alloc: Global,
-    sight: &Sight<'_>,
+    viewer: &mut Viewer<'_>,
     window: &Found<'_>,
     words: &[(bool, Change)],
 ) -> Result<(), NoMemory>
-    requires { IsSight sight.now }
-    ensures { OnOk result (events.new.items ≡ events.old.items ++ told (window_event (window_view sight.now.tree.now sight.now.arrangement.now.parts window.now)) words.now) }
+    ensures events { OnOk result (events.new.items ≡ events.old.items ++ told (window_event (window_view viewer.old.tree viewer.old.parts window.now)) words.now) }
+    ensures viewer { viewer.new ≡ viewer.old }
 {
     let mut rest = words;
     while let [(holds, change), after @ ..] = rest {
         if *holds {
-            push_window(events, alloc, sight, window, *change)?;
+            push_window(events, alloc, viewer, window, *change)?;
         }
         rest = after;
     }
@@ -104,15 +35,15 @@ pub fn tell_window(
 fn push_window(
     events: &mut Vec<EventBody>,
     alloc: Global,
-    sight: &Sight<'_>,
+    viewer: &mut Viewer<'_>,
     window: &Found<'_>,
     change: Change,
 ) -> Result<(), NoMemory>
-    requires { IsSight sight.now }
-    ensures { OnOk result (events.new.items ≡ events.old.items ++ window_event (window_view sight.now.tree.now sight.now.arrangement.now.parts window.now) change ∷ []) }
+    ensures events { OnOk result (events.new.items ≡ events.old.items ++ window_event (window_view viewer.old.tree viewer.old.parts window.now) change ∷ []) }
+    ensures viewer { viewer.new ≡ viewer.old }
 {
     let word = change.word(alloc)?;
-    match window_view(alloc, sight, window) {
+    match viewer.window(alloc, window) {
         Ok(container) => {
             events.push(EventBody::Window {
                 change: word,
@@ -124,23 +55,20 @@ fn push_window(
     }
 }
 
-/// Tells the words that hold of a workspace.
+/// Tells a word of a workspace, where it holds.
 pub fn tell_space(
     events: &mut Vec<EventBody>,
     alloc: Global,
-    sight: &Sight<'_>,
+    viewer: &mut Viewer<'_>,
     site: &Site<'_>,
-    words: &[(bool, Change)],
+    holds: bool,
+    change: Change,
 ) -> Result<(), NoMemory>
-    requires { IsSight sight.now }
-    ensures { OnOk result (events.new.items ≡ events.old.items ++ told (space_event (space_view sight.now.tree.now sight.now.arrangement.now.parts site.now)) words.now) }
+    ensures events { OnOk result (events.new.items ≡ events.old.items ++ told (space_event (space_view viewer.old.tree viewer.old.parts site.now)) ((holds, change) ∷ [])) }
+    ensures viewer { viewer.new ≡ viewer.old }
 {
-    let mut rest = words;
-    while let [(holds, change), after @ ..] = rest {
-        if *holds {
-            push_space(events, alloc, sight, site, *change)?;
-        }
-        rest = after;
+    if holds {
+        return push_space(events, alloc, viewer, site, change);
     }
     Ok(())
 }
@@ -148,15 +76,15 @@ pub fn tell_space(
 fn push_space(
     events: &mut Vec<EventBody>,
     alloc: Global,
-    sight: &Sight<'_>,
+    viewer: &mut Viewer<'_>,
     site: &Site<'_>,
     change: Change,
 ) -> Result<(), NoMemory>
-    requires { IsSight sight.now }
-    ensures { OnOk result (events.new.items ≡ events.old.items ++ space_event (space_view sight.now.tree.now sight.now.arrangement.now.parts site.now) change ∷ []) }
+    ensures events { OnOk result (events.new.items ≡ events.old.items ++ space_event (space_view viewer.old.tree viewer.old.parts site.now) change ∷ []) }
+    ensures viewer { viewer.new ≡ viewer.old }
 {
     let word = change.word(alloc)?;
-    match space_view(alloc, sight, site) {
+    match viewer.space(alloc, site) {
         Ok(current) => {
             events.push(EventBody::Workspace {
                 change: word,

@@ -6,6 +6,7 @@ use Rattle.wm_changes.proofs.lines.tell_closed.Given as goal
 
 -- the events so far and those of the rest are those of all
 abbrev pub invariant-loop-window : goal.invariant-loop-window
-invariant-loop-window l =
-    l.events.items ++ flat_map (close_line l.before.sight.tree.now l.before.sight.arrangement.now.parts l.after.sight.tree.now) l.window-iterator
-    ≡ l.initial.events.items ++ flat_map (close_line l.before.sight.tree.now l.before.sight.arrangement.now.parts l.after.sight.tree.now) (values l.before.windows)
+invariant-loop-window l = record {
+  events : l.events.items ++ flat_map (close_line l.initial.viewer.tree l.initial.viewer.parts l.after.tree.now) l.window-iterator ≡ l.initial.events.items ++ flat_map (close_line l.initial.viewer.tree l.initial.viewer.parts l.after.tree.now) (values l.before.windows);
+  viewer : l.viewer ≡ l.initial.viewer;
+}

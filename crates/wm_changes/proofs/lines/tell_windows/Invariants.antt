@@ -6,6 +6,7 @@ use Rattle.wm_changes.proofs.lines.tell_windows.Given as goal
 
 -- the events so far and those of the rest are those of all
 abbrev pub invariant-loop-window : goal.invariant-loop-window
-invariant-loop-window l =
-    l.events.items ++ flat_map (window_line l.before.sight.tree.now l.after.sight.tree.now l.after.sight.arrangement.now.parts) l.window-iterator
-    ≡ l.initial.events.items ++ flat_map (window_line l.before.sight.tree.now l.after.sight.tree.now l.after.sight.arrangement.now.parts) (values l.after.windows)
+invariant-loop-window l = record {
+  events : l.events.items ++ flat_map (window_line l.before.tree.now l.after.tree.now l.initial.viewer.parts) l.window-iterator ≡ l.initial.events.items ++ flat_map (window_line l.before.tree.now l.after.tree.now l.initial.viewer.parts) (values l.after.windows);
+  viewer : l.viewer ≡ l.initial.viewer;
+}
