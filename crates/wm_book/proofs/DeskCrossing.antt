@@ -15,12 +15,18 @@ use Rattle.wm_base.proofs.text.Text.TheSendSync as text
 use Rattle.wm_book.proofs.RegexCrossing.{prepared_send, prepared_sync}
 use Rattle.wm_book.specs.contracts.entry.Entry as Entry
 use Rattle.wm_book.specs.contracts.recorded.Recorded as Recorded
+use Rattle.wm_core.below.circular_buffer.proofs.heap.HeapCircularBuffer.TheSendSync as buffers
 use Rattle.wm_core.below.wm_ids.proofs.map.IdMap.TheSendSync as ids
+use Rattle.wm_core.below.wm_kept.specs.contracts.kept.Kept as Kept
 use Rattle.wm_core.below.wm_txn.proofs.txn.Txn.TheSendSync as txn
 use Rattle.wm_core.proofs.client.ClientStep.TheSendSync as client
 use Rattle.wm_core.specs.contracts.desk.Desk as Desk
 use Rattle.wm_core.specs.contracts.step.Choice as Choice
 use Rattle.wm_core.specs.contracts.step.Step as Step
+use Rattle.wm_json.proofs.views.NodeView.TheLaws.TheKnot as node
+use Rattle.wm_json.specs.contracts.views.EventBody as EventBody
+use Rattle.wm_json.specs.contracts.views.EventView as EventView
+use Rattle.wm_json.specs.contracts.views.NodeView as NodeView
 use Rattle.wm_layouts.proofs.plan.Plan.TheSendSync as plan
 use Rattle.wm_tree.below.wm_forest.proofs.part.Part.TheSendSync as part
 use Rattle.wm_tree.below.wm_forest.proofs.row.Row.TheLaws.TheKnot as row
@@ -29,7 +35,7 @@ use Rattle.wm_tree.below.wm_forest.specs.contracts.row.Row as Row
 use Rattle.wm_tree.specs.contracts.tree.Tree as Tree
 
 -- the types of which it is known
-ruleset known = (option.the_field_send, option.the_field_sync, edges.the_field_send, edges.the_field_sync, buffer.the_field_send, buffer.the_field_sync, con.the_field_send, con.the_field_sync, border.the_field_send, border.the_field_sync, output.the_field_send, output.the_field_sync, props.the_field_send, props.the_field_sync, part.the_field_send, part.the_field_sync, plan.the_field_send, plan.the_field_sync, client.the_field_send, client.the_field_sync, text.the_send, text.the_sync, list.the_send, list.the_sync, str.the_send, str.the_sync, ids.the_send, ids.the_sync, txn.the_send, txn.the_sync, maps.crosses, sendable, crosses)
+ruleset known = (option.the_field_send, option.the_field_sync, edges.the_field_send, edges.the_field_sync, buffer.the_field_send, buffer.the_field_sync, con.the_field_send, con.the_field_sync, border.the_field_send, border.the_field_sync, output.the_field_send, output.the_field_sync, props.the_field_send, props.the_field_sync, part.the_field_send, part.the_field_sync, plan.the_field_send, plan.the_field_sync, client.the_field_send, client.the_field_sync, text.the_send, text.the_sync, list.the_send, list.the_sync, str.the_send, str.the_sync, ids.the_send, ids.the_sync, buffers.the_send, buffers.the_sync, txn.the_send, txn.the_sync, maps.crosses, sendable, crosses)
 
 -- a row of nodes, which holds itself
 row_send : IsSend (Row.the_field).row
@@ -50,11 +56,36 @@ tree_send = search (row_send, cell_send, known) depth 20
 tree_sync : IsSync Tree.the_row
 tree_sync = search (row_sync, cell_sync, known) depth 20
 
+-- a node that is seen, which holds others
+node_send : IsSend (NodeView.the_field).row
+node_send = search (node.send-NodeView, known) depth 20
+
+node_sync : IsSync (NodeView.the_field).row
+node_sync = search (node.sync-NodeView, known) depth 20
+
+body_send : IsSend (EventBody.the_field).row
+body_send = search (node_send, known) depth 20
+
+body_sync : IsSync (EventBody.the_field).row
+body_sync = search (node_sync, known) depth 20
+
+event_send : IsSend (EventView.the_field).row
+event_send = search (body_send, known) depth 20
+
+event_sync : IsSync (EventView.the_field).row
+event_sync = search (body_sync, known) depth 20
+
+kept_send : IsSend Kept.the_row
+kept_send = search (event_send, known) depth 20
+
+kept_sync : IsSync Kept.the_row
+kept_sync = search (event_sync, known) depth 20
+
 pub desk_send : IsSend Desk.the_row
-desk_send = search (tree_send, known) depth 20
+desk_send = search (tree_send, kept_send, known) depth 20
 
 pub desk_sync : IsSync Desk.the_row
-desk_sync = search (tree_sync, known) depth 20
+desk_sync = search (tree_sync, kept_sync, known) depth 20
 
 choice_send : IsSend (Choice.the_field).row
 choice_send = search (prepared_send, known) depth 20

@@ -5,7 +5,10 @@ use Rattle.wm_core.proofs.EntryLemmas.{history_begins, history_length, history_p
 use Rattle.wm_core.specs.Act.{Act, act_of}
 use Rattle.wm_core.specs.Entries.{history_of}
 use Rattle.wm_core.specs.History.{History, Start, answer, opening_of}
+use Rattle.wm_core.specs.Look.{look}
 use Rattle.wm_core.specs.Passes.{Looked, Saw, Took, places}
+use Rattle.wm_core.specs.declared.look.Query.{Query}
+use Rattle.wm_core.specs.declared.look.View.{View}
 use Rattle.wm_core.specs.Passes as passes
 use Rattle.wm_core.specs.declared.asked.Asked.{Asked}
 use Rattle.wm_core.specs.declared.step.Answer.{Answer}
@@ -61,6 +64,15 @@ module _ (old entered : Pass Plan Step Asked) (off : old.turn ≡ false) (enters
             ∙ ap (λ (n : ℕ). record (carried old) { seen = history_of entered.seen; mine = Read asked n ∷ old.mine }) (sym (history_length entered.seen));
         answer = told;
       })
+
+  -- what the value shows its caller is what is seen from the opening
+  pub sees : (view : View) (q : Query) (plan : Plan) (who : ℕ) → entered.opening ≡ Some plan → who ≡ entered.caller → view ≡ look (opening_of plan) (history_of entered.seen) who q
+      → IsSomeAnd old.opening (λ plan. view ≡ look (opening_of plan) (history_of entered.seen) old.caller q)
+  sees view q plan who opens his told =
+      let opened : old.opening ≡ Some plan = ap (λ (s : Pass Plan Step Asked). s.opening) (sym enters) ∙ opens in
+      let caller : who ≡ old.caller = his ∙ ap (λ (s : Pass Plan Step Asked). s.caller) enters in
+      subst (λ (o : Option Plan). IsSomeAnd o (λ plan. view ≡ look (opening_of plan) (history_of entered.seen) old.caller q)) (sym opened)
+      (told ∙ ap (λ (n : ℕ). look (opening_of plan) (history_of entered.seen) n q) caller)
 
   -- and where it logs a step, the step stands behind what was seen
   pub took : (logged left : Pass Plan Step Asked) (step form : Step) (said : Answer) (plan : Plan) (who : ℕ) → act_of form ≡ act_of step → turn.places old.caller entered.seen ≡ turn.places old.caller old.seen → length entered.seen < 2 ^ 48

@@ -8,6 +8,7 @@ use std::alloc::Global;
 use wm_base::{Buffer, ConId, Edges, NoMemory, Props, Text};
 use wm_core::Step;
 use wm_criteria::Prepared;
+use wm_json::copy_str;
 use wm_layouts::copy_output;
 use wm_tree::copy_props;
 
@@ -47,7 +48,7 @@ pub(crate) fn bare_copy(alloc: Global, step: &Step) -> Result<Step, NoMemory>
         }),
         Step::Reserve { name, edges } => reserve_copy(name, *edges),
         Step::Tick { payload } => Ok(Step::Tick {
-            payload: payload.clone()?,
+            payload: copy_str(alloc, payload)?,
         }),
         Step::Key { .. } => unreachable!(),
     }

@@ -28,7 +28,7 @@ const CONFIGURE: Want = Want::Configure {
 fn is_configured(view: &View) -> bool {
     match view {
         View::Wants(wants) => matches!(wants.items(), [one] if *one == CONFIGURE),
-        View::Marks(_) | View::State(_) => false,
+        _ => false,
     }
 }
 
@@ -36,7 +36,7 @@ fn is_configured(view: &View) -> bool {
 fn has_one_window(view: &View) -> bool {
     match view {
         View::State(state) => state.steps == 1 && state.windows == 1,
-        View::Marks(_) | View::Wants(_) => false,
+        _ => false,
     }
 }
 
