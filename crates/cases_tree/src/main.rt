@@ -14,6 +14,7 @@ mod sets;
 mod showing;
 mod telling;
 mod transactions;
+mod views;
 
 use crate::play::play;
 use crate::transactions::play_transactions;

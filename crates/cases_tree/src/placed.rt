@@ -11,7 +11,7 @@ use wm_arrange::{Arrangement, Placed, PlacedPart, area_of, arrange, cut};
 use wm_base::{ConId, Size};
 
 /// Why an arrangement is not asked for: a change of the tree is not known to keep it sound.
-const UNKNOWN: &str = "not asked";
+pub const UNKNOWN: &str = "not asked";
 
 /// Appends the parts of the arrangement of the tree, and keeps it.
 pub fn place(desk: &mut Desk, words: &Words<'_>, out: &mut String) -> Result<(), Fault>

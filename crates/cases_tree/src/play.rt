@@ -6,7 +6,7 @@ use crate::looks::read;
 use crate::sets::set;
 use crate::showing::push_tree;
 use crate::telling::tell_case;
-use crate::{changes, marks, placed};
+use crate::{changes, marks, placed, views};
 use case_data::{Fault, Words};
 use std::alloc::Global;
 use std::mem;
@@ -82,6 +82,7 @@ fn show_placed(
 {
     match word {
         "arrange" => placed::place(desk, words, out),
+        "view" => views::view(desk, words, out),
         "again" => placed::compare(desk, words, out),
         "area" => placed::area(desk, words, out),
         "size" => placed::size(desk, words, out),

@@ -1,4 +1,6 @@
+pub mod FocusLemmas
 pub mod MapLemmas
+pub mod NodeLemmas
 pub mod OrderLemmas
 pub mod RowLemmas
 pub mod SpaceLemmas

@@ -1,7 +1,9 @@
+pub mod FocusLaws
 pub mod Maps
 pub mod Nodes
 pub mod Order
 pub mod Outputs
+pub mod Recency
 pub mod Rows
 pub mod Sight
 pub mod Workspaces

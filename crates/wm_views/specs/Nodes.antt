@@ -1,6 +1,5 @@
 -- Nodes as replies and events show them.
-use Rattle.std.specs.Prelude.{ℕ, ◌+◌, Bool, true, false, ◌||◌, nat_le, min, if◌then◌else◌, ℤ, pos, negsuc, int_lt, ◌-ℤ◌, List, [], ◌∷◌, ◌++◌, length, map, Option, None, Some, codes}
-use Rattle.std.specs.List.{insert}
+use Rattle.std.specs.Prelude.{ℕ, Bool, true, false, ◌||◌, if◌then◌else◌, ℤ, pos, negsuc, int_lt, ◌-ℤ◌, List, [], ◌∷◌, ◌++◌, map, Option, None, Some, codes}
 use Rattle.wm_arrange.specs.declared.parts.Placed.{Placed}
 use Rattle.wm_arrange.specs.TitleText.{title_text}
 use Rattle.wm_base.specs.declared.geometry.Rect.{Rect}
@@ -20,7 +19,7 @@ use Rattle.wm_forest.specs.declared.part.SpacePart.{SpacePart}
 use Rattle.wm_forest.specs.Counts.{share_sum}
 use Rattle.wm_forest.specs.Forest.{Forest, end, con}
 use Rattle.wm_forest.specs.Look.{con_kind, output_kind, same, space_kind}
-use Rattle.wm_forest.specs.Recency.{lists, place_from}
+use Rattle.wm_forest.specs.Recency.{lists}
 use Rattle.wm_json.specs.declared.views.NodeView.{NodeView}
 use Rattle.wm_json.specs.declared.views.NodeView.TheOpen.{NodeView-F}
 use Rattle.wm_json.specs.declared.views.NodeView.TheViews.{roll-NodeView}
@@ -30,6 +29,7 @@ use Rattle.wm_views.specs.declared.maps.Wanted.TheVariants as wanted
 use Rattle.wm_arrange.specs.AreaOf.{nowhere}
 use Rattle.wm_views.specs.Maps.{area, rect_at}
 use Rattle.wm_views.specs.Outputs.{name_in}
+use Rattle.wm_views.specs.Recency.{focus, least_place, placed_row, put_nodes}
 use Rattle.wm_views.specs.Workspaces.{has_urgent, number}
 
 -- ---- words
@@ -71,49 +71,6 @@ within z = if int_lt z (negsuc 2147483647) then negsuc 2147483647 else if int_lt
 abbrev pub counted_from : Rect → Option Rect → Rect
 counted_from from None = nowhere
 counted_from from (Some r) = record r { x = within (r.x -ℤ from.x); y = within (r.y -ℤ from.y) }
-
--- ---- the order by recency
-
-abbrev pub or_length : Option ℕ → List ConId → ℕ
-or_length None ids = length ids
-or_length (Some n) ids = n
-
--- the place of an id in the list by recency, from 0; the list's length where it is not there
-abbrev pub place_of : ConId → List ConId → ℕ
-place_of c ids = or_length (place_from 0 c ids) ids
-
--- the least place in the list by recency of an id in the forest; its length where none is there
-abbrev pub least_place : List ConId → Forest → ℕ
-least_place ids end = length ids
-least_place ids (con part kids floats rest) =
-    min (place_of part.id ids) (min (least_place ids kids) (min (least_place ids floats) (least_place ids rest)))
-
--- the least place of a node's id and those below it
-abbrev pub least_here : List ConId → Part → Forest → Forest → ℕ
-least_here ids part kids floats = min (place_of part.id ids) (min (least_place ids kids) (least_place ids floats))
-
--- the nodes of a row, each with the least place of an id in its subtree
-abbrev pub placed_row : List ConId → Forest → List (ℕ × ℕ)
-placed_row ids end = []
-placed_row ids (con part kids floats rest) = (least_here ids part kids floats, part.id.0) ∷ placed_row ids rest
-
--- how many of the nodes stand before it in their order
-abbrev pub node_spot : ℕ × ℕ → List (ℕ × ℕ) → ℕ
-node_spot n [] = 0
-node_spot n (m ∷ ms) = if nat_le n.0 m.0 then 0 else 1 + node_spot n ms
-
--- the nodes of a list put in at their places, the last first
-abbrev pub put_nodes : List (ℕ × ℕ) → List (ℕ × ℕ) → List (ℕ × ℕ)
-put_nodes [] done = done
-put_nodes (n ∷ ns) done = insert (put_nodes ns done) (node_spot n (put_nodes ns done)) n
-
--- children and floating windows at their places by recency of their subtrees, those without any id in the list last
-abbrev pub by_recency : List ConId → Forest → Forest → List (ℕ × ℕ)
-by_recency ids kids floats = put_nodes (placed_row ids kids) (put_nodes (placed_row ids floats) [])
-
--- their ids
-abbrev pub focus : List ConId → Forest → Forest → List ℕ
-focus ids kids floats = map (λ n. n.1) (by_recency ids kids floats)
 
 -- ---- views by kind
 
@@ -217,9 +174,13 @@ con_node t parts above part c (Placeholder props swallows) kids = any_con t part
 
 -- ---- rows
 
--- with the rows below it: their views, and their order by recency
+-- with the views of the rows below it, and the ids of them by recency
+abbrev pub rowed : List NodeView → List NodeView → List ℕ → Shown → Shown
+rowed nodes floating focus v = record v { nodes = nodes; floating_nodes = floating; focus = focus }
+
+-- with the views of its children and floating windows
 abbrev pub with_rows : List ConId → Forest → Forest → List NodeView → List NodeView → Shown → Shown
-with_rows ids kids floats nodes floating v = record v { nodes = nodes; floating_nodes = floating; focus = focus ids kids floats }
+with_rows ids kids floats nodes floating v = rowed nodes floating (focus ids kids floats) v
 
 -- above the children of a node
 abbrev pub over_kids : List Placed → ConId → Forest → Above

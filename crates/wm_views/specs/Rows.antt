@@ -4,7 +4,7 @@ use Rattle.wm_base.specs.declared.ids.ConId.{ConId}
 use Rattle.wm_forest.specs.Counts.{row_length}
 use Rattle.wm_forest.specs.Forest.{Forest}
 use Rattle.wm_forest.specs.SoundRow.{IsSoundRow, Level, containers}
-use Rattle.wm_views.specs.Nodes.{by_recency}
+use Rattle.wm_views.specs.Recency.{by_recency}
 use Rattle.wm_views.specs.declared.rows.Below.{Below}
 
 -- a row at this level of a sound tree, tiled or not

@@ -49,7 +49,8 @@ pub fn con_view(
             split_view(alloc, sight, above, part, con, *layout, kids)
         }
         ConKind::Window { props, natural, .. } => {
-            window_view(alloc, sight, above, part, con, props, *natural, kids)
+            let view = named_con(alloc, sight, above, part, con, &props.title, kids)?;
+            window_view(alloc, sight, part, con, props, *natural, view)
         }
         ConKind::Placeholder { props, .. } => {
             named_con(alloc, sight, above, part, con, &props.title, kids)
@@ -118,24 +119,31 @@ fn split_view(
     Ok(view)
 }
 
+/// The view of a window from what every container's has.
 fn window_view(
     alloc: Global,
     sight: &Sight<'_>,
-    above: &Above,
     part: &Part,
     con: &ConPart,
     props: &Props,
     natural: Size,
-    kids: &Cursor<'_>,
+    view: NodeView,
 ) -> Result<NodeView, NoMemory>
     requires { IsSight sight.now }
-    ensures { IfOk result (λ view. view ≡ roll-NodeView (window_node sight.now.arrangement.now.parts part.now con.now props.now natural (any_con sight.now.tree.now sight.now.arrangement.now.parts above.now part.now con.now props.now.title kids.now))) }
+    ensures { IfOk result (λ window. window ≡ roll-NodeView (window_node sight.now.arrangement.now.parts part.now con.now props.now natural (out-NodeView view))) }
 {
-    let texts = window_texts(alloc, con.state.border, props)?;
-    let mut view = named_con(alloc, sight, above, part, con, &props.title, kids)?;
-    set_window(&mut view, part.id.0, texts);
-    set_sizes(&mut view, sight, part, con, natural);
-    Ok(view)
+    let mut view = view;
+    match window_texts(alloc, con.state.border, props) {
+        Ok(texts) => {
+            set_window(&mut view, part.id.0, texts);
+            set_sizes(&mut view, sight, part, con, natural);
+            Ok(view)
+        }
+        Err(error) => {
+            drop(view);
+            Err(error)
+        }
+    }
 }
 
 fn window_texts(alloc: Global, border: Border, props: &Props) -> Result<WindowTexts, NoMemory>

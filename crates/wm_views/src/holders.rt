@@ -1,11 +1,11 @@
 //! The views of workspaces and outputs with all that is below them.
-ghost use Rattle.std.specs.Prelude.{◌≡◌, ◌++◌, ◌∷◌, [], min, IfOk, OnOk, Some};
-ghost use Rattle.wm_forest.specs.Forest.{end};
+ghost use Rattle.std.specs.Prelude.{◌≡◌, ◌++◌, [], IfOk, OnOk};
 ghost use Rattle.wm_forest.specs.Look.{output_kind, space_kind};
 ghost use Rattle.wm_forest.specs.SoundRow.{containers, outputs, spaces};
 ghost use Rattle.wm_json.specs.declared.views.NodeView.TheViews.{roll-NodeView};
 ghost use Rattle.wm_views.specs.Maps.{area};
-ghost use Rattle.wm_views.specs.Nodes.{cons, least_place, output_node, output_nodes, outputs_under, over_floats, over_kids, placed_row, put_nodes, space_nodes, spaces_under};
+ghost use Rattle.wm_views.specs.Nodes.{cons, output_node, output_nodes, outputs_under, over_floats, over_kids, space_nodes, spaces_under};
+ghost use Rattle.wm_views.specs.Recency.{least_place, placed_row, put_nodes};
 ghost use Rattle.wm_views.specs.Rows.{IsKids, IsPlaced, IsRowAt};
 ghost use Rattle.wm_views.specs.Sight.{IsSight};
 
@@ -13,15 +13,15 @@ use crate::cons::space_view;
 use crate::nodes::outlined;
 use crate::order::least_place;
 use crate::outputs::name_in;
-use crate::rows::{Below, Least, place_node, place_with};
+use crate::rows::{Below, Least, place_node, place_with, push_over};
 use crate::setting::{set_output, set_place};
 use crate::sight::Sight;
 use crate::spaces::has_urgent;
-use crate::walk::{over_floats, over_kids, push_cons, push_view};
+use crate::walk::{over_floats, over_kids, push_cons};
 use std::alloc::Global;
 use wm_base::{ConId, NoMemory};
 use wm_json::NodeView;
-use wm_tree::{Cursor, NodeKind, OutputPart, Part, SpacePart};
+use wm_tree::{Cursor, NodeKind, OutputPart, Part};
 
 /// Adds the workspaces of an output, puts their ids in at their places, and tells the least place of an id in the row
 /// or below it.
@@ -74,10 +74,21 @@ fn push_space(
     ensures least_kid { IfOk result (λ least. least.0 ≡ least_place sight.now.tree.now.recency kids.now) }
     ensures least_float { IfOk result (λ least. least.1 ≡ least_place sight.now.tree.now.recency floats.now) }
 {
+    let NodeKind::Space(space) = &part.kind else {
+        return Ok((least_place(sight, kids), least_place(sight, floats)));
+    };
     let mut below = Below::new(alloc);
     let least = fill_below(&mut below, alloc, sight, part.id, kids, floats)?;
-    push_over(views, alloc, sight, output, part, kids, floats, below)?;
-    Ok(least)
+    match space_view(alloc, sight, output, part, space, kids, floats) {
+        Ok(view) => {
+            push_over(views, alloc, view, below)?;
+            Ok(least)
+        }
+        Err(error) => {
+            drop(below);
+            Err(error)
+        }
+    }
 }
 
 /// Adds the children and floating windows of a workspace, and tells the least places of an id among both.
@@ -121,64 +132,6 @@ fn fill_below(
         kids,
     )?;
     Ok((least_kid, least_float))
-}
-
-/// Adds a node over what is below it, where it is a workspace.
-fn push_over(
-    views: &mut Vec<NodeView>,
-    alloc: Global,
-    sight: &Sight<'_>,
-    output: &OutputPart,
-    part: &Part,
-    kids: &Cursor<'_>,
-    floats: &Cursor<'_>,
-    below: Below,
-) -> Result<(), NoMemory>
-    requires sight { IsSight sight.now }
-    requires kids { below.kids.items ≡ cons sight.now.tree.now sight.now.arrangement.now.parts (over_kids sight.now.arrangement.now.parts part.now.id kids.now) kids.now }
-    requires floats { below.floats.items ≡ cons sight.now.tree.now sight.now.arrangement.now.parts (over_floats (area sight.now.arrangement.now.parts part.now.id)) floats.now }
-    requires placed { IsPlaced sight.now.tree.now.recency kids.now floats.now below }
-    ensures { OnOk result (views.new.items ≡ views.old.items ++ space_nodes sight.now.tree.now sight.now.arrangement.now.parts output.now part.now (space_kind part.now.kind) kids.now floats.now) }
-{
-    match &part.kind {
-        NodeKind::Space(space) => {
-            push_whole_space(
-                views, alloc, sight, output, part, space, kids, floats, below,
-            )
-        }
-        NodeKind::Root { .. } | NodeKind::Output(_) | NodeKind::Con(_) => {
-            drop(below);
-            Ok(())
-        }
-    }
-}
-
-/// Adds a workspace over its children and floating windows.
-fn push_whole_space(
-    views: &mut Vec<NodeView>,
-    alloc: Global,
-    sight: &Sight<'_>,
-    output: &OutputPart,
-    part: &Part,
-    space: &SpacePart,
-    kids: &Cursor<'_>,
-    floats: &Cursor<'_>,
-    below: Below,
-) -> Result<(), NoMemory>
-    requires sight { IsSight sight.now }
-    requires kids { below.kids.items ≡ cons sight.now.tree.now sight.now.arrangement.now.parts (over_kids sight.now.arrangement.now.parts part.now.id kids.now) kids.now }
-    requires floats { below.floats.items ≡ cons sight.now.tree.now sight.now.arrangement.now.parts (over_floats (area sight.now.arrangement.now.parts part.now.id)) floats.now }
-    requires placed { IsPlaced sight.now.tree.now.recency kids.now floats.now below }
-    ensures { OnOk result (views.new.items ≡ views.old.items ++ space_nodes sight.now.tree.now sight.now.arrangement.now.parts output.now part.now (Some space.now) kids.now floats.now) }
-{
-    let rows = below.rows(alloc)?;
-    match space_view(alloc, sight, output, part, space, kids, floats) {
-        Ok(view) => push_view(views, view, rows),
-        Err(error) => {
-            drop(rows);
-            Err(error)
-        }
-    }
 }
 
 /// Adds the outputs of a row, the first of which is the primary one or not, and puts their ids in at their places.
@@ -232,32 +185,13 @@ fn push_output(
         output,
         row,
     )?;
-    push_whole_output(views, alloc, sight, first, part, output, row, below)?;
-    Ok(least)
-}
-
-/// Adds an output over its workspaces.
-fn push_whole_output(
-    views: &mut Vec<NodeView>,
-    alloc: Global,
-    sight: &Sight<'_>,
-    first: bool,
-    part: &Part,
-    output: &OutputPart,
-    row: &Cursor<'_>,
-    below: Below,
-) -> Result<(), NoMemory>
-    requires sight { IsSight sight.now }
-    requires kids { below.kids.items ≡ spaces_under sight.now.tree.now sight.now.arrangement.now.parts output.now row.now }
-    requires floats { below.floats.items ≡ [] }
-    requires placed { IsPlaced sight.now.tree.now.recency row.now end below }
-    ensures { OnOk result (views.new.items ≡ views.old.items ++ output_nodes sight.now.tree.now sight.now.arrangement.now.parts first part.now (Some output.now) row.now) }
-{
-    let rows = below.rows(alloc)?;
     match output_view(alloc, sight, first, part, output, row) {
-        Ok(view) => push_view(views, view, rows),
+        Ok(view) => {
+            push_over(views, alloc, view, below)?;
+            Ok(least)
+        }
         Err(error) => {
-            drop(rows);
+            drop(below);
             Err(error)
         }
     }

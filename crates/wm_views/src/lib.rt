@@ -19,7 +19,7 @@ mod spaces;
 mod walk;
 
 pub use cons::{Above, con_view, space_view};
-pub use laws::{focus_is_by_recency, workspaces_are_in_order};
+pub use laws::{focus_is_by_recency, focus_is_of_the_rows, workspaces_are_in_order};
 pub use outputs::outputs_view;
 pub use root::tree_view;
 pub use sight::Sight;

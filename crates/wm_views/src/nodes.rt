@@ -104,6 +104,7 @@ fn plain_view(alloc: Global, id: u32, name: Text, words: Words) -> NodeView
     }
 }
 
+/// A border's word.
 pub fn border_word(border: Border) -> &'static str
     ensures { result.now ≡ border_word border }
 {
@@ -114,6 +115,7 @@ pub fn border_word(border: Border) -> &'static str
     }
 }
 
+/// The width of a border in pixels.
 pub fn border_width(border: Border) -> u32
     ensures { result ≡ border_width border }
 {
@@ -123,6 +125,7 @@ pub fn border_width(border: Border) -> u32
     }
 }
 
+/// A layout's word.
 pub fn layout_word(layout: Layout) -> &'static str
     ensures { result.now ≡ layout_word layout }
 {
@@ -134,6 +137,7 @@ pub fn layout_word(layout: Layout) -> &'static str
     }
 }
 
+/// The word of the direction in which a layout's children stand, or their titles.
 pub fn orientation_word(layout: Layout) -> &'static str
     ensures { result.now ≡ orientation_word layout }
 {
@@ -157,6 +161,7 @@ pub struct LayoutWords {
     pub orientation: Str,
 }
 
+/// A layout's word with that of its direction.
 pub fn layout_words(alloc: Global, layout: Layout) -> Result<LayoutWords, NoMemory>
     ensures layout { IfOk result (λ words. words.layout ≡ layout_word layout) }
     ensures orientation { IfOk result (λ words. words.orientation ≡ orientation_word layout) }

@@ -3,7 +3,8 @@ ghost use Rattle.std.specs.Prelude.{◌≡◌, ◌∷◌, [], codes, IfOk, OnOk,
 ghost use Rattle.wm_forest.specs.SoundRow.{containers, outputs};
 ghost use Rattle.wm_json.specs.declared.views.NodeView.TheViews.{roll-NodeView};
 ghost use Rattle.wm_tree.specs.Sound.{IsSound};
-ghost use Rattle.wm_views.specs.Nodes.{least_place, outputs_under, placed_row, plain, put_nodes, root_node, scratch_output, tree_view};
+ghost use Rattle.wm_views.specs.Nodes.{outputs_under, plain, root_node, scratch_output, tree_view};
+ghost use Rattle.wm_views.specs.Recency.{least_place, placed_row, put_nodes};
 ghost use Rattle.wm_views.specs.Rows.{IsRowAt};
 ghost use Rattle.wm_views.specs.Sight.{IsSight};
 

@@ -1,19 +1,20 @@
 //! The views of the scratchpad: an output with one workspace, whose floating windows are those of the scratchpad.
-ghost use Rattle.std.specs.Prelude.{◌≡◌, ◌++◌, ◌∷◌, [], codes, IfOk, OnOk};
+ghost use Rattle.std.specs.Prelude.{◌≡◌, ◌++◌, ◌∷◌, [], IfOk, OnOk};
 ghost use Rattle.wm_arrange.specs.AreaOf.{nowhere};
 ghost use Rattle.wm_forest.specs.Forest.{end};
 ghost use Rattle.wm_forest.specs.SoundRow.{containers};
 ghost use Rattle.wm_json.specs.declared.views.NodeView.TheViews.{roll-NodeView};
-ghost use Rattle.wm_views.specs.Nodes.{cons, least_place, over_floats, scratch_output, scratch_space, scratch_view};
+ghost use Rattle.wm_views.specs.Nodes.{cons, over_floats, scratch_output, scratch_space, scratch_view};
+ghost use Rattle.wm_views.specs.Recency.{least_place};
 ghost use Rattle.wm_views.specs.Rows.{IsPlaced, IsRowAt};
 ghost use Rattle.wm_views.specs.Sight.{IsSight};
 
 use crate::nodes::{laid, outlined};
-use crate::rows::Below;
+use crate::rows::{Below, push_over, push_view};
 use crate::setting::{Rows, set_output, set_place, set_space};
 use crate::sight::Sight;
 use crate::spaces::has_urgent;
-use crate::walk::{over_floats, push_cons, push_view};
+use crate::walk::{over_floats, push_cons};
 use std::alloc::Global;
 use wm_base::{Layout, List, NoMemory, Rect};
 use wm_forest::short_text;
@@ -74,11 +75,10 @@ fn push_space(
     requires placed { IsPlaced sight.now.tree.now.recency end windows.now below }
     ensures { OnOk result (views.new.items ≡ views.old.items ++ scratch_view sight.now.tree.now sight.now.arrangement.now.parts windows.now ∷ []) }
 {
-    let rows = below.rows(alloc)?;
     match space_alone(alloc, sight, windows) {
-        Ok(view) => push_view(views, view, rows),
+        Ok(view) => push_over(views, alloc, view, below),
         Err(error) => {
-            drop(rows);
+            drop(below);
             Err(error)
         }
     }

@@ -1,10 +1,10 @@
 //! A tree with its arrangement, and maps of what is looked up in them.
-ghost use Rattle.std.specs.Prelude.{◌≡◌, length, IfOk};
+ghost use Rattle.std.specs.Prelude.{◌≡◌, IfOk};
 ghost use Rattle.wm_forest.specs.Recency.{lists};
 ghost use Rattle.wm_base.specs.declared.ids.ConId.{ConId};
 ghost use Rattle.wm_views.specs.Maps.{area, rect_at, value_at};
 ghost use Rattle.wm_views.specs.declared.maps.Wanted.TheVariants.{Areas, Contents, Titles};
-ghost use Rattle.wm_views.specs.Nodes.{place_of};
+ghost use Rattle.wm_views.specs.Recency.{place_of};
 ghost use Rattle.wm_views.specs.Sight.{IsSight};
 
 use crate::maps::{Wanted, ids, rects};

@@ -1,23 +1,20 @@
 //! The views of rows of containers, each with what is below it.
-ghost use Rattle.std.specs.Prelude.{◌≡◌, ◌≤◌, ◌++◌, ◌∷◌, [], IfOk, OnOk, Some};
-ghost use Rattle.wm_forest.specs.Counts.{row_length};
-ghost use Rattle.wm_forest.specs.Forest.{end};
+ghost use Rattle.std.specs.Prelude.{◌≡◌, ◌++◌, IfOk, OnOk};
 ghost use Rattle.wm_forest.specs.Look.{con_kind};
 ghost use Rattle.wm_forest.specs.SoundRow.{containers};
-ghost use Rattle.wm_views.specs.Nodes.{con_views, cons, least_place, over_floats, over_kids, placed_row, put_nodes};
-ghost use Rattle.wm_json.specs.declared.views.NodeView.TheViews.{out-NodeView, roll-NodeView};
-ghost use Rattle.wm_views.specs.Rows.{IsKids, IsPlaced, IsRowAt};
+ghost use Rattle.wm_views.specs.Nodes.{con_views, cons, over_floats, over_kids};
+ghost use Rattle.wm_views.specs.Recency.{least_place, placed_row, put_nodes};
+ghost use Rattle.wm_views.specs.Rows.{IsKids, IsRowAt};
 ghost use Rattle.wm_views.specs.Sight.{IsSight};
 
 use crate::cons::{Above, con_view};
 use crate::order::least_place;
-use crate::rows::{Below, Least, place_with};
-use crate::setting::{Rows, set_rows};
+use crate::rows::{Below, Least, place_with, push_over};
 use crate::sight::Sight;
 use std::alloc::Global;
 use wm_base::{ConId, NoMemory, Rect};
 use wm_json::NodeView;
-use wm_tree::{ConPart, Cursor, NodeKind, Part};
+use wm_tree::{Cursor, NodeKind, Part};
 
 /// What stands above the children of a node.
 pub fn over_kids(sight: &Sight<'_>, id: ConId, kids: &Cursor<'_>) -> Above
@@ -87,6 +84,9 @@ fn push_con(
         (cons sight.now.tree.now sight.now.arrangement.now.parts (over_kids sight.now.arrangement.now.parts part.now.id kids.now) kids.now)) }
     ensures least { IfOk result (λ least. least ≡ least_place sight.now.tree.now.recency kids.now) }
 {
+    let NodeKind::Con(con) = &part.kind else {
+        return Ok(least_place(sight, kids));
+    };
     let over = over_kids(sight, part.id, kids);
     let mut below = Below::new(alloc);
     let least = push_cons(
@@ -97,68 +97,14 @@ fn push_con(
         &over,
         kids,
     )?;
-    push_over(views, alloc, sight, above, part, kids, below)?;
-    Ok(least)
-}
-
-/// Adds a node over what is below it, where it is a container.
-fn push_over(
-    views: &mut Vec<NodeView>,
-    alloc: Global,
-    sight: &Sight<'_>,
-    above: &Above,
-    part: &Part,
-    kids: &Cursor<'_>,
-    below: Below,
-) -> Result<(), NoMemory>
-    requires sight { IsSight sight.now }
-    requires few { row_length kids.now ≤ 256 }
-    requires floats { below.floats.items ≡ [] }
-    requires placed { IsPlaced sight.now.tree.now.recency kids.now end below }
-    ensures { OnOk result (views.new.items ≡ views.old.items ++ con_views sight.now.tree.now sight.now.arrangement.now.parts above.now part.now (con_kind part.now.kind) kids.now below.kids.items) }
-{
-    match &part.kind {
-        NodeKind::Con(con) => push_whole(views, alloc, sight, above, part, con, kids, below),
-        NodeKind::Root { .. } | NodeKind::Output(_) | NodeKind::Space(_) => {
-            drop(below);
-            Ok(())
-        }
-    }
-}
-
-/// Adds a container over its children.
-fn push_whole(
-    views: &mut Vec<NodeView>,
-    alloc: Global,
-    sight: &Sight<'_>,
-    above: &Above,
-    part: &Part,
-    con: &ConPart,
-    kids: &Cursor<'_>,
-    below: Below,
-) -> Result<(), NoMemory>
-    requires sight { IsSight sight.now }
-    requires few { row_length kids.now ≤ 256 }
-    requires floats { below.floats.items ≡ [] }
-    requires placed { IsPlaced sight.now.tree.now.recency kids.now end below }
-    ensures { OnOk result (views.new.items ≡ views.old.items ++ con_views sight.now.tree.now sight.now.arrangement.now.parts above.now part.now (Some con.now) kids.now below.kids.items) }
-{
-    let rows = below.rows(alloc)?;
     match con_view(alloc, sight, above, part, con, kids) {
-        Ok(view) => push_view(views, view, rows),
+        Ok(view) => {
+            push_over(views, alloc, view, below)?;
+            Ok(least)
+        }
         Err(error) => {
-            drop(rows);
+            drop(below);
             Err(error)
         }
     }
-}
-
-/// Adds a view with the rows below its node.
-pub fn push_view(views: &mut Vec<NodeView>, view: NodeView, rows: Rows) -> Result<(), NoMemory>
-    ensures { OnOk result (views.new.items ≡ views.old.items ++ roll-NodeView (record (out-NodeView view) { nodes = rows.nodes; floating_nodes = rows.floating; focus = rows.focus }) ∷ []) }
-{
-    let mut view = view;
-    set_rows(&mut view, rows);
-    views.push(view)?;
-    Ok(())
 }
