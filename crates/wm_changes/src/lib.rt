@@ -4,7 +4,7 @@
 mod changing;
 mod comparing;
 mod focusing;
-pub mod laws;
+mod laws;
 mod lines;
 mod outputs;
 mod scene;
@@ -16,3 +16,7 @@ mod windows;
 mod words;
 
 pub use changing::changes;
+pub use laws::{
+    events_are_few, nothing_is_told_of_nothing, windows_are_found, windows_come_and_go,
+    workspaces_are_found, workspaces_come_and_go,
+};
