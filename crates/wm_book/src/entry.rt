@@ -5,7 +5,7 @@ ghost use Rattle.wm_core.specs.Sizes.{IsFitStep};
 ghost use Rattle.wm_core.specs.declared.step.Step.TheVariants as steps;
 
 use std::alloc::Global;
-use wm_base::{Buffer, ConId, Edges, NoMemory, Props, Text};
+use wm_base::{Buffer, ConId, Edges, NoMemory, Props, Str, Text};
 use wm_core::Step;
 use wm_criteria::Prepared;
 use wm_json::copy_str;
@@ -47,9 +47,7 @@ pub(crate) fn bare_copy(alloc: Global, step: &Step) -> Result<Step, NoMemory>
             name: name.clone()?,
         }),
         Step::Reserve { name, edges } => reserve_copy(name, *edges),
-        Step::Tick { payload } => Ok(Step::Tick {
-            payload: copy_str(alloc, payload)?,
-        }),
+        Step::Tick { payload } => tick_copy(alloc, payload),
         Step::Key { .. } => unreachable!(),
     }
 }
@@ -71,6 +69,13 @@ fn retitle_copy(con: ConId, title: &Text) -> Result<Step, NoMemory>
         con,
         title: title.clone()?,
     })
+}
+
+fn tick_copy(alloc: Global, payload: &Str) -> Result<Step, NoMemory>
+    ensures { IfOk result (λ copy. copy ≡ steps.Tick payload.now) }
+{
+    let payload = copy_str(alloc, payload)?;
+    Ok(Step::Tick { payload })
 }
 
 fn reserve_copy(name: &Text, edges: Edges) -> Result<Step, NoMemory>
