@@ -2,7 +2,7 @@
 ghost use Rattle.wm_views.specs.FocusLaws.{FocusIsOfCons, FocusIsOfOutputs, FocusIsOfSpaces};
 ghost use Rattle.wm_views.specs.Order.{NodesAreAll, RecencyRises, WorkspacesAreAll, WorkspacesRise};
 
-/// The workspaces stand by number, then by id, and they are those of the outputs, each as often as there.
+/// The workspaces stand by number, those without one last, then by id, and they are those of the outputs, each as often as there.
 #[tactic(auto, using(crate::proofs::OrderLemmas::workspaces_rise, crate::proofs::OrderLemmas::workspaces_are_all))]
 pub fn workspaces_are_in_order()
     ensures rise { WorkspacesRise }

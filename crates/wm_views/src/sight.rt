@@ -23,13 +23,14 @@ pub struct PlacedRects {
     pub contents: IdMap<Rect>,
 }
 
-/// A tree with its arrangement and its focused node, the rectangles by id, the ids of the urgent windows, and the
+/// A tree with its arrangement, its focused node and workspace, the rectangles by id, the ids of the urgent windows, and the
 /// places in the list by recency.
 #[derive(Drop)]
 pub struct Sight<'a> {
     pub tree: &'a Tree,
     pub arrangement: &'a Arrangement,
     pub focused: ConId,
+    pub shown: ConId,
     pub rects: PlacedRects,
     pub urgent: IdMap<()>,
     pub places: IdMap<usize>,
@@ -68,6 +69,7 @@ impl<'a> Sight<'a> {
             tree,
             arrangement,
             focused: tree.focused(),
+            shown: tree.shown(),
             rects,
             urgent,
             places,
