@@ -1,8 +1,8 @@
--- What holds of the tree that the lines of a case act on.
-use Rattle.std.specs.Prelude.{◌≡◌, true}
+-- What holds of the trees that the lines of a case act on.
+use Rattle.std.specs.Prelude.{◌≡◌, true, IfSome}
 use Rattle.wm_tree.specs.Sound.{IsSound}
 use Rattle.cases_tree.specs.declared.desk.Desk.{Desk}
 
--- the tree is sound where each change so far was one that is known to keep it so
+-- the tree, and the one that was kept, is sound where each change until then was one that is known to keep it so
 abbrev pub Holds : Desk → Type 0
-Holds d = d.sound ≡ true → IsSound d.tree
+Holds d = (d.sound ≡ true → IsSound d.tree) × (d.kept_sound ≡ true → IfSome d.kept IsSound)

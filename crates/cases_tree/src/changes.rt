@@ -3,7 +3,7 @@ ghost use Rattle.cases_tree.specs.Desk.{Holds};
 ghost use Rattle.std.specs.Prelude.{◌≡◌, true};
 ghost use Rattle.wm_forest.specs.Place.{IsPlace};
 
-use crate::desk::{Desk, is_fit, plan};
+use crate::desk::{Desk, has_output, is_fit, plan};
 use crate::news::{placeholder, props_words, window};
 use crate::telling::{tell_done, tell_id};
 use case_data::{Fault, Words};
@@ -112,7 +112,7 @@ fn add_workspace(desk: &mut Desk, words: &mut Words<'_>, out: &mut String) -> Re
 {
     let output = words.con()?;
     let name = words.last_text()?;
-    desk.sound = false;
+    desk.sound = desk.sound && has_output(&desk.tree, output);
     let answer = desk.tree.add_workspace(output, &name);
     tell_id(out, answer)
 }
@@ -180,7 +180,7 @@ pub fn remove_output(desk: &mut Desk, words: &mut Words<'_>, out: &mut String) -
     ensures { Holds desk.new }
 {
     let output = words.con()?;
-    desk.sound = false;
+    desk.sound = desk.sound && has_output(&desk.tree, output);
     let answer = desk.tree.remove_output(output);
     tell_done(out, answer)
 }

@@ -1,6 +1,8 @@
-//! What the lines of a case act on: a tree, and what was kept of it and of its arrangement.
+//! What the lines of a case act on: a tree, a tree that was kept, and an arrangement that was kept.
 ghost use Rattle.std.specs.Prelude.{◌≡◌, true, IfOk};
+ghost use Rattle.wm_tree.specs.Outputs.{IsOutput};
 ghost use Rattle.wm_tree.specs.Sound.{FitPlans, IsSound};
+ghost use Rattle.wm_forest.specs.Look.{in_row};
 ghost use Rattle.wm_forest.specs.SoundRow.{IsOutputRect};
 ghost use Rattle.cases_tree.specs.Desk.{Holds};
 
@@ -8,15 +10,17 @@ use case_data::{Fault, Words};
 use std::alloc::Global;
 use std::mem;
 use wm_arrange::Arrangement;
-use wm_base::{Border, Edges, NoMemory, OutputPlan, Rect, Text};
-use wm_tree::Tree;
+use wm_base::{Border, ConId, Edges, NoMemory, OutputPlan, Rect, Text};
+use wm_tree::{Cursor, Tree};
 
-/// A tree, whether each change so far was one that is known to keep it sound, and what was kept.
+/// A tree and one that was kept, whether each change until then was one that is known to keep it sound, and the
+/// arrangement that was kept.
 #[derive(Drop)]
 pub struct Desk {
     pub tree: Tree,
     pub sound: bool,
     pub kept: Option<Tree>,
+    pub kept_sound: bool,
     pub held: Option<Arrangement>,
 }
 
@@ -29,17 +33,21 @@ impl Desk {
             tree: Tree::start(alloc, &[], Border::Bare, 0, 0)?,
             sound: false,
             kept: None,
+            kept_sound: false,
             held: None,
         })
     }
 }
 
-/// Begins with the opening tree of the border, the inner and the outer gap, and the outputs that the line names.
+/// Begins with the opening tree of the border, the inner and the outer gap, and the outputs that the line names. What
+/// was kept of trees stays.
 pub fn start(desk: &mut Desk, words: &mut Words<'_>) -> Result<(), Fault>
     requires { Holds desk.old }
     ensures { Holds desk.new }
 {
-    let opened = opened(words)?;
+    let mut opened = opened(words)?;
+    mem::swap(&mut opened.kept, &mut desk.kept);
+    opened.kept_sound = desk.kept_sound;
     drop(mem::replace(desk, opened));
     Ok(())
 }
@@ -54,6 +62,7 @@ fn opened(words: &mut Words<'_>) -> Result<Desk, Fault>
         tree: tree_of(words.alloc, &plans, border, inner, outer)?,
         sound: are_fit(&plans),
         kept: None,
+        kept_sound: false,
         held: None,
     })
 }
@@ -122,4 +131,21 @@ pub fn is_fit(rect: Rect) -> bool
         && rect.y <= 131_071
         && rect.w <= 16_384
         && rect.h <= 16_384
+}
+
+/// Whether the tree has this output.
+pub fn has_output(tree: &Tree, output: ConId) -> bool
+    ensures { result ≡ true → IsOutput output tree.now.nodes }
+{
+    is_in(output, &tree.nodes().kids())
+}
+
+/// Whether the node is in the row.
+fn is_in(con: ConId, row: &Cursor<'_>) -> bool
+    ensures { result ≡ in_row con row.now }
+{
+    let Some(part) = row.part() else {
+        return false;
+    };
+    part.id == con || is_in(con, &row.rest())
 }

@@ -1,9 +1,9 @@
-//! The program cases_tree: cases of the tree's calls, of arrangements and of transactions, read from the files that it is
-//! given.
+//! The program cases_tree: cases of trees, arrangements, views, events and transactions, from the files it is given.
 #![tactic(auto)]
 
 mod changes;
 mod desk;
+mod events;
 mod kinds;
 mod looks;
 mod marks;
@@ -12,6 +12,7 @@ mod placed;
 mod play;
 mod sets;
 mod showing;
+mod steps;
 mod telling;
 mod transactions;
 mod views;

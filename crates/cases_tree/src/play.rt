@@ -6,7 +6,7 @@ use crate::looks::read;
 use crate::sets::set;
 use crate::showing::push_tree;
 use crate::telling::tell_case;
-use crate::{changes, marks, placed, views};
+use crate::{changes, events, marks, placed, steps, views};
 use case_data::{Fault, Words};
 use std::alloc::Global;
 use std::mem;
@@ -70,7 +70,7 @@ fn show(word: &str, desk: &mut Desk, words: &mut Words<'_>, out: &mut String) ->
     }
 }
 
-/// Says what the arrangement of the tree gives, or does what a call that changes the tree says.
+/// Says what the arrangement of the tree gives.
 fn show_placed(
     word: &str,
     desk: &mut Desk,
@@ -82,11 +82,27 @@ fn show_placed(
 {
     match word {
         "arrange" => placed::place(desk, words, out),
-        "view" => views::view(desk, words, out),
         "again" => placed::compare(desk, words, out),
         "area" => placed::area(desk, words, out),
         "size" => placed::size(desk, words, out),
         "cut" => placed::cut_all(words, out),
+        _ => show_json(word, desk, words, out),
+    }
+}
+
+/// Says the tree or its events as JSON, or does what a call that changes the tree says.
+fn show_json(
+    word: &str,
+    desk: &mut Desk,
+    words: &mut Words<'_>,
+    out: &mut String,
+) -> Result<(), Fault>
+    requires { Holds desk.old }
+    ensures { Holds desk.new }
+{
+    match word {
+        "view" => views::view(desk, words, out),
+        "events" => events::events(desk, words, out),
         _ => act(word, desk, words, out),
     }
 }
@@ -144,6 +160,19 @@ fn act_on_marks(
         "urgent" => marks::urgent(desk, words, out),
         "calm" => marks::calm(desk, words),
         "raise" => marks::raise(desk, words),
+        _ => step(word, desk, words, out),
+    }
+}
+
+/// Does what a command does.
+fn step(word: &str, desk: &mut Desk, words: &mut Words<'_>, out: &mut String) -> Result<(), Fault>
+    requires { Holds desk.old }
+    ensures { Holds desk.new }
+{
+    match word {
+        "focus" => steps::focus(desk, words, out),
+        "send" => steps::send(desk, words, out),
+        "bring" => steps::bring(desk, words, out),
         _ => Err(Fault::BadLine),
     }
 }
@@ -184,6 +213,7 @@ fn keep(desk: &mut Desk) -> Result<(), Fault>
     ensures { Holds desk.new }
 {
     desk.kept = Some(desk.tree.copy()?);
+    desk.kept_sound = desk.sound;
     Ok(())
 }
 
@@ -192,6 +222,7 @@ fn back(desk: &mut Desk) -> Result<(), Fault>
     ensures { Holds desk.new }
 {
     desk.sound = false;
+    desk.kept_sound = false;
     if let Some(tree) = &mut desk.kept {
         mem::swap(&mut desk.tree, tree);
     }

@@ -1,7 +1,7 @@
 //! The calls that change one part of the tree alone.
 ghost use Rattle.cases_tree.specs.Desk.{Holds};
 
-use crate::desk::Desk;
+use crate::desk::{Desk, has_output};
 use case_data::{Fault, Words};
 use wm_base::Text;
 use wm_tree::ConState;
@@ -64,7 +64,7 @@ fn set_current(desk: &mut Desk, words: &mut Words<'_>) -> Result<(), Fault>
     ensures { Holds desk.new }
 {
     let output = words.con()?;
-    desk.sound = false;
+    desk.sound = desk.sound && has_output(&desk.tree, output);
     desk.tree.set_current(output);
     Ok(())
 }

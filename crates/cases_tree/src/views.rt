@@ -8,7 +8,7 @@ use case_data::{Fault, Words};
 use std::alloc::Global;
 use std::str;
 use wm_arrange::{Arrangement, arrange};
-use wm_json::{compact, node_value};
+use wm_json::{NodeView, compact, node_value};
 use wm_tree::Tree;
 use wm_views::tree_view;
 
@@ -43,6 +43,12 @@ fn view_bytes(alloc: Global, tree: &Tree, arrangement: &Arrangement) -> Result<V
     requires { IsSound tree.now }
 {
     let view = tree_view(alloc, tree, arrangement)?;
-    let value = node_value(alloc, &view)?;
+    let bytes = node_bytes(alloc, &view);
+    drop(view);
+    bytes
+}
+
+fn node_bytes(alloc: Global, view: &NodeView) -> Result<Vec<u8>, Fault> {
+    let value = node_value(alloc, view)?;
     Ok(compact(alloc, &value)?)
 }
