@@ -1,0 +1,5 @@
+pub mod Calls
+pub mod Names
+pub mod Talking
+pub mod Told
+pub mod Values
