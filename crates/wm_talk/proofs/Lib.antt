@@ -1,2 +1,4 @@
+pub mod LawLemmas
+pub mod RiseLemmas
 pub mod TextLemmas
 pub mod ValueLemmas

@@ -1,5 +1,5 @@
 -- What is subscribed by a client, and since when.
-use Rattle.std.specs.Prelude.{ℕ, ◌==◌, nat_lt, Bool, true, false, if◌then◌else◌, List, [], ◌∷◌, Option, None, Some}
+use Rattle.std.specs.Prelude.{ℕ, ◌==◌, Bool, true, false, if◌then◌else◌, List, [], ◌∷◌, Option, None, Some}
 use Rattle.std.specs.Option.{option_map}
 use Rattle.wm_core.specs.declared.look.View.{View}
 use Rattle.wm_core.specs.declared.look.View.TheVariants as view

@@ -1,14 +1,12 @@
 -- The messages that a client is told.
-use Rattle.std.specs.Prelude.{ℕ, ◌+◌, ◌==◌, nat_le, nat_lt, Bool, true, false, ◌&&◌, if◌then◌else◌, List, [], ◌∷◌, ◌++◌, map, length, Option, None, Some, codes}
+use Rattle.std.specs.Prelude.{ℕ, ◌+◌, ◌==◌, nat_lt, Bool, true, false, if◌then◌else◌, List, [], ◌∷◌, ◌++◌, map, Option, None, Some, codes}
 use Rattle.std.specs.List.{filter}
-use Rattle.std.specs.Option.{option_map}
 use Rattle.std.specs.Str.{is_utf8}
 use Rattle.std.specs.Str.Lossy.{utf8_valid_len}
 use Rattle.json.specs.Print.{quoted}
 use Rattle.wm_core.specs.declared.look.Query.{Query}
 use Rattle.wm_core.specs.declared.look.View.{View}
 use Rattle.wm_core.specs.declared.look.View.TheVariants as view
-use Rattle.wm_core.specs.declared.step.Answer.{Answer}
 use Rattle.wm_core.specs.declared.step.Answer.TheVariants.{Replies}
 use Rattle.wm_frames.specs.declared.message.Message.{Message}
 use Rattle.wm_json.specs.Arrays.{texts_text}
@@ -21,7 +19,7 @@ use Rattle.wm_json.specs.declared.replies.Reply.{Reply}
 use Rattle.wm_json.specs.declared.replies.Reply.TheVariants as reply
 use Rattle.wm_json.specs.declared.views.EventBody.TheVariants as body
 use Rattle.wm_json.specs.declared.views.EventView.{EventView}
-use Rattle.wm_talk.specs.Calls.{query_of, text_of, tick_of}
+use Rattle.wm_talk.specs.Calls.{query_of, tick_of}
 use Rattle.wm_talk.specs.Names.{value_of}
 use Rattle.wm_talk.specs.Talking.{after_reply, since_of}
 use Rattle.wm_talk.specs.declared.got.Got.{Got}

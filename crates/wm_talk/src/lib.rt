@@ -4,6 +4,7 @@
 mod calls;
 mod got;
 mod kinds;
+mod laws;
 mod names;
 mod replies;
 mod since;
@@ -14,5 +15,6 @@ mod views;
 
 pub use calls::{Call, call_of};
 pub use got::Got;
+pub use laws::{events_are_told_once, events_come_after, names_stay, telling_goes_on};
 pub use since::Since;
 pub use talk::Talk;

@@ -1,4 +1,4 @@
-use Rattle.std.proofs.Common.{◌≡◌, ℕ, length}
+use Rattle.std.proofs.Common.{◌≡◌, length}
 use Rattle.serde_json.specs.View.{items_view}
 use Rattle.wm_talk.specs.Names.{has_name}
 use Rattle.wm_talk.proofs.names.has_name.Given as goal

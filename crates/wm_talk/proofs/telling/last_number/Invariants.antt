@@ -1,4 +1,4 @@
-use Rattle.std.proofs.Common.{◌≡◌, ℕ, length}
+use Rattle.std.proofs.Common.{◌≡◌, length}
 use Rattle.wm_talk.specs.Talking.{last_number}
 use Rattle.wm_talk.proofs.telling.last_number.Given as goal
 

@@ -1,4 +1,4 @@
-use Rattle.std.proofs.Common.{◌≡◌, ◌++◌, ℕ, length}
+use Rattle.std.proofs.Common.{◌≡◌, ◌++◌, length}
 use Rattle.wm_talk.specs.Told.{messages_of}
 use Rattle.wm_talk.proofs.telling.messages_of.Given as goal
 
