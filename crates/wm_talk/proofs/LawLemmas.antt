@@ -1,13 +1,15 @@
 -- Laws of what is told over messages and readings of events.
 use Rattle.std.proofs.Common.{◌≡◌, ◌∙◌, refl, ap, sym, ℕ, if◌then◌else◌, ◌==◌, Bool, true, false, List, [], ◌∷◌, ◌++◌, map, Option, None, Some}
 use Rattle.std.specs.Option.{option_map}
-use Rattle.std.proofs.lemmas.List.{append_assoc}
+use Rattle.std.proofs.lemmas.List.{append-nil, append_assoc}
 use Rattle.wm_core.specs.declared.look.View.{View}
 use Rattle.wm_core.specs.declared.look.View.TheVariants as view
+use Rattle.wm_frames.specs.declared.message.Message.{Message}
 use Rattle.wm_talk.specs.Marks.{after_mark, after_marks, asked, events_at, Mark, read, told_at, told_over}
 use Rattle.wm_talk.specs.Names.{names_in, value_of}
-use Rattle.wm_talk.specs.Talking.{after_events, events_by, since_of, since_when, subscribe, subscribed}
-use Rattle.wm_talk.specs.Told.{event_message, told}
+use Rattle.wm_talk.specs.Talking.{after_events, after_reply, events_by, since_of, since_when, subscribe, subscribed}
+use Rattle.wm_talk.specs.Told.{event_message, first_tick, replied, reply_to, told}
+use Rattle.wm_talk.specs.declared.got.Got.{Got}
 use Rattle.wm_talk.specs.declared.names.Names.{Names}
 use Rattle.wm_talk.specs.declared.since.Since.{Since}
 use Rattle.wm_talk.specs.declared.talk.Talk.{Talk}
@@ -82,3 +84,13 @@ mark_stays kind (read v) t n e = rw (events_stay v t) e
 pub names_stay : (t : Talk) (marks : List Mark) (kind n : ℕ) → since_of t.since kind ≡ Some n → since_of (after_marks marks t).since kind ≡ Some n
 names_stay t [] kind n e = e
 names_stay t (mark ∷ marks) kind n e = names_stay (after_mark mark t) marks kind n (mark_stays kind mark t n e)
+
+-- ---- the first tick
+
+none_again : (before after : Option ℕ) (n : ℕ) → before ≡ Some n → first_tick before after ≡ []
+none_again before after n e = rw e refl
+
+pub one_first_tick : (t : Talk) (marks : List Mark) (m : Message) (g : Got) (n : ℕ) → t.since.tick ≡ Some n → replied (after_marks marks t) m g ≡ reply_to m g
+one_first_tick t marks m g n e =
+    let now = after_marks marks t in
+    ap (λ xs. reply_to m g ++ xs) (none_again now.since.tick (after_reply m g now).since.tick n (names_stay t marks 7 n e)) ∙ append-nil (reply_to m g)

@@ -1,3 +1,4 @@
+pub mod DeskLemmas
 pub mod LawLemmas
 pub mod RiseLemmas
 pub mod TextLemmas

@@ -1,10 +1,16 @@
 //! Laws of what a client is told over messages and readings of events, one after another.
-ghost use Rattle.std.specs.Prelude.{◌≡◌, ◌++◌, ℕ, List, Some, map, true};
+ghost use Rattle.std.specs.Prelude.{◌≡◌, ◌+◌, ◌≤◌, ◌++◌, ℕ, List, Some, length, map, true};
 ghost use Rattle.std.specs.List.{All};
+ghost use Rattle.wm_core.specs.Events.{events};
+ghost use Rattle.wm_core.specs.History.{History, Start};
+ghost use Rattle.wm_core.specs.Look.{look};
+ghost use Rattle.wm_core.specs.declared.look.Query.TheVariants as queries;
 ghost use Rattle.wm_core.specs.declared.look.View.{View};
-ghost use Rattle.wm_talk.specs.Marks.{after_marks, AllAnswer, events_at, events_over, Mark, read, Rise, told_over};
-ghost use Rattle.wm_talk.specs.Talking.{NEVER, since_of};
-ghost use Rattle.wm_talk.specs.Told.{comes_after, event_message, told};
+ghost use Rattle.wm_frames.specs.declared.message.Message.{Message};
+ghost use Rattle.wm_talk.specs.Marks.{after_marks, AllAnswer, events_at, events_in, events_over, Mark, read, Rise, told_over};
+ghost use Rattle.wm_talk.specs.Talking.{last_number, NEVER, since_of};
+ghost use Rattle.wm_talk.specs.Told.{comes_after, event_message, replied, reply_to, told};
+ghost use Rattle.wm_talk.specs.declared.got.Got.{Got};
 ghost use Rattle.wm_talk.specs.declared.talk.Talk.{Talk};
 
 /// What is told over a longer list begins with what is told over a shorter one, and goes on from where that ended.
@@ -29,4 +35,18 @@ pub fn events_come_after()
 pub fn names_stay()
     ensures { (t : Talk) → (marks : List Mark) → (kind n : ℕ) → since_of t.since kind ≡ Some n
         → since_of (after_marks marks t).since kind ≡ Some n }
+{}
+
+/// After ticks were subscribed no reply is followed by the first tick event again.
+pub fn the_first_tick_is_told_once()
+    ensures { (t : Talk) → (marks : List Mark) → (m : Message) → (g : Got) → (n : ℕ) → t.since.tick ≡ Some n
+        → replied (after_marks marks t) m g ≡ reply_to m g }
+{}
+
+/// A desk's reading of the events above a number has them by rising number, and, where no more than 4,096 came since, goes up
+/// to the last that was told.
+pub fn readings_go_to_the_last()
+    ensures rise { (start : Start) → (history : History) → (who n : ℕ) → Rise n (events_in (look start history who (queries.Events n))) }
+    ensures last { (start : Start) → (history : History) → (who n : ℕ) → n ≤ length (events start history) → length (events start history) ≤ n + 4096
+        → last_number n (events_in (look start history who (queries.Events n))) ≡ length (events start history) }
 {}

@@ -15,6 +15,9 @@ mod views;
 
 pub use calls::{Call, call_of};
 pub use got::Got;
-pub use laws::{events_are_told_once, events_come_after, names_stay, telling_goes_on};
+pub use laws::{
+    events_are_told_once, events_come_after, names_stay, readings_go_to_the_last, telling_goes_on,
+    the_first_tick_is_told_once,
+};
 pub use since::Since;
 pub use talk::Talk;
