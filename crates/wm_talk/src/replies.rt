@@ -1,5 +1,5 @@
 //! The payloads of replies.
-ghost use Rattle.std.specs.Prelude.{◌≡◌, ◌∷◌, [], IfOk};
+ghost use Rattle.std.specs.Prelude.{◌≡◌, ◌∷◌, [], Some, IfOk};
 ghost use Rattle.std.specs.Option.{option_map};
 ghost use Rattle.std.specs.Str.Lossy.{utf8_valid_len};
 ghost use Rattle.wm_json.specs.Replies.{replies_text, success_text, VERSION_TEXT};
@@ -25,16 +25,23 @@ pub fn payload(alloc: Global, m: &Message, got: &Got) -> Result<Option<Vec<u8>>,
 {
     let bytes = m.payload.items();
     match m.kind {
-        RUN_COMMAND => Ok(Some(run_json(alloc, bytes, got)?)),
-        GET_BAR_CONFIG => Ok(Some(bar_json(alloc, bytes)?)),
-        GET_VERSION => Ok(Some(version_json(alloc)?)),
-        SEND_TICK => Ok(Some(success_json(alloc, tick_of(bytes).is_some())?)),
-        SYNC => Ok(Some(success_json(alloc, false)?)),
+        RUN_COMMAND => run_payload(alloc, bytes, got),
+        GET_BAR_CONFIG => bar_payload(alloc, bytes),
+        GET_VERSION => version_payload(alloc),
+        SEND_TICK => success_payload(alloc, tick_of(bytes).is_some()),
+        SYNC => success_payload(alloc, false),
         kind => seen_payload(alloc, kind, got),
     }
 }
 
 /// The replies to a payload that is to be run, by what the call gave.
+fn run_payload(alloc: Global, payload: &[u8], got: &Got) -> Result<Option<Vec<u8>>, NoMemory>
+    ensures { IfOk result (λ reply. option_map (λ bytes. bytes.items) reply ≡ Some (replies_text (replies_to payload.now got.now))) }
+{
+    Ok(Some(run_json(alloc, payload, got)?))
+}
+
+/// The JSON of the replies to a payload that is to be run, by what the call gave.
 #[tactic(auto, using(crate::proofs::TextLemmas::is_run, crate::proofs::TextLemmas::is_not_run))]
 fn run_json(alloc: Global, payload: &[u8], got: &Got) -> Result<Vec<u8>, NoMemory>
     ensures { IfOk result (λ bytes. bytes.items ≡ replies_text (replies_to payload.now got.now)) }
@@ -45,7 +52,7 @@ fn run_json(alloc: Global, payload: &[u8], got: &Got) -> Result<Vec<u8>, NoMemor
     }
 }
 
-/// The replies that a call gave.
+/// The JSON of the replies that a call gave.
 fn answered_json(alloc: Global, got: &Got) -> Result<Vec<u8>, NoMemory>
     ensures { IfOk result (λ bytes. bytes.items ≡ replies_text (replies_of got.now)) }
 {
@@ -76,8 +83,8 @@ fn seen_json(alloc: Global, got: &Got) -> Result<Vec<u8>, NoMemory>
 }
 
 /// The reply to a message that asks for a bar, or for the names of bars where it names none.
-fn bar_json(alloc: Global, payload: &[u8]) -> Result<Vec<u8>, NoMemory>
-    ensures { IfOk result (λ bytes. bytes.items ≡ bar_text payload.now) }
+fn bar_payload(alloc: Global, payload: &[u8]) -> Result<Option<Vec<u8>>, NoMemory>
+    ensures { IfOk result (λ reply. option_map (λ bytes. bytes.items) reply ≡ Some (bar_text payload.now)) }
 {
     let text = if payload.is_empty() {
         "[]"
@@ -86,21 +93,21 @@ fn bar_json(alloc: Global, payload: &[u8]) -> Result<Vec<u8>, NoMemory>
     };
     let mut bytes = Vec::new(alloc);
     bytes.extend_from_slice(text.as_bytes())?;
-    Ok(bytes)
+    Ok(Some(bytes))
 }
 
 /// The object that names this program's version.
-fn version_json(alloc: Global) -> Result<Vec<u8>, NoMemory>
-    ensures { IfOk result (λ bytes. bytes.items ≡ VERSION_TEXT) }
+fn version_payload(alloc: Global) -> Result<Option<Vec<u8>>, NoMemory>
+    ensures { IfOk result (λ reply. option_map (λ bytes. bytes.items) reply ≡ Some VERSION_TEXT) }
 {
     let value = version_value(alloc)?;
-    compact(alloc, &value)
+    Ok(Some(compact(alloc, &value)?))
 }
 
 /// The object that says whether something was done.
-pub fn success_json(alloc: Global, done: bool) -> Result<Vec<u8>, NoMemory>
-    ensures { IfOk result (λ bytes. bytes.items ≡ success_text done) }
+pub fn success_payload(alloc: Global, done: bool) -> Result<Option<Vec<u8>>, NoMemory>
+    ensures { IfOk result (λ reply. option_map (λ bytes. bytes.items) reply ≡ Some (success_text done)) }
 {
     let value = success_value(alloc, done)?;
-    compact(alloc, &value)
+    Ok(Some(compact(alloc, &value)?))
 }

@@ -9,7 +9,7 @@ ghost use Rattle.wm_talk.specs.Told.{first_tick, is_there, replied, told, with_k
 use crate::got::Got;
 use crate::kinds::SUBSCRIBE;
 use crate::names::{Names, names_of};
-use crate::replies::{payload, success_json};
+use crate::replies::{payload, success_payload};
 use crate::since::Since;
 use crate::telling::{last_number, messages_of, push_first_tick, with_kind};
 use std::alloc::Global;
@@ -89,8 +89,8 @@ impl Talk {
     {
         let names = names_of(alloc, payload)?;
         let next = self.subscribed(names, last);
-        let done = success_json(alloc, names.is_some())?;
-        let mut messages = with_kind(alloc, SUBSCRIBE, Some(done))?;
+        let done = success_payload(alloc, names.is_some())?;
+        let mut messages = with_kind(alloc, SUBSCRIBE, done)?;
         push_first_tick(alloc, self.since.tick, next.since.tick, &mut messages)?;
         *self = next;
         Ok(messages)
