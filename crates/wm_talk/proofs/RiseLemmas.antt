@@ -9,7 +9,7 @@ use Rattle.wm_frames.specs.declared.message.Message.{Message}
 use Rattle.wm_json.specs.declared.views.EventView.{EventView}
 use Rattle.wm_talk.specs.Marks.{AllAnswer, asked, events_in, events_over, Mark, read, Rise}
 use Rattle.wm_talk.specs.Names.{names_in, value_of}
-use Rattle.wm_talk.specs.Talking.{above_by, after_events, after_reply, begins, events_by, last_number, NEVER, or_else, since_of, since_when, some_since, subscribe, subscribed}
+use Rattle.wm_talk.specs.Talking.{above_by, after_events, after_reply, begins, events_by, last_number, NEW, or_else, since_of, since_when, some_since, subscribe, subscribed}
 use Rattle.wm_talk.specs.Told.{is_due}
 use Rattle.wm_talk.specs.declared.got.Got.{Got}
 use Rattle.wm_talk.specs.declared.names.Names.{Names}
@@ -143,5 +143,5 @@ rises (read v ∷ marks) t all =
     reading_rises (some_since t.since) t.since t.above (events_in v) (events_over next marks) refl all.0
     (subst (λ next'. Rise (bound next') (events_over next marks)) (after_is v t) (rises marks next all.1))
 
-pub told_once : (marks : List Mark) → AllAnswer (record { since = NEVER; above = 0 }) marks → Rise 0 (events_over (record { since = NEVER; above = 0 }) marks)
-told_once marks all = rises marks (record { since = NEVER; above = 0 }) all
+pub told_once : (marks : List Mark) → AllAnswer NEW marks → Rise 0 (events_over NEW marks)
+told_once marks all = rises marks NEW all

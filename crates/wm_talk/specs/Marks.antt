@@ -1,10 +1,12 @@
 -- What a client is told over messages and readings of events, one after another.
-use Rattle.std.specs.Prelude.{ℕ, ◌<◌, List, [], ◌∷◌, ◌++◌}
+use Rattle.std.specs.Prelude.{ℕ, ◌<◌, List, [], ◌∷◌, ◌++◌, drop}
 use Rattle.std.specs.List.{filter}
 use Rattle.wm_core.specs.declared.look.View.{View}
 use Rattle.wm_core.specs.declared.look.View.TheVariants as view
 use Rattle.wm_frames.specs.declared.message.Message.{Message}
+use Rattle.wm_json.specs.declared.views.EventBody.{EventBody}
 use Rattle.wm_json.specs.declared.views.EventView.{EventView}
+use Rattle.wm_kept.specs.Log.{numbered}
 use Rattle.wm_talk.specs.Talking.{after_events, after_reply}
 use Rattle.wm_talk.specs.Told.{is_due, replied, told}
 use Rattle.wm_talk.specs.declared.got.Got.{Got}
@@ -61,3 +63,7 @@ Answers t (read v) = Rise t.above (events_in v)
 abbrev pub AllAnswer : Talk → List Mark → Type 0
 AllAnswer t [] = Unit {0}
 AllAnswer t (mark ∷ marks) = Answers t mark × AllAnswer (after_mark mark t) marks
+
+-- the reading of all events but the first n
+abbrev pub behind : ℕ → List EventBody → View
+behind n all = view.Events (drop n (numbered 0 all))

@@ -54,6 +54,10 @@ some_since since = or_else since.workspace (or_else since.output (or_else since.
 
 -- ---- the talk
 
+-- at first nothing is subscribed
+abbrev pub NEW : Talk
+NEW = record { since = NEVER; above = 0 }
+
 -- the number for the next reading of events: none where nothing is subscribed
 abbrev pub above_by : Option ℕ → ℕ → Option ℕ
 above_by None above = None

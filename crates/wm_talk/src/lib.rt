@@ -16,8 +16,7 @@ mod views;
 pub use calls::{Call, call_of};
 pub use got::Got;
 pub use laws::{
-    events_are_told_once, events_come_after, names_stay, readings_go_to_the_last, telling_goes_on,
-    the_first_tick_is_told_once,
+    events_are_told_once, events_come_after, names_stay, no_event_is_left_out,
+    readings_go_to_the_last, telling_goes_on, the_first_tick_is_told_once,
 };
-pub use since::Since;
 pub use talk::Talk;

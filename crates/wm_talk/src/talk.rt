@@ -3,7 +3,7 @@ ghost use Rattle.std.specs.Prelude.{◌≡◌, ◌++◌, Some, IfOk, OnErr, OnOk
 ghost use Rattle.std.specs.Option.{option_map};
 ghost use Rattle.wm_json.specs.Replies.{success_text};
 ghost use Rattle.wm_talk.specs.Names.{names_in, value_of};
-ghost use Rattle.wm_talk.specs.Talking.{above_of, after_events, after_reply, events_by, NEVER, subscribe};
+ghost use Rattle.wm_talk.specs.Talking.{above_of, after_events, after_reply, events_by, NEW, subscribe};
 ghost use Rattle.wm_talk.specs.Told.{first_tick, is_there, replied, told, with_kind};
 
 use crate::got::Got;
@@ -27,7 +27,7 @@ pub struct Talk {
 impl Talk {
     /// Nothing is subscribed. It takes no memory.
     pub fn new() -> Talk
-        ensures { result ≡ record { since = NEVER; above = 0 } }
+        ensures { result ≡ NEW }
     {
         Talk {
             since: Since::never(),
