@@ -1,0 +1,6 @@
+pub mod Calls
+pub mod Marks
+pub mod Names
+pub mod Talking
+pub mod Told
+pub mod Values
