@@ -20,3 +20,4 @@ pub use laws::{
     readings_go_to_the_last, telling_goes_on, the_first_tick_is_told_once,
 };
 pub use talk::Talk;
+pub use views::view_json;

@@ -1,4 +1,3 @@
-pub mod AskLemmas
 pub mod DrawEnds
 pub mod DrawLemmas
 pub mod EndLemmas
@@ -8,5 +7,3 @@ pub mod MessageLemmas
 pub mod PlanLemmas
 pub mod RefusalLemmas
 pub mod RunLemmas
-pub mod TellLemmas
-pub mod ValueLemmas

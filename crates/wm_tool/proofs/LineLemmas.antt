@@ -96,7 +96,7 @@ one_deed other = omega arith
 pub one_step : (l : Line) → length (line_step l) ≤ 1
 one_step l = one_deed l.deed
 
-pub rest_is : (g d : Line) (rest : List Line) → 1 ≤ length rest → g ≡ get_or rest 0 d → rest ≡ g ∷ take (length rest - 1) (drop 1 rest)
+pub rest_is : {A : Type 0} (g d : A) (rest : List A) → 1 ≤ length rest → g ≡ get_or rest 0 d → rest ≡ g ∷ take (length rest - 1) (drop 1 rest)
 rest_is g d [] some is = absurd (omega arith)
 rest_is g d (l ∷ rest) some is = ap (λ x. x ∷ rest) (sym is) ∙ ap (λ xs. g ∷ xs) (sym (take_all (suc (length rest) - 1) rest (omega arith)))
 

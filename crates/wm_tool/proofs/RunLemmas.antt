@@ -11,7 +11,7 @@ use Rattle.wm_tool.specs.declared.status.Refused.{Refused}
 use Rattle.wm_tool.specs.Ending.{HasStopped}
 use Rattle.wm_tool.specs.Output.{takes, entry_of, run_entry, told}
 use Rattle.wm_tool.specs.Refusals.{IsBacked, IsRising, refusal_at, verdict_of}
-use Rattle.wm_tool.specs.Running.{Grows, Holds, IsBackedTo, Leads, Notes, Plays, Runs, Stops, Writes, fresh}
+use Rattle.wm_tool.specs.Running.{Finishes, Grows, Holds, IsBackedTo, Leads, Notes, Plays, Runs, Stops, Writes, fresh}
 use Rattle.wm_core.specs.Act.{Run, act_of}
 use Rattle.wm_core.specs.declared.step.Step.TheVariants as steps_of
 use Rattle.wm_criteria.specs.declared.prepared.Prepared.{Prepared}
@@ -130,6 +130,12 @@ pub ends_written : (old now : Option (List ℕ)) (desk : DeskValue) (refused : L
     → ((rs : List Refused) (history : History) → tells rs history ≡ []) → Runs old now desk refused [] tells whole → TakesAll old now (whole refused)
 ends_written old now desk refused tells whole none r = ends old now now desk refused [] tells whole none r (none_taken now)
 
+-- a run to the end with nothing held
+pub finishes : (old now : Option (List ℕ)) (desk : DeskValue) (refused : List Refused) (tells : List Refused → History → List ℕ) (whole : List Refused → List ℕ)
+    (texts ahead : List (Option (List ℕ))) (first log : Log) → ((rs : List Refused) (history : History) → tells rs history ≡ [])
+    → Plays old now desk refused [] tells whole texts ahead first log → Finishes old now whole refused texts first log
+finishes old now desk refused tells whole texts ahead first log none p = (ends_written old now desk refused tells whole none p.runs, p.backed.backed)
+
 pub writes_none : (now : Option (List ℕ)) (piece : List ℕ) → Writes now now piece piece
 writes_none now piece = record { count = 0; taken = none_taken now; left = refl }
 
@@ -191,11 +197,13 @@ module _ (old now : Option (List ℕ)) (desk : DeskValue) (before later_refused 
     )
 
     -- a step that was taken
-    pub plays_step : (next : DeskValue) (text : List ℕ) → ((rs : List Refused) (h : History) → tells rs h ≡ says rs h ++ later rs (step rs h))
+    pub plays_led : (next : DeskValue) (text : List ℕ)
+        → ((more : List Refused) → IsRising (length (step later_refused p.runs.history)) more
+        → tells (later_refused ++ more) p.runs.history ≡ says (later_refused ++ more) p.runs.history ++ later (later_refused ++ more) (step (later_refused ++ more) p.runs.history))
         → ((rs more : List Refused) (h : History) → IsRising (length (step rs h)) more → (step (rs ++ more) h ≡ step rs h) × (says (rs ++ more) h ≡ says rs h))
         → (refusal_at desk.steps before ≡ None → Leads desk next (step later_refused) (says later_refused) piece text) → next.steps ≡ desk.steps + length steps
         → Plays old now next later_refused text later whole texts ahead first l2
-    plays_step next text splits same leads moved =
+    plays_led next text splits same leads moved =
         let h = p.runs.history in
         let led = leads (refusal_before desk.steps before p.backed.below) h p.runs.stands in
         record {
@@ -211,12 +219,19 @@ module _ (old now : Option (List ℕ)) (desk : DeskValue) (before later_refused 
                 ap (λ xs. p.runs.said ++ xs)
                 (ap (λ xs. xs ++ ahead_text) led.1
                 ∙ (append_assoc piece (says later_refused h) ahead_text
-                ∙ ap (λ xs. piece ++ xs) (sym (splits rs h ∙ (ap (λ x. x ++ later rs (step rs h)) s.1 ∙ ap (λ z. says later_refused h ++ later rs z) s.0)))))
+                ∙ ap (λ xs. piece ++ xs) (sym (splits more rising ∙ (ap (λ x. x ++ later rs (step rs h)) s.1 ∙ ap (λ z. says later_refused h ++ later rs z) s.0)))))
                 ∙ makes_after more rising;
           };
           backed = subst (λ n. IsBackedTo n texts later_refused first l2) (sym moved) backed_after;
           left = ap (λ n. drop n texts) moved ∙ (drop_more desk.steps (length steps) texts ∙ (ap (drop (length steps)) p.left ∙ drop_front steps ahead));
         }
+
+    -- a step that was taken, and what is told is split alike after each history
+    pub plays_step : (next : DeskValue) (text : List ℕ) → ((rs : List Refused) (h : History) → tells rs h ≡ says rs h ++ later rs (step rs h))
+        → ((rs more : List Refused) (h : History) → IsRising (length (step rs h)) more → (step (rs ++ more) h ≡ step rs h) × (says (rs ++ more) h ≡ says rs h))
+        → (refusal_at desk.steps before ≡ None → Leads desk next (step later_refused) (says later_refused) piece text) → next.steps ≡ desk.steps + length steps
+        → Plays old now next later_refused text later whole texts ahead first l2
+    plays_step next text splits same leads moved = plays_led next text (λ more rising. splits (later_refused ++ more) p.runs.history) same leads moved
 
 -- a text is run as before, whatever is refused behind it
 pub run_same : (who : ℕ) (rs more : List Refused) (h : History) (text : List ℕ) → IsRising (suc (length h)) more → run_entry who (rs ++ more) h text ≡ run_entry who rs h text

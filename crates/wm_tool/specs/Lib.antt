@@ -6,4 +6,3 @@ pub mod Planning
 pub mod Refusals
 pub mod Running
 pub mod Status
-pub mod Values

@@ -12,11 +12,6 @@ use Rattle.wm_core.specs.declared.step.Answer.{Answer}
 use Rattle.wm_core.specs.declared.step.Answer.TheVariants as answers
 use Rattle.wm_json.specs.Replies.{replies_text}
 use Rattle.wm_core.specs.Frame.{frame}
-use Rattle.json.specs.Print.{quoted}
-use Rattle.wm_json.specs.Arrays.{texts_text}
-use Rattle.wm_json.specs.Nodes.{node_text}
-use Rattle.wm_json.specs.Objects.{always, object_text}
-use Rattle.wm_json.specs.Spaces.{outputs_text, workspaces_text}
 use Rattle.wm_core.specs.Look.{look}
 use Rattle.wm_core.specs.declared.look.Query.{Query}
 use Rattle.wm_core.specs.declared.look.Query.TheVariants as query
@@ -35,6 +30,7 @@ use Rattle.wm_script.specs.declared.line.Line.{Line}
 use Rattle.wm_tool.specs.declared.status.Refused.{Refused}
 use Rattle.wm_tool.specs.Refusals.{verdict_of}
 use Rattle.wm_script.specs.Script.{outputs_in, script}
+use Rattle.wm_talk.specs.Told.{view_json}
 
 -- the line that tells an answer
 abbrev pub answer_text : Answer → List ℕ
@@ -162,21 +158,6 @@ size_text size = decimal size.w ++ (codes "x" ++ decimal size.h)
 abbrev pub want_text : Want → List ℕ
 want_text (want.Configure con serial size) = codes "configure " ++ (decimal con.0 ++ (codes " " ++ (decimal serial ++ (codes " " ++ (size_text size ++ new_line)))))
 want_text (want.Kill con number) = codes "kill " ++ (decimal con.0 ++ (codes " " ++ (decimal number ++ new_line)))
-
--- the object of one text under this key
-abbrev pub text_object : List ℕ → List ℕ → List ℕ
-text_object key text = object_text (always key (quoted text) ∷ [])
-
--- a view as one JSON value; what is asked of windows has none, nor has what neither a line nor a message looks at
-abbrev pub view_json : View → List ℕ
-view_json (view.Tree node) = node_text node
-view_json (view.Workspaces spaces) = workspaces_text spaces
-view_json (view.Outputs outputs) = outputs_text outputs
-view_json (view.Marks marks) = texts_text marks
-view_json (view.Modes modes) = texts_text modes
-view_json (view.Mode mode) = text_object (codes "name") mode
-view_json (view.Config config) = text_object (codes "config") config
-view_json other = []
 
 -- the lines that tell a view
 abbrev pub view_text : View → List ℕ

@@ -80,6 +80,10 @@ pub record Plays (old now : Option (List ℕ)) (desk : DeskValue) (refused : Lis
 abbrev pub Stops : Option (List ℕ) → Option (List ℕ) → (List Refused → List ℕ) → List Refused → List (Option (List ℕ)) → Log → Log → Type 0
 Stops old now whole refused texts first log = TakesPart old now (whole refused) × IsBacked texts refused first log
 
+-- a run to the end wrote all, and its refusals are backed
+abbrev pub Finishes : Option (List ℕ) → Option (List ℕ) → (List Refused → List ℕ) → List Refused → List (Option (List ℕ)) → Log → Log → Type 0
+Finishes old now whole refused texts first log = TakesAll old now (whole refused) × IsBacked texts refused first log
+
 -- what a run is at that tells nothing before its end
 abbrev pub Draws : DeskValue → List Refused → (List Refused → History → List ℕ) → (List Refused → List ℕ) → List (Option (List ℕ)) → List (Option (List ℕ)) → Log → Log → Type 0
 Draws desk refused tells whole texts ahead first log = Plays (Some []) (Some []) desk refused [] tells whole texts ahead first log

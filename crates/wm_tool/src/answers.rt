@@ -6,11 +6,11 @@ ghost use Rattle.wm_core.specs.declared.step.Answer.TheVariants as answers;
 ghost use Rattle.wm_paint.specs.FrameText.{new_line};
 ghost use Rattle.wm_tool.specs.Output.{answer_text, view_text, want_text};
 
-use crate::views::view_json;
 use std::alloc::Global;
 use wm_base::{ConId, Limit, NoMemory, Size};
 use wm_core::{Answer, View, Want};
 use wm_json::{Reply, replies_json};
+use wm_talk::view_json;
 
 /// Adds the line that tells the answer.
 pub fn push_answer(alloc: Global, piece: &mut Vec<u8>, answer: &Answer) -> Result<(), NoMemory>

@@ -11,7 +11,7 @@ mod replay;
 mod run;
 mod status;
 mod steps;
-mod views;
+mod telling;
 
 pub use run::tool;
 pub use status::{Refused, Status};

@@ -1,4 +1,4 @@
-use Rattle.std.proofs.Common.{◌≡◌, ℕ, ◌+◌, ◌≤◌, List, [], Option, length}
+use Rattle.std.proofs.Common.{◌≡◌, ℕ, ◌+◌, ◌≤◌, List, [], Option, Some, length}
 use Rattle.std.specs.List.{AllByRecursion}
 use Rattle.wm_criteria.specs.Building.{Log}
 use Rattle.wm_frames.specs.Frame.{IsShort}
@@ -16,8 +16,8 @@ invariant-loop-message g l = record {
   short : AllByRecursion IsShort l.decoder.queue;
   empty : l.piece.items ≡ [];
   plays : (old : Option (List ℕ)) (whole : List Refused → List ℕ) (texts : List (Option (List ℕ))) (first : Log)
-      → Plays old (g.W.Sink.taken l.initial.sink) l.initial.desk l.initial.refused.items [] (replies_from l.initial.decoder.queue) whole texts (message_texts l.initial.decoder.queue) first (g.B.Build.log l.initial.build)
-      → Plays old (g.W.Sink.taken l.sink) l.desk l.refused.items [] (replies_from l.decoder.queue) whole texts (message_texts l.decoder.queue) first (g.B.Build.log l.build);
+      → Plays old (g.W.Sink.taken l.initial.sink) l.initial.desk l.initial.refused.items [] (replies_from (Some l.initial.talk) l.initial.decoder.queue) whole texts (message_texts l.initial.decoder.queue) first (g.B.Build.log l.initial.build)
+      → Plays old (g.W.Sink.taken l.sink) l.desk l.refused.items [] (replies_from (Some l.talk) l.decoder.queue) whole texts (message_texts l.decoder.queue) first (g.B.Build.log l.build);
   counted : g.W.Sink.faults l.initial.sink ≤ g.W.Sink.faults l.sink;
 }
 
