@@ -17,7 +17,7 @@ is_named name (boolean b) = false
 is_named name (number n) = false
 is_named name (string text) = bytes_eq text name
 is_named name (array items) = false
-is_named name (object members) = false
+is_named name (object fields) = false
 
 -- one of the items is the text of this name
 abbrev pub has_name : List ℕ → Items → Bool
@@ -31,7 +31,7 @@ asks name (boolean b) = false
 asks name (number n) = false
 asks name (string text) = false
 asks name (array items) = has_name name items
-asks name (object members) = false
+asks name (object fields) = false
 
 -- the names of events that a value asks for; all else in it is passed over
 abbrev pub names_in : Data → Names
