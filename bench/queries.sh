@@ -1,7 +1,6 @@
 #!/bin/sh
-# Takes how many looks at the tree and at the workspaces i3replay answers in a second with 2, 16 and 128 open windows, how many texts that
-# do nothing it runs with 2 and with 128, and what a step that changes the tree costs with 4,000 open windows beside one that
-# changes nothing. What the opening takes is taken off.
+# Takes how many looks at the tree and at the workspaces i3replay answers in a second with 2, 16 and 128 open windows, and how many
+# texts that do nothing it runs with 2 and with 128. What the opening takes is taken off.
 # usage: bench/queries.sh [PROGRAM]
 set -eu
 . "$(dirname "$0")/program.sh"
