@@ -1,15 +1,22 @@
-//! Sources, sinks and links of bytes: their contracts, ones in memory that fail where they are told, and real ones.
+//! Sources, sinks, links, listeners and clocks: their contracts, ones in memory that fail where they are told, and real
+//! sources and sinks.
 #![tactic(auto)]
 
+mod clock_memory;
 mod link_memory;
 mod links;
+mod listen_memory;
+mod listens;
 mod memory;
 mod port;
 mod stream;
 mod whole;
 
+pub use clock_memory::StepClock;
 pub use link_memory::MemLink;
 pub use links::{Link, Received, SendFault};
+pub use listen_memory::MemListen;
+pub use listens::{Accepted, Clock, Listen};
 pub use memory::{MemSink, MemSource};
 pub use port::{Failed, Sink, Source};
 pub use stream::{StdSink, StdSource};

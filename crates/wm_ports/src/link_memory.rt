@@ -6,7 +6,7 @@ ghost use Rattle.wm_ports.specs.Memory.{is_listed, next};
 ghost use Rattle.wm_ports.specs.declared.links.SendFault.TheVariants as faults;
 
 use crate::links::{Link, Received, SendFault};
-use std::alloc::Global;
+use std::alloc::{AllocError, Global};
 use std::marker::Model;
 use wm_base::NoMemory;
 
@@ -84,6 +84,31 @@ impl MemLink {
         ensures { result.now ≡ self.now.sent }
     {
         self.sent.as_slice()
+    }
+}
+
+impl Clone for MemLink {
+    ghost is_clone = { λ link copy. copy ≡ link };
+
+    /// A copy, with as much room.
+    fn clone(&self) -> Result<MemLink, AllocError> {
+        let alloc = *self.bytes.allocator();
+        let bytes = Vec::from_slice(alloc, self.bytes.as_slice())?;
+        let mut sent = Vec::with_capacity(alloc, self.room)?;
+        sent.extend_from_slice(self.sent.as_slice())?;
+        let fails = Vec::from_slice(alloc, self.fails.as_slice())?;
+        let quiet = Vec::from_slice(alloc, self.quiet.as_slice())?;
+        Ok(MemLink {
+            bytes,
+            sent,
+            fails,
+            quiet,
+            at: self.at,
+            room: self.room,
+            calls: self.calls,
+            turns: self.turns,
+            faults: self.faults,
+        })
     }
 }
 
