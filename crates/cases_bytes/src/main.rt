@@ -1,11 +1,12 @@
-//! The program cases_bytes: frames, replies, views, kept events, texts, rectangles, sources and sinks, pictures and maps, from
-//! files of such cases.
+//! The program cases_bytes: frames, replies, views, kept events, texts, rectangles, sources and sinks, links,
+//! listeners and clocks, pictures and maps, from files of such cases.
 #![tactic(auto)]
 
 mod fields;
 mod frames;
 mod kept;
 mod limits;
+mod links;
 mod lists;
 mod maps;
 mod memory;
@@ -128,6 +129,16 @@ fn tell_port(word: &str, words: &mut Words<'_>, out: &mut String) -> Result<(), 
         "whole" => whole::tell_whole(words, out),
         "reader" => streams::tell_reader(words, out),
         "writer" => streams::tell_writer(words, out),
+        _ => tell_link(word, words, out),
+    }
+}
+
+/// The same, of links, listeners and clocks.
+fn tell_link(word: &str, words: &mut Words<'_>, out: &mut String) -> Result<(), Fault> {
+    match word {
+        "link" => links::tell_link(words, out),
+        "listen" => links::tell_listen(words, out),
+        "clock" => links::tell_clock(words, out),
         _ => Err(Fault::BadLine),
     }
 }
