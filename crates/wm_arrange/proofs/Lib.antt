@@ -1,11 +1,14 @@
 pub mod AbsentLemmas
 pub mod BareLemmas
+pub mod ChoiceLemmas
 pub mod CoverLemmas
 pub mod CoverTreeLemmas
 pub mod CutLemmas
 pub mod FillLemmas
 pub mod LeafLemmas
 pub mod LotLemmas
+pub mod MapLemmas
+pub mod NearLemmas
 pub mod RowLemmas
 pub mod SameLemmas
 pub mod ShareLemmas

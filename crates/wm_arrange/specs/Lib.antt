@@ -2,6 +2,7 @@ pub mod AreaOf
 pub mod Areas
 pub mod Arranged
 pub mod Borders
+pub mod Choices
 pub mod Cover
 pub mod CoverTree
 pub mod Gaps

@@ -4,23 +4,27 @@ ghost use Rattle.wm_arrange.specs.Areas.{edges_of, some_area, IsArea, IsFitMargi
 ghost use Rattle.wm_base.specs.declared.geometry.Rect.{Rect};
 ghost use Rattle.wm_base.specs.declared.ids.ConId.{ConId};
 ghost use Rattle.wm_base.specs.Rect.{inset};
-ghost use Rattle.wm_arrange.specs.Arranged.{arranged, first_space, fullscreen_in, is_fullscreen, is_window_kind, on_space, or_else, tiled_parts};
+ghost use Rattle.wm_arrange.specs.Arranged.{arranged, first_space, fullscreen_in, is_fullscreen, is_window_kind, on_space, or_else, output_parts, outputs_parts, tiled_parts};
+ghost use Rattle.wm_arrange.specs.Choices.{value_at, KnowsFirst, KnowsNode, KnowsOutputs};
 ghost use Rattle.wm_arrange.specs.CoverTree.{inner_at, tiled_at, IsOfSplits, LeavesCover};
 ghost use Rattle.wm_arrange.specs.Gaps.{ground};
 ghost use Rattle.wm_arrange.specs.Scene.{seen};
 ghost use Rattle.wm_arrange.specs.Slots.{IsFloatRow, IsTiledRow};
 ghost use Rattle.wm_forest.specs.Counts.{row_length};
-ghost use Rattle.wm_forest.specs.Look.{first_floats, first_kids, node_in};
-ghost use Rattle.wm_forest.specs.SoundRow.{IsOutputRect, IsSoundRow, spaces};
+ghost use Rattle.wm_forest.specs.Look.{first_floats, first_kids, first_part, kind_by, output_kind};
+ghost use Rattle.wm_forest.specs.SoundRow.{outputs, spaces, IsOutputRect, IsSoundRow};
 ghost use Rattle.wm_tree.specs.Sound.{IsSound};
 
 use crate::areas::{Margins, trim};
 use crate::children::{place_floats, place_kids};
+use crate::choosing::choices;
 use crate::parts::{Arrangement, Placed, PlacedPart};
 use crate::placing::place;
+use crate::rows::row_from;
 use crate::scene::Scene;
 use std::alloc::Global;
 use wm_base::{ConId, Edges, List, NoMemory, Rect};
+use wm_ids::IdMap;
 use wm_tree::{ConKind, Cursor, NodeKind, OutputPart, SpacePart, Tree};
 
 /// The arrangement of a tree. With no inner gap, the areas of the windows and placeholders below a tiled container or
@@ -33,32 +37,57 @@ pub fn arrange(alloc: Global, tree: &Tree) -> Result<Arrangement, NoMemory>
         IfOk result (λ arrangement. LeavesCover (tiled_at c (first_kids tree.now.nodes)) c arrangement.parts) }
 {
     let focused = tree.focused();
+    let chosen = choices(alloc, tree)?;
     let mut parts = Vec::new(alloc);
-    let mut row = tree.nodes().kids();
-    while let Some(part) = row.part() {
-        if let NodeKind::Output(output) = &part.kind {
-            let space = row_from(row.kids(), output.shown);
-            place_space(&mut parts, alloc, tree, focused, output, &space)?;
-        }
-        row = row.rest();
-    }
+    let row = tree.nodes().kids();
+    place_outputs(&mut parts, alloc, tree, focused, &chosen, row)?;
     Ok(Arrangement {
         parts: List::of(parts),
     })
 }
 
-/// The row from the node on. It is at its end where the node is not in the row.
-fn row_from<'a>(row: Cursor<'a>, id: ConId) -> Cursor<'a>
-    ensures { result ≡ node_in id row.entry }
+/// Places the workspaces that a row of outputs shows, in order.
+fn place_outputs(
+    parts: &mut Vec<Placed>,
+    alloc: Global,
+    tree: &Tree,
+    focused: ConId,
+    chosen: &IdMap<ConId>,
+    row: Cursor<'_>,
+) -> Result<(), NoMemory>
+    requires sound { IsSoundRow outputs true 32 row }
+    requires known { KnowsOutputs (value_at chosen.now) tree.now.recency row }
+    ensures { OnOk result (parts.new.items ≡ parts.old.items ++ outputs_parts tree.now focused row.entry) }
 {
     let mut left = row;
-    while let Some(part) = left.part() {
-        if part.id == id {
-            return left;
-        }
+    while let Some(_) = left.part() {
+        place_output(parts, alloc, tree, focused, chosen, &left)?;
         left = left.rest();
     }
-    left
+    Ok(())
+}
+
+/// Places the workspace that the first output of the row shows.
+fn place_output(
+    parts: &mut Vec<Placed>,
+    alloc: Global,
+    tree: &Tree,
+    focused: ConId,
+    chosen: &IdMap<ConId>,
+    row: &Cursor<'_>,
+) -> Result<(), NoMemory>
+    requires sound { IsSoundRow outputs true 32 row.now }
+    requires known { KnowsOutputs (value_at chosen.now) tree.now.recency row.now }
+    ensures { OnOk result (parts.new.items ≡ parts.old.items ++ output_parts tree.now focused (kind_by output_kind (first_part row.now)) (first_kids row.now)) }
+{
+    let Some(part) = row.part() else {
+        return Ok(());
+    };
+    let NodeKind::Output(output) = &part.kind else {
+        return Ok(());
+    };
+    let space = row_from(row.kids(), output.shown);
+    place_space(parts, alloc, tree, focused, chosen, output, &space)
 }
 
 /// Places the first workspace of the row, which the output shows.
@@ -67,10 +96,12 @@ fn place_space(
     alloc: Global,
     tree: &Tree,
     focused: ConId,
+    chosen: &IdMap<ConId>,
     output: &OutputPart,
     row: &Cursor<'_>,
 ) -> Result<(), NoMemory>
     requires sound { IsSoundRow spaces true 32 row.now }
+    requires known { KnowsFirst (value_at chosen.now) tree.now.recency row.now }
     requires placed { IsOutputRect output.now.rect }
     ensures { OnOk result (parts.new.items ≡ parts.old.items ++ first_space tree.now focused output.now row.now) }
 {
@@ -85,6 +116,7 @@ fn place_space(
         alloc,
         tree,
         focused,
+        chosen,
         inner: space.inner,
     };
     place_on_space(parts, &scene, output, part.id, space, row)
@@ -102,6 +134,7 @@ fn place_on_space(
 ) -> Result<(), NoMemory>
     requires few { row_length (first_kids row.now) ≤ 256 }
     requires sound { IsTiledRow (first_kids row.now) }
+    requires known { KnowsNode (value_at scene.now.chosen.now) scene.now.tree.now.recency id space.now.layout (first_kids row.now) }
     requires floats { IsFloatRow (first_floats row.now) }
     requires placed { IsOutputRect output.now.rect }
     ensures { OnOk result (parts.new.items ≡ parts.old.items ++
@@ -128,6 +161,7 @@ fn place_tiled(
 ) -> Result<(), NoMemory>
     requires few { row_length kids.now ≤ 256 }
     requires sound { IsTiledRow kids.now }
+    requires known { KnowsNode (value_at scene.now.chosen.now) scene.now.tree.now.recency id space.now.layout kids.now }
     requires area { IfSome ground (λ area. IsArea area) }
     ensures { OnOk result (parts.new.items ≡ parts.old.items ++ tiled_parts (seen scene.now) id space.now kids.now ground) }
 {
@@ -135,7 +169,7 @@ fn place_tiled(
         return Ok(());
     };
     place(parts, id, PlacedPart::Area, area)?;
-    place_kids(parts, scene, space.layout, area, kids)
+    place_kids(parts, scene, id, space.layout, area, kids)
 }
 
 /// The area of a workspace: the output's rectangle without the reserved edges, then without the outer and the inner

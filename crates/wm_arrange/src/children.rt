@@ -2,6 +2,7 @@
 ghost use Rattle.std.specs.Prelude.{◌≡◌, ◌+◌, ◌≤◌, ◌++◌, [], true, IfSome, OnOk, option_and_then};
 ghost use Rattle.wm_arrange.specs.Areas.{edges_of, near_area, IsArea, IsFitMargins};
 ghost use Rattle.wm_arrange.specs.Arranged.{floats_parts, kids_parts, rect_of, row_parts, shown_parts, standing};
+ghost use Rattle.wm_arrange.specs.Choices.{row_layout, value_at, KnowsNode, KnowsRow};
 ghost use Rattle.wm_arrange.specs.Gaps.{gap_after, gap_before, gaps, is_last};
 ghost use Rattle.wm_arrange.specs.Scene.{seen};
 ghost use Rattle.wm_arrange.specs.Slots.{own_in, parts_from, slot_between, HasSlots, IsFloatRow, IsTiledRow};
@@ -116,9 +117,10 @@ fn is_id(id: ConId, chosen: Option<ConId>) -> bool
 }
 
 /// How the children of a container with this layout stand in its area.
-fn standing(scene: &Scene<'_>, layout: Layout, area: Rect, kids: &Cursor<'_>) -> Slots
+fn standing(scene: &Scene<'_>, id: ConId, layout: Layout, area: Rect, kids: &Cursor<'_>) -> Slots
     requires few { row_length kids.now ≤ 256 }
     requires sound { IsTiledRow kids.now }
+    requires known { KnowsNode (value_at scene.now.chosen.now) scene.now.tree.now.recency id layout kids.now }
     requires area { IsArea area }
     ensures parts { parts_from (seen scene.now) result true 0 kids.now ≡ row_parts (seen scene.now) (standing scene.now.tree.now.recency layout area kids.now) 0 kids.now }
     ensures fit { HasSlots result (share_sum kids.now) }
@@ -138,11 +140,11 @@ fn standing(scene: &Scene<'_>, layout: Layout, area: Rect, kids: &Cursor<'_>) ->
         },
         Layout::Tabbed => Slots::Alone {
             area: below(TITLE_HEIGHT, area),
-            chosen: scene.tree.focused_in(kids),
+            chosen: scene.chosen.get(id.0).copied(),
         },
         Layout::Stacked => Slots::Alone {
             area: below(TITLE_HEIGHT * count(kids), area),
-            chosen: scene.tree.focused_in(kids),
+            chosen: scene.chosen.get(id.0).copied(),
         },
     }
 }
@@ -152,17 +154,19 @@ fn standing(scene: &Scene<'_>, layout: Layout, area: Rect, kids: &Cursor<'_>) ->
 pub fn place_kids(
     parts: &mut Vec<Placed>,
     scene: &Scene<'_>,
+    id: ConId,
     layout: Layout,
     area: Rect,
     kids: &Cursor<'_>,
 ) -> Result<(), NoMemory>
     requires few { row_length kids.now ≤ 256 }
     requires sound { IsTiledRow kids.now }
+    requires known { KnowsNode (value_at scene.now.chosen.now) scene.now.tree.now.recency id layout kids.now }
     requires area { IsArea area }
     ensures { OnOk result (parts.new.items ≡ parts.old.items ++ kids_parts (seen scene.now) kids.now area layout) }
 {
     place_kids_titles(parts, scene, layout, area, kids)?;
-    let slots = standing(scene, layout, area, kids);
+    let slots = standing(scene, id, layout, area, kids);
     place_row(parts, scene, slots, true, 0, kids)
 }
 
@@ -178,6 +182,7 @@ fn place_row(
 ) -> Result<(), NoMemory>
     requires few { before + share_sum row.now ≤ 268435456 }
     requires sound { IsTiledRow row.now }
+    requires known { KnowsRow (value_at scene.now.chosen.now) scene.now.tree.now.recency row.now }
     requires fit { HasSlots slots (before + share_sum row.now) }
     ensures { OnOk result (parts.new.items ≡ parts.old.items ++ parts_from (seen scene.now) slots first before row.now) }
 {
@@ -215,6 +220,7 @@ fn place_child(
 ) -> Result<(), NoMemory>
     requires few { row_length kids.now ≤ 256 }
     requires sound { IsTiledRow kids.now }
+    requires known { KnowsNode (value_at scene.now.chosen.now) scene.now.tree.now.recency part.now.id (row_layout part.now.kind) kids.now }
     requires area { IfSome slot (λ area. IsArea area) }
     ensures { OnOk result (parts.new.items ≡ parts.old.items ++
         shown_parts (seen scene.now) own part.now kids.now (kids_parts (seen scene.now) kids.now) slot) }
@@ -228,7 +234,7 @@ fn place_child(
     };
     let border = con.state.border;
     match con.kind {
-        ConKind::Split { layout, .. } => place_kids(parts, scene, layout, area, kids),
+        ConKind::Split { layout, .. } => place_kids(parts, scene, part.id, layout, area, kids),
         ConKind::Window { .. } => place_window(parts, scene, own, part, kids, border, area),
         ConKind::Placeholder { .. } => place_own_title(parts, scene, own, part, kids, border, area),
     }

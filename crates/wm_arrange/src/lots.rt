@@ -80,7 +80,7 @@ pub fn layout_of(kind: &NodeKind) -> Layout
     }
 }
 
-fn con_layout(kind: &ConKind) -> Layout
+pub fn con_layout(kind: &ConKind) -> Layout
     ensures { result ≡ con_layout kind.now }
 {
     match kind {

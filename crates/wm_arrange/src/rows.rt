@@ -1,7 +1,9 @@
 //! Rows of nodes.
 ghost use Rattle.std.specs.Prelude.{◌≡◌, ◌≤◌};
 ghost use Rattle.wm_forest.specs.Counts.{row_length};
+ghost use Rattle.wm_forest.specs.Look.{node_in};
 
+use wm_base::ConId;
 use wm_tree::Cursor;
 
 /// How many nodes a row has.
@@ -13,4 +15,18 @@ pub fn count(row: &Cursor<'_>) -> u32
         None => 0,
         Some(_) => 1 + count(&row.rest()),
     }
+}
+
+/// The row from the node on. It is at its end where the node is not in the row.
+pub fn row_from<'a>(row: Cursor<'a>, id: ConId) -> Cursor<'a>
+    ensures { result ≡ node_in id row.entry }
+{
+    let mut left = row;
+    while let Some(part) = left.part() {
+        if part.id == id {
+            return left;
+        }
+        left = left.rest();
+    }
+    left
 }

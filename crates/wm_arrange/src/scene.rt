@@ -4,6 +4,7 @@ ghost use Rattle.wm_arrange.specs.Scene.{ink, is_among, seen};
 
 use std::alloc::Global;
 use wm_base::{ConId, Ink};
+use wm_ids::IdMap;
 use wm_tree::Tree;
 
 const FOCUSED: Ink = Ink(0x4c_7899);
@@ -12,12 +13,14 @@ const URGENT: Ink = Ink(0x90_0000);
 
 const PLAIN: Ink = Ink(0x33_3333);
 
-/// A tree with its focused node, and the inner gap of one of its workspaces in pixels.
+/// A tree with its focused node, the child that each tabbed or stacked container shows, by the id of the container, and
+/// the inner gap of one of its workspaces in pixels.
 #[derive(Drop)]
 pub struct Scene<'a> {
     pub alloc: Global,
     pub tree: &'a Tree,
     pub focused: ConId,
+    pub chosen: &'a IdMap<ConId>,
     pub inner: u32,
 }
 

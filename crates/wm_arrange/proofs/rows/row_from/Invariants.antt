@@ -1,7 +1,7 @@
 use Rattle.std.proofs.Common.{◌≡◌}
 use Rattle.wm_forest.specs.Forest.{node_count}
 use Rattle.wm_forest.specs.Look.{node_in}
-use Rattle.wm_arrange.proofs.arranging.row_from.Given as goal
+use Rattle.wm_arrange.proofs.rows.row_from.Given as goal
 
 -- the node in what is left of the row is the node in the row
 abbrev pub invariant-loop-part : goal.invariant-loop-part

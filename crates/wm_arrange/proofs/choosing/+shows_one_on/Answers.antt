@@ -1,0 +1,12 @@
+use Rattle.std.proofs.Common.{◌∙◌, ap, subst, sym}
+use Rattle.std.specs.Option.{option_copied}
+use Rattle.wm_forest.specs.Look.{output_kind}
+use Rattle.wm_arrange.specs.Choices.{KnowsOutput, KnowsOutputs}
+use Rattle.wm_arrange.proofs.ChoiceLemmas.{free_outputs}
+use Rattle.wm_arrange.proofs.choosing.+shows_one_on.Goals as goal
+
+pub returns : goal.returns
+returns t c = λ known ids none.
+    free_outputs ids known c.args.row.now c.in-Some.part.now (sym c.part.ensures ∙ ap option_copied c.in-Some.is)
+    (subst (KnowsOutput known ids (output_kind c.in-Some.part.now.kind)) c.kids.ensures (c.shows_one_under.ensures known ids c.if-shows_one_under.false))
+    (subst (KnowsOutputs known ids) c.rest.ensures (c.shows_one_on.ensures known ids none))
