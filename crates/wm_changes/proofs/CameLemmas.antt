@@ -1,14 +1,12 @@
 -- The windows and workspaces that are told to be new or gone.
-use Rattle.std.proofs.Common.{◌≡◌, ℕ, Bool, true, false, cond, not, List, [], ◌∷◌, ◌++◌, Option, Some, None, is_some, option_map, map, filter, codes, append-nil, refl, ap, ap₂, sym, ◌∙◌}
+use Rattle.std.proofs.Common.{◌≡◌, ℕ, Bool, true, false, cond, not, List, [], ◌∷◌, ◌++◌, Option, Some, None, is_some, option_map, map, filter, codes, append-nil, refl, ap, ap₂, ◌∙◌}
 use Rattle.std.proofs.lemmas.Grind.{flat_map-append}
 use Rattle.std.specs.List.{AllByRecursion, flat_map}
 use Rattle.std.specs.Map.{values_of}
-use Rattle.std.specs.Str.{bytes_eq}
 use Rattle.wm_arrange.specs.declared.parts.Placed.{Placed}
-use Rattle.wm_base.specs.declared.ids.ConId.{ConId}
 use Rattle.wm_changes.specs.declared.words.Change.{Change}
 use Rattle.wm_changes.specs.declared.words.Change.TheVariants.{Close, Empty, Focus}
-use Rattle.wm_changes.specs.Changes.{above, changes, close_line, empty_line, focus_event, focus_events, focus_of, gone_events, output_events, space_event, space_focus, space_line, space_view, told, window_event, window_focus, window_line, window_view}
+use Rattle.wm_changes.specs.Changes.{above, changes, close_line, empty_line, focus_event, focus_of, output_events, space_event, space_focus, space_line, space_view, told, window_event, window_focus, window_line, window_view}
 use Rattle.wm_changes.specs.Differences.{Word, change_text, differences, space_words, window_words}
 use Rattle.wm_changes.specs.Facts.{SpaceFact, WindowFact, spaces, windows}
 use Rattle.wm_changes.specs.Laws.{other_spaces, other_windows, space_told, spaces_told, window_told, windows_told}

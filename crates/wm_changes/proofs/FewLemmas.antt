@@ -1,5 +1,5 @@
 -- How many events are told at most.
-use Rattle.std.proofs.Common.{◌≡◌, ◌≤◌, ℕ, suc, ◌+◌, ◌*◌, Bool, true, false, cond, not, List, [], ◌∷◌, ◌++◌, Option, Some, None, option_map, length, length-append, refl, arith}
+use Rattle.std.proofs.Common.{◌≡◌, ◌≤◌, ℕ, suc, ◌+◌, ◌*◌, Bool, true, false, cond, not, List, [], ◌∷◌, Option, Some, None, option_map, length, length-append, arith}
 use Rattle.std.specs.List.{flat_map}
 use Rattle.std.specs.Map.{values_of}
 use Rattle.wm_arrange.specs.declared.parts.Placed.{Placed}
@@ -7,8 +7,8 @@ use Rattle.wm_base.specs.declared.ids.ConId.{ConId}
 use Rattle.wm_changes.specs.declared.standing.Standing.{Standing}
 use Rattle.wm_changes.specs.declared.words.Change.{Change}
 use Rattle.wm_changes.specs.declared.words.Change.TheVariants.{Close, Empty}
-use Rattle.wm_changes.specs.Changes.{changes, close_line, empty_line, focus_event, focus_events, focus_of, gone_events, output_events, space_event, space_focus, space_line, space_view, told, window_event, window_focus, window_line, window_view}
-use Rattle.wm_changes.specs.Differences.{Word, differences, space_words, window_words}
+use Rattle.wm_changes.specs.Changes.{changes, close_line, empty_line, focus_event, focus_of, output_events, space_event, space_focus, space_line, space_view, told, window_event, window_focus, window_line, window_view}
+use Rattle.wm_changes.specs.Differences.{Word, space_words, window_words}
 use Rattle.wm_changes.specs.Facts.{SpaceFact, WindowFact, float_standing, kid_standing, put_spaces, put_windows, space_here, spaces, spaces_in, spaces_of, spaces_on, top, window_by, window_here, windows, windows_in}
 use Rattle.wm_changes.specs.OutputChanges.{outputs_differ}
 use Rattle.wm_changes.proofs.EntryLemmas.{length_insert}

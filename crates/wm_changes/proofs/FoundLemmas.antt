@@ -1,9 +1,9 @@
 -- What is found of a window is what looking for its id gives.
-use Rattle.std.proofs.Common.{◌≡◌, ◌≤◌, ◌<◌, ℕ, suc, ◌+◌, ◌==◌, Bool, true, false, cond, not, List, [], ◌∷◌, ◌++◌, Option, Some, None, refl, ap, sym, ◌∙◌, arith}
+use Rattle.std.proofs.Common.{◌≡◌, ◌≤◌, ℕ, suc, Bool, true, false, cond, not, List, [], ◌∷◌, ◌++◌, Option, Some, None, refl, ap, sym, ◌∙◌, arith}
 use Rattle.std.specs.Option.{option_or}
 use Rattle.wm_base.specs.declared.ids.ConId.{ConId}
 use Rattle.wm_changes.specs.declared.standing.Standing.{Standing}
-use Rattle.wm_changes.specs.FactLaws.{IsFound, StandsAt, StandsThere, is_window, is_window_kind}
+use Rattle.wm_changes.specs.FactLaws.{IsFound, StandsAt, is_window_kind}
 use Rattle.wm_changes.specs.Facts.{WindowFact, float_standing, kid_standing, put_windows, top, window_by, window_here, windows, windows_in}
 use Rattle.wm_forest.proofs.CountLemmas.{counted, tally-absent}
 use Rattle.wm_forest.specs.declared.part.ConKind.{ConKind}

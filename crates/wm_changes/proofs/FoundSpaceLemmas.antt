@@ -1,8 +1,8 @@
 -- What is found of a workspace is what looking for its id gives.
-use Rattle.std.proofs.Common.{◌≡◌, ◌≤◌, ◌<◌, ℕ, suc, ◌+◌, ◌==◌, Bool, true, false, cond, not, List, [], ◌∷◌, ◌++◌, Option, Some, None, refl, ap, sym, ◌∙◌, arith}
+use Rattle.std.proofs.Common.{◌≡◌, ◌≤◌, ℕ, Bool, true, false, cond, List, [], ◌∷◌, ◌++◌, Option, Some, None, refl, ap, ◌∙◌, arith}
 use Rattle.std.specs.Option.{option_or}
 use Rattle.wm_base.specs.declared.ids.ConId.{ConId}
-use Rattle.wm_changes.specs.FactLaws.{HeldBy, IsFoundSpace}
+use Rattle.wm_changes.specs.FactLaws.{IsFoundSpace}
 use Rattle.wm_changes.specs.Facts.{SpaceFact, put_spaces, space_here, spaces, spaces_in, spaces_of, spaces_on}
 use Rattle.wm_changes.proofs.FoundLemmas.{own_one, zero_other}
 use Rattle.wm_forest.proofs.CountLemmas.{counted, tally-absent}

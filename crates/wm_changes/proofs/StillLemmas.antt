@@ -1,13 +1,13 @@
 -- A tree that is as it was tells nothing.
-use Rattle.std.proofs.Common.{◌≡◌, ℕ, ◌==◌, Bool, true, false, cond, not, ◌&&◌, ◌||◌, List, [], ◌∷◌, ◌++◌, Option, Some, None, is_some, refl, ap, sym, ◌∙◌, arith}
-use Rattle.std.proofs.lemmas.Bool.Decides.{nat_tests, Decides-eqb, Decides-int_eq}
-use Rattle.std.proofs.lemmas.Slice.Eq.{bytes_eq-Decides, slice_eq-Decides}
+use Rattle.std.proofs.Common.{◌≡◌, ℕ, ◌==◌, Bool, true, false, not, ◌&&◌, ◌||◌, List, [], ◌∷◌, Option, Some, None, is_some, refl, ap, sym, ◌∙◌}
+use Rattle.std.proofs.lemmas.Bool.Decides.{Decides-eqb, Decides-int_eq}
+use Rattle.std.proofs.lemmas.Slice.Eq.{bytes_eq-Decides}
 use Rattle.std.specs.BTreeMap.{is_at}
 use Rattle.std.specs.Cmp.Lexicographic.{pointwise}
 use Rattle.std.specs.List.{flat_map}
 use Rattle.std.specs.List.Sorted.{IsStrictlySortedBy}
 use Rattle.std.specs.Map.{keys_of, lookup, values_of}
-use Rattle.std.specs.Ordering.{nat_cmp, int_eq}
+use Rattle.std.specs.Ordering.{nat_cmp}
 use Rattle.std.specs.Str.{bytes_eq}
 use Rattle.wm_arrange.specs.declared.parts.Placed.{Placed}
 use Rattle.wm_arrange.specs.Same.{same_rect}
@@ -17,13 +17,13 @@ use Rattle.wm_base.specs.declared.ids.ConId.{ConId}
 use Rattle.wm_changes.specs.declared.words.Change.{Change}
 use Rattle.wm_changes.specs.declared.words.Change.TheVariants.{Close, Empty}
 use Rattle.wm_changes.specs.Changes.{changes, close_line, empty_line, focus_events, space_line, told, window_line}
-use Rattle.wm_changes.specs.Differences.{Word, differences, same_flag, same_id, space_words, title, window_words}
+use Rattle.wm_changes.specs.Differences.{differences, same_flag, same_id, space_words, title, window_words}
 use Rattle.wm_changes.specs.Facts.{SpaceFact, WindowFact, put_spaces, put_windows, spaces, spaces_in, top, windows, windows_in}
 use Rattle.wm_changes.specs.OutputChanges.{are_kept, has_output, is_kept, is_output, outputs_differ, same_edges}
 use Rattle.wm_changes.proofs.EntryLemmas.{Found, Keyed, found_all, keyed_insert, sorted_insert}
 use Rattle.wm_forest.specs.declared.part.OutputPart.{OutputPart}
 use Rattle.wm_forest.specs.Forest.{Forest, end, con}
-use Rattle.wm_forest.specs.Look.{first_kids, output_kind, same}
+use Rattle.wm_forest.specs.Look.{first_kids, output_kind}
 use Rattle.wm_forest.specs.Recency.{lists}
 use Rattle.wm_json.specs.declared.views.EventBody.{EventBody}
 use Rattle.wm_tree.specs.TreeValue.{TreeValue, focused, shown}

@@ -11,7 +11,7 @@ use Rattle.wm_forest.specs.declared.spot.Spot.{Spot}
 use Rattle.wm_forest.specs.Look.{con_kind, kind_of, space_kind}
 use Rattle.wm_tree.specs.Sound.{IsSound}
 use Rattle.wm_tree.specs.TreeValue.{TreeValue, spot}
-use Rattle.wm_views.specs.Maps.{holds, value_at}
+use Rattle.wm_views.specs.Maps.{value_at}
 
 -- ---- windows
 

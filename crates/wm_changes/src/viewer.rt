@@ -1,6 +1,7 @@
-//! The views of the windows and workspaces of a tree, over maps that are made at the first view.
+//! The views of the windows and workspaces of a tree, over maps where more than a few are made.
 ghost use Rattle.std.specs.Prelude.{◌≡◌, IfOk};
 ghost use Rattle.wm_changes.specs.Changes.{above, holder_area, space_view, window_view};
+ghost use Rattle.wm_changes.specs.Shot.{IsOf};
 ghost use Rattle.wm_views.specs.Sight.{IsSight};
 
 use crate::spaces::Site;
@@ -23,12 +24,16 @@ const NOWHERE: Rect = Rect {
     h: 0,
 };
 
-/// A tree with its arrangement, and the maps of views once a view was made.
+/// So many views are made without maps.
+const FEW: u32 = 8;
+
+/// A tree with its arrangement, what views look up once a view was made, and how many were made.
 #[derive(Drop)]
 pub struct Viewer<'a> {
     tree: &'a Tree,
     arrangement: &'a Arrangement,
     sight: Option<Sight<'a>>,
+    views: u32,
 }
 
 impl<'a> Model for Viewer<'a> {
@@ -53,6 +58,7 @@ impl<'a> Viewer<'a> {
             tree,
             arrangement,
             sight: None,
+            views: 0,
         }
     }
 
@@ -61,15 +67,10 @@ impl<'a> Viewer<'a> {
         ensures view { IfOk result (λ view. view ≡ window_view self.old.tree self.old.parts window.now) }
         ensures same { self.new ≡ self.old }
     {
-        match &self.sight {
-            Some(sight) => window_view(alloc, sight, window),
-            None => {
-                let sight = Sight::new(alloc, self.tree, self.arrangement)?;
-                let view = window_view(alloc, &sight, window);
-                drop(mem::replace(&mut self.sight, Some(sight)));
-                view
-            }
-        }
+        let sight = self.take_sight(alloc)?;
+        let view = window_view(alloc, &sight, window);
+        drop(mem::replace(&mut self.sight, Some(sight)));
+        view
     }
 
     /// A workspace as events show it.
@@ -77,14 +78,35 @@ impl<'a> Viewer<'a> {
         ensures view { IfOk result (λ view. view ≡ space_view self.old.tree self.old.parts site.now) }
         ensures same { self.new ≡ self.old }
     {
-        match &self.sight {
-            Some(sight) => space_view(alloc, sight, site),
-            None => {
-                let sight = Sight::new(alloc, self.tree, self.arrangement)?;
-                let view = space_view(alloc, &sight, site);
-                drop(mem::replace(&mut self.sight, Some(sight)));
-                view
+        let sight = self.take_sight(alloc)?;
+        let view = space_view(alloc, &sight, site);
+        drop(mem::replace(&mut self.sight, Some(sight)));
+        view
+    }
+
+    /// Takes out what views look up, for one view more.
+    fn take_sight(&mut self, alloc: Global) -> Result<Sight<'a>, NoMemory>
+        ensures sight { IfOk result (λ sight. IsOf self.old.tree self.old.parts sight) }
+        ensures same { self.new ≡ self.old }
+    {
+        self.views = self.views.saturating_add(1);
+        match mem::replace(&mut self.sight, None) {
+            Some(sight) if self.views != FEW + 1 => Ok(sight),
+            kept => {
+                drop(kept);
+                self.new_sight(alloc)
             }
+        }
+    }
+
+    /// What views look up: in maps, where more than a few are made.
+    fn new_sight(&self, alloc: Global) -> Result<Sight<'a>, NoMemory>
+        ensures { IfOk result (λ sight. IsOf self.now.tree self.now.parts sight) }
+    {
+        if self.views > FEW {
+            Sight::new(alloc, self.tree, self.arrangement)
+        } else {
+            Sight::plain(alloc, self.tree, self.arrangement)
         }
     }
 }

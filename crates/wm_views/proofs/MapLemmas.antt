@@ -9,11 +9,15 @@ use Rattle.std.specs.Option.{option_or}
 use Rattle.std.specs.Ordering.{nat_cmp, is_eq, match_ordering}
 use Rattle.std.specs.declared.cmp.Ordering.{Ordering}
 use Rattle.std.specs.declared.cmp.Ordering.TheVariants.{Less, Equal, Greater}
+use Rattle.wm_arrange.specs.declared.parts.Placed.{Placed}
 use Rattle.wm_base.specs.declared.ids.ConId.{ConId}
 use Rattle.wm_ids.proofs.EntryLemmas.{test_same}
 use Rattle.wm_forest.specs.Look.{same}
 use Rattle.wm_forest.specs.Recency.{place_from}
-use Rattle.wm_views.specs.Maps.{value_at, holds}
+use Rattle.wm_views.specs.declared.maps.NodeRects.{NodeRects}
+use Rattle.wm_views.specs.declared.maps.Wanted.{Wanted}
+use Rattle.wm_views.specs.declared.maps.Wanted.TheVariants.{Areas, Contents, Titles}
+use Rattle.wm_views.specs.Maps.{holds, of_node, or_unplaced, rect_in, rect_kept, rect_of, value_at}
 
 both : {X : Type 0} (s : Bool) (w x : X) (y : Option X) → cond s (Some w) y ≡ cond s (Some w) (cond s (Some x) y)
 both true w x y = refl
@@ -95,6 +99,41 @@ no_value a c map none one = let alike : a.0 ≡ c.0 = eqb-true a.0 c.0 one in ap
 
 pub or_new : {X : Type 0} (a c : ConId) (w : X) (map : List (ℕ × X)) → value_at map a ≡ None → cond (same a c) (Some w) (value_at map c) ≡ option_or (value_at map c) (cond (same a c) (Some w) None)
 or_new a c w map none = none_step (same a c) w (value_at map c) (λ one. no_value a c map none one)
+
+-- ---- what a map keeps of the parts of a node
+
+node_own : {A : Type 0} (c id : ConId) (o : Option A) → same id c ≡ true → o ≡ of_node c id o
+node_own c id None one = refl
+node_own c id (Some x) one = rw (one) refl
+
+node_other : {A : Type 0} (c id : ConId) (o : Option A) → same id c ≡ false → None ≡ of_node c id o
+node_other c id None other = refl
+node_other c id (Some x) other = rw (other) refl
+
+kept_in : (w : Wanted) (o : Option NodeRects) → rect_in w (or_unplaced o) ≡ rect_kept w o
+kept_in Areas None = refl
+kept_in Titles None = refl
+kept_in Contents None = refl
+kept_in w (Some r) = refl
+
+with_rect : (w : Wanted) (r held : NodeRects) (p : Placed) → r.area ≡ option_or held.area (rect_of Areas p) → r.title ≡ option_or held.title (rect_of Titles p) → r.content ≡ option_or held.content (rect_of Contents p)
+    → rect_in w r ≡ option_or (rect_in w held) (rect_of w p)
+with_rect Areas r held p area title content = area
+with_rect Titles r held p area title content = title
+with_rect Contents r held p area title content = content
+
+-- where what was kept of a part's node is kept with that part, the map has what it had, or else the part's rectangle
+pub kept_more : (w : Wanted) (p : Placed) (c : ConId) (r : NodeRects) (map : List (ℕ × NodeRects))
+    → r.area ≡ option_or (or_unplaced (value_at map p.con)).area (rect_of Areas p) → r.title ≡ option_or (or_unplaced (value_at map p.con)).title (rect_of Titles p) → r.content ≡ option_or (or_unplaced (value_at map p.con)).content (rect_of Contents p)
+    → rect_kept w (cond (same p.con c) (Some r) (value_at map c)) ≡ option_or (rect_kept w (value_at map c)) (of_node c p.con (rect_of w p))
+kept_more w p c r map area title content = by_same (same p.con c) refl
+  where
+    by_same : (b : Bool) → same p.con c ≡ b → rect_kept w (cond b (Some r) (value_at map c)) ≡ option_or (rect_kept w (value_at map c)) (of_node c p.con (rect_of w p))
+    by_same true one =
+        let alike : p.con.0 ≡ c.0 = eqb-true p.con.0 c.0 one in
+        let there : rect_in w (or_unplaced (value_at map p.con)) ≡ rect_kept w (value_at map c) = kept_in w (value_at map p.con) ∙ ap (λ n. rect_kept w (lookup (is_at (nat_cmp n)) map)) alike in
+        with_rect w r (or_unplaced (value_at map p.con)) p area title content ∙ ap (λ o. option_or o (rect_of w p)) there ∙ ap (option_or (rect_kept w (value_at map c))) (node_own c p.con (rect_of w p) one)
+    by_same false other = or_none (rect_kept w (value_at map c)) ∙ ap (option_or (rect_kept w (value_at map c))) (node_other c p.con (rect_of w p) other)
 
 -- a place that is kept, or else a later one, is the first from there on
 pub place_step : (c id : ConId) (at : ℕ) (old : Option ℕ) (rest : List ConId) → option_or (option_or old (cond (same id c) (Some at) None)) (place_from (at + 1) c rest) ≡ option_or old (cond (same id c) (Some at) (place_from (at + 1) c rest))

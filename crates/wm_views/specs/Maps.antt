@@ -11,6 +11,7 @@ use Rattle.wm_arrange.specs.declared.parts.PlacedPart.TheVariants.{Area, Title, 
 use Rattle.wm_base.specs.declared.geometry.Rect.{Rect}
 use Rattle.wm_base.specs.declared.ids.ConId.{ConId}
 use Rattle.wm_forest.specs.Look.{same}
+use Rattle.wm_views.specs.declared.maps.NodeRects.{NodeRects}
 use Rattle.wm_views.specs.declared.maps.Wanted.{Wanted}
 use Rattle.wm_views.specs.declared.maps.Wanted.TheVariants as wanted
 
@@ -40,6 +41,22 @@ abbrev pub area : List Placed → ConId → Rect
 area parts c = or_nowhere (rect_at wanted.Areas c parts)
 
 -- ---- maps
+
+-- the rectangle of a node that is wanted
+abbrev pub rect_in : Wanted → NodeRects → Option Rect
+rect_in wanted.Areas r = r.area
+rect_in wanted.Titles r = r.title
+rect_in wanted.Contents r = r.content
+
+-- what was kept of a node; nothing of it is placed where nothing was kept
+abbrev pub or_unplaced : Option NodeRects → NodeRects
+or_unplaced None = record { area = None; title = None; content = None }
+or_unplaced (Some r) = r
+
+-- what was kept of a node has it
+abbrev pub rect_kept : Wanted → Option NodeRects → Option Rect
+rect_kept w None = None
+rect_kept w (Some r) = rect_in w r
 
 -- what a map has for c
 abbrev pub value_at : {A : Type 0} → List (ℕ × A) → ConId → Option A

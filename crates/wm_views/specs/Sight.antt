@@ -1,18 +1,22 @@
--- What a view looks up, in maps.
-use Rattle.std.specs.Prelude.{◌≡◌}
+-- What a view looks up, in maps or without.
+use Rattle.std.specs.Prelude.{◌≡◌, List, IfSome}
+use Rattle.wm_arrange.specs.declared.parts.Placed.{Placed}
 use Rattle.wm_base.specs.declared.ids.ConId.{ConId}
 use Rattle.wm_forest.specs.Recency.{lists, place_from}
 use Rattle.wm_tree.specs.TreeValue.{focused, shown}
+use Rattle.wm_views.specs.declared.maps.Wanted.{Wanted}
 use Rattle.wm_views.specs.declared.sight.Sight.{Sight}
-use Rattle.wm_views.specs.Maps.{holds, rect_at, value_at}
-use Rattle.wm_views.specs.declared.maps.Wanted.TheVariants as wanted
+use Rattle.wm_views.specs.declared.sight.SightMaps.{SightMaps}
+use Rattle.wm_views.specs.Maps.{holds, rect_at, rect_kept, value_at}
 
--- the focused node and workspace are the tree's, and the maps have the areas, titles and contents of the arrangement, the places in the list by recency, and the urgent windows of the tree
+-- the maps have the rectangles of the parts, and the places in the list by recency
+pub record AreMaps (parts : List Placed) (recency : List ConId) (m : SightMaps) : Type 0 where
+  pub rects : (w : Wanted) (c : ConId) → rect_kept w (value_at m.rects c) ≡ rect_at w c parts
+  pub places : (c : ConId) → value_at m.places c ≡ place_from 0 c recency
+
+-- the focused node, workspace and urgent windows are the tree's, and the maps, where there are any, have what is in the arrangement and in the tree
 pub record IsSight (s : Sight) : Type 0 where
   pub focus : s.focused ≡ focused s.tree.now
   pub shown_is : s.shown ≡ shown s.tree.now
-  pub areas : (c : ConId) → value_at s.rects.areas c ≡ rect_at wanted.Areas c s.arrangement.now.parts
-  pub titles : (c : ConId) → value_at s.rects.titles c ≡ rect_at wanted.Titles c s.arrangement.now.parts
-  pub contents : (c : ConId) → value_at s.rects.contents c ≡ rect_at wanted.Contents c s.arrangement.now.parts
   pub urgent : (c : ConId) → holds s.urgent c ≡ lists c s.tree.now.urgent
-  pub places : (c : ConId) → value_at s.places c ≡ place_from 0 c s.tree.now.recency
+  pub maps : IfSome s.maps (λ m. AreMaps s.arrangement.now.parts s.tree.now.recency m)

@@ -43,3 +43,19 @@ fn put_place(map: &mut IdMap<usize>, id: ConId, at: usize) -> Result<(), NoMemor
     map.insert(id.0, at)?;
     Ok(())
 }
+
+/// The place of an id in the list, looked for from the front.
+pub fn place_in(id: ConId, list: &[ConId]) -> Option<usize>
+    ensures { result ≡ place_from 0 id list.now }
+{
+    let mut at = 0;
+    let mut rest = list;
+    while let [first, after @ ..] = rest {
+        if *first == id {
+            return Some(at);
+        }
+        at += 1;
+        rest = after;
+    }
+    None
+}

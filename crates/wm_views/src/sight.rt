@@ -1,58 +1,62 @@
-//! A tree with its arrangement, and maps of what is looked up in them.
+//! A tree with its arrangement, and what is looked up in them by id.
 ghost use Rattle.std.specs.Prelude.{◌≡◌, IfOk};
 ghost use Rattle.wm_forest.specs.Recency.{lists};
 ghost use Rattle.wm_base.specs.declared.ids.ConId.{ConId};
-ghost use Rattle.wm_views.specs.Maps.{area, rect_at, value_at};
+ghost use Rattle.wm_views.specs.Maps.{area, rect_at, rect_kept, value_at};
 ghost use Rattle.wm_views.specs.declared.maps.Wanted.TheVariants.{Areas, Contents, Titles};
 ghost use Rattle.wm_views.specs.Recency.{place_of};
 ghost use Rattle.wm_views.specs.Sight.{IsSight};
 
-use crate::maps::{Wanted, ids, rects};
-use crate::places::places;
+use crate::maps::{NodeRects, Wanted, ids, rect_at, rects};
+use crate::places::{place_in, places};
 use std::alloc::Global;
-use wm_arrange::{Arrangement, Placed};
+use wm_arrange::Arrangement;
 use wm_base::{ConId, NoMemory, Rect};
 use wm_ids::IdMap;
 use wm_tree::Tree;
 
-/// The areas, titles and contents of an arrangement by id.
+/// The rectangles of an arrangement by id, and the places of ids in the list by recency.
 #[derive(Drop)]
-pub struct PlacedRects {
-    pub areas: IdMap<Rect>,
-    pub titles: IdMap<Rect>,
-    pub contents: IdMap<Rect>,
+pub struct SightMaps {
+    pub rects: IdMap<NodeRects>,
+    pub places: IdMap<usize>,
 }
 
-/// A tree with its arrangement, its focused node and workspace, the rectangles by id, the ids of the urgent windows, and the
-/// places in the list by recency.
+/// A tree with its arrangement, its focused node and workspace, and the ids of the urgent windows. What else is looked
+/// up by id is in maps, where there are any, and else looked for.
 #[derive(Drop)]
 pub struct Sight<'a> {
     pub tree: &'a Tree,
     pub arrangement: &'a Arrangement,
     pub focused: ConId,
     pub shown: ConId,
-    pub rects: PlacedRects,
     pub urgent: IdMap<()>,
-    pub places: IdMap<usize>,
-}
-
-fn placed_rects(alloc: Global, parts: &[Placed]) -> Result<PlacedRects, NoMemory>
-    ensures areas { IfOk result (λ rects. (c : ConId) → value_at rects.areas c ≡ rect_at Areas c parts.now) }
-    ensures titles { IfOk result (λ rects. (c : ConId) → value_at rects.titles c ≡ rect_at Titles c parts.now) }
-    ensures contents { IfOk result (λ rects. (c : ConId) → value_at rects.contents c ≡ rect_at Contents c parts.now) }
-{
-    let areas = rects(alloc, Wanted::Areas, parts)?;
-    let titles = rects(alloc, Wanted::Titles, parts)?;
-    let contents = rects(alloc, Wanted::Contents, parts)?;
-    Ok(PlacedRects {
-        areas,
-        titles,
-        contents,
-    })
+    pub maps: Option<SightMaps>,
 }
 
 impl<'a> Sight<'a> {
-    /// What is looked up in a tree and its arrangement.
+    /// A tree and its arrangement in which few ids are looked up: no maps are made.
+    pub fn plain(
+        alloc: Global,
+        tree: &'a Tree,
+        arrangement: &'a Arrangement,
+    ) -> Result<Sight<'a>, NoMemory>
+        ensures sight { IfOk result (λ sight. IsSight sight) }
+        ensures tree { IfOk result (λ sight. sight.tree.now ≡ tree.now) }
+        ensures parts { IfOk result (λ sight. sight.arrangement.now ≡ arrangement.now) }
+    {
+        let urgent = ids(alloc, tree.urgent_ids())?;
+        Ok(Sight {
+            tree,
+            arrangement,
+            focused: tree.focused(),
+            shown: tree.shown(),
+            urgent,
+            maps: None,
+        })
+    }
+
+    /// A tree and its arrangement in which many ids are looked up.
     pub fn new(
         alloc: Global,
         tree: &'a Tree,
@@ -62,18 +66,21 @@ impl<'a> Sight<'a> {
         ensures tree { IfOk result (λ sight. sight.tree.now ≡ tree.now) }
         ensures parts { IfOk result (λ sight. sight.arrangement.now ≡ arrangement.now) }
     {
-        let rects = placed_rects(alloc, arrangement.parts.items())?;
-        let urgent = ids(alloc, tree.urgent_ids())?;
+        let rects = rects(alloc, arrangement.parts.items())?;
         let places = places(alloc, tree.recent_ids())?;
-        Ok(Sight {
-            tree,
-            arrangement,
-            focused: tree.focused(),
-            shown: tree.shown(),
-            rects,
-            urgent,
-            places,
-        })
+        let mut sight = Sight::plain(alloc, tree, arrangement)?;
+        sight.maps = Some(SightMaps { rects, places });
+        Ok(sight)
+    }
+
+    fn rect(&self, wanted: Wanted, id: ConId) -> Option<Rect>
+        requires { IsSight self.now }
+        ensures { result ≡ rect_at wanted id self.now.arrangement.now.parts }
+    {
+        match &self.maps {
+            Some(maps) => kept_rect(maps, wanted, id),
+            None => rect_at(wanted, id, self.arrangement.parts.items()),
+        }
     }
 
     /// The area of a node, without pixels at 0,0 where it is not placed.
@@ -81,8 +88,8 @@ impl<'a> Sight<'a> {
         requires { IsSight self.now }
         ensures { result ≡ area self.now.arrangement.now.parts id }
     {
-        match self.rects.areas.get(id.0) {
-            Some(rect) => *rect,
+        match self.rect(Wanted::Areas, id) {
+            Some(rect) => rect,
             None => Rect {
                 x: 0,
                 y: 0,
@@ -105,9 +112,14 @@ impl<'a> Sight<'a> {
         requires { IsSight self.now }
         ensures { result ≡ place_of id self.now.tree.now.recency }
     {
-        match self.places.get(id.0) {
-            Some(place) => *place,
-            None => self.tree.recent_ids().len(),
+        let ids = self.tree.recent_ids();
+        let found = match &self.maps {
+            Some(maps) => maps.places.get(id.0).copied(),
+            None => place_in(id, ids),
+        };
+        match found {
+            Some(place) => place,
+            None => ids.len(),
         }
     }
 
@@ -116,7 +128,7 @@ impl<'a> Sight<'a> {
         requires { IsSight self.now }
         ensures { result ≡ rect_at Titles id self.now.arrangement.now.parts }
     {
-        self.rects.titles.get(id.0).copied()
+        self.rect(Wanted::Titles, id)
     }
 
     /// The content of a window, where it is placed.
@@ -124,6 +136,16 @@ impl<'a> Sight<'a> {
         requires { IsSight self.now }
         ensures { result ≡ rect_at Contents id self.now.arrangement.now.parts }
     {
-        self.rects.contents.get(id.0).copied()
+        self.rect(Wanted::Contents, id)
+    }
+}
+
+/// The rectangle that the maps have of a node.
+fn kept_rect(maps: &SightMaps, wanted: Wanted, id: ConId) -> Option<Rect>
+    ensures { result ≡ rect_kept wanted (value_at maps.now.rects id) }
+{
+    match maps.rects.get(id.0) {
+        Some(rects) => rects.rect(wanted),
+        None => None,
     }
 }

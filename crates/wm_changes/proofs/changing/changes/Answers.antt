@@ -1,4 +1,3 @@
-use Rattle.std.proofs.Common.{◌≡◌, IfOk}
 use Rattle.wm_changes.proofs.changing.changes.Goals as goal
 
 -- what was found is of the tree before

@@ -4,4 +4,4 @@ use Rattle.wm_views.proofs.MapLemmas.{find_insert}
 use Rattle.wm_views.proofs.maps.put.Goals as goal
 
 pub returns : goal.returns
-returns c = λ v. ap (λ m. value_at m v) c.in_ok-insert.ensures.ok ∙ find_insert c.args.id v c.args.rect c.args.map.now
+returns c = λ v. ap (λ m. value_at m v) c.in_ok-insert.ensures.ok ∙ find_insert c.args.id v c.args.rects c.args.map.now
