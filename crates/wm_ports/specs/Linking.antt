@@ -56,3 +56,13 @@ IsSent (Some t) new answer bytes = MatchResult answer (λ n. new ≡ Some (after
 abbrev pub IsBlamed : SendFault → ℕ → ℕ → Type 0
 IsBlamed faults.Failed old new = Rose old new
 IsBlamed faults.NoMemory old new = new ≡ old
+
+-- all of these bytes were sent
+abbrev pub SendsAll : Option LinkTold → Option LinkTold → List ℕ → Type 0
+SendsAll None new bytes = ⊤
+SendsAll (Some t) new bytes = new ≡ Some (after_sending t bytes)
+
+-- a first part of these bytes was sent
+pub record SendsPart (old new : Option LinkTold) (bytes : List ℕ) : Type 0 where
+  pub count : ℕ
+  pub sent : SendsAll old new (take count bytes)

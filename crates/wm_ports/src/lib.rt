@@ -9,6 +9,7 @@ mod listen_memory;
 mod listens;
 mod memory;
 mod port;
+mod sending;
 mod stream;
 mod whole;
 
@@ -19,5 +20,6 @@ pub use listen_memory::MemListen;
 pub use listens::{Accepted, Clock, Listen};
 pub use memory::{MemSink, MemSource};
 pub use port::{Failed, Sink, Source};
+pub use sending::send_all;
 pub use stream::{StdSink, StdSource};
 pub use whole::{ReadFault, read_to_limit, write_all};

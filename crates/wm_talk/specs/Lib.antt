@@ -1,4 +1,5 @@
 pub mod Calls
+pub mod Frames
 pub mod Marks
 pub mod Names
 pub mod Talking

@@ -2,6 +2,7 @@
 #![tactic(auto)]
 
 mod calls;
+mod framing;
 mod got;
 mod kinds;
 mod laws;
@@ -14,6 +15,7 @@ mod texts;
 mod views;
 
 pub use calls::{Call, call_of};
+pub use framing::push_frames;
 pub use got::Got;
 pub use laws::{
     events_are_told_once, events_come_after, names_stay, no_event_is_left_out,

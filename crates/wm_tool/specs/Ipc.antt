@@ -1,6 +1,5 @@
 -- What the tool writes for a stream of i3-ipc frames.
 use Rattle.std.specs.Prelude.{ℕ, ◌<◌, ◌≤◌, ◌^◌, Bool, true, false, List, [], ◌∷◌, ◌++◌, Option, None, Some, length, ⊤}
-use Rattle.std.specs.List.{flat_map}
 use Rattle.wm_core.specs.Act as acts
 use Rattle.wm_core.specs.declared.look.Query.TheVariants as query
 use Rattle.wm_core.specs.declared.look.View.{View}
@@ -8,7 +7,6 @@ use Rattle.wm_core.specs.declared.look.View.TheVariants as view
 use Rattle.wm_core.specs.History.{Entry, History, Start, answer}
 use Rattle.wm_core.specs.Look.{look}
 use Rattle.wm_frames.specs.declared.message.Message.{Message}
-use Rattle.wm_frames.specs.Frame.{frame}
 use Rattle.wm_frames.specs.Reading.{messages}
 use Rattle.wm_talk.specs.declared.calls.Call.{Call}
 use Rattle.wm_talk.specs.declared.calls.Call.TheVariants as call
@@ -16,6 +14,7 @@ use Rattle.wm_talk.specs.declared.got.Got.{Got}
 use Rattle.wm_talk.specs.declared.got.Got.TheVariants as got
 use Rattle.wm_talk.specs.declared.talk.Talk.{Talk}
 use Rattle.wm_talk.specs.Calls.{call_of}
+use Rattle.wm_talk.specs.Frames.{frames}
 use Rattle.wm_talk.specs.Talking.{above_of, after_events, after_reply, NEW}
 use Rattle.wm_talk.specs.Told.{replied, told}
 use Rattle.wm_tool.specs.declared.status.Refused.{Refused}
@@ -83,10 +82,6 @@ where_on false t = None
 where_on true t = Some t
 
 -- ---- messages
-
--- the frames of messages, one after another
-abbrev pub frames : List Message → List ℕ
-frames ms = flat_map frame ms
 
 -- what is written for a message: the frames of its reply, and then those of the events of the reading after it, by what its call
 -- gave and the history that it left

@@ -4,16 +4,16 @@ ghost use Rattle.wm_core.specs.DeskValue.{Stands};
 ghost use Rattle.wm_core.specs.History.{History, opening_of};
 ghost use Rattle.wm_core.specs.Look.{look};
 ghost use Rattle.wm_core.specs.declared.look.Query.TheVariants as queries;
-ghost use Rattle.wm_frames.specs.Frame.{frame};
 ghost use Rattle.wm_talk.specs.Talking.{after_reply};
 ghost use Rattle.wm_talk.specs.Told.{replied, told};
-ghost use Rattle.wm_tool.specs.Ipc.{after_reading, frames, reading, talk_on, told_of, where_on};
+ghost use Rattle.wm_talk.specs.Frames.{frames};
+ghost use Rattle.wm_tool.specs.Ipc.{after_reading, reading, talk_on, told_of, where_on};
 
 use std::alloc::Global;
 use wm_base::NoMemory;
 use wm_core::{Desk, Query, View};
-use wm_frames::{Message, encode};
-use wm_talk::{Got, Talk};
+use wm_frames::Message;
+use wm_talk::{Got, Talk, push_frames};
 
 /// Adds the frames of the reply to a message, by what its call gave.
 pub fn push_reply(
@@ -27,7 +27,7 @@ pub fn push_reply(
     ensures talk { OnOk result (talk.new ≡ after_reply message.now got.now talk.old) }
 {
     let messages = talk.reply(alloc, message, got)?;
-    push_messages(&messages, piece)
+    push_frames(&messages, piece)
 }
 
 /// Reads events, where something is subscribed, and adds the frames of those that the client is to be told. `false` exactly
@@ -84,30 +84,8 @@ fn push_told(
         View::Lagged { .. } => Ok(false),
         _ => {
             let messages = talk.events(alloc, view)?;
-            push_messages(&messages, piece)?;
+            push_frames(&messages, piece)?;
             Ok(true)
         }
     }
-}
-
-/// Adds the frames of the messages.
-fn push_messages(messages: &[Message], piece: &mut Vec<u8>) -> Result<(), NoMemory>
-    ensures { OnOk result (piece.new.items ≡ piece.old.items ++ frames messages.now) }
-{
-    let mut rest = messages;
-    while let [message, after @ ..] = rest {
-        push_message(message, piece)?;
-        rest = after;
-    }
-    Ok(())
-}
-
-/// Adds the frame of a message. A payload whose length does not fit 32 bits is want of memory.
-fn push_message(message: &Message, piece: &mut Vec<u8>) -> Result<(), NoMemory>
-    ensures { OnOk result (piece.new.items ≡ piece.old.items ++ frame message.now) }
-{
-    if message.payload.items().len() > u32::MAX as usize {
-        return Err(NoMemory);
-    }
-    encode(message, piece)
 }

@@ -1,0 +1,9 @@
+pub mod Called
+pub mod Endings
+pub mod Linked
+pub mod Places
+pub mod Served
+pub mod Serving
+pub mod Talks
+pub mod Telling
+pub mod Walk
