@@ -172,6 +172,22 @@ or_line (Some line) other = Some line
 abbrev pub deed_of : List ℕ → Option Deed
 deed_of text = or_line (plan_line_of text) (or_line (window_line_of text) (or_line (client_line_of text) (or_line (output_line_of text) (other_line_of text))))
 
+-- ---- what a client says on its link
+
+-- a line that a client may send
+abbrev pub is_client_deed : Deed → Bool
+is_client_deed (Map props buffer) = true
+is_client_deed (Retitle con title) = true
+is_client_deed (Urgent con on) = true
+is_client_deed (Close con) = true
+is_client_deed (Ack con serial) = true
+is_client_deed (Give con buffer) = true
+is_client_deed other = false
+
+-- what a client's line does; None where it is outside the grammar
+abbrev pub client_deed_of : List ℕ → Option Deed
+client_deed_of text = or_none (deed_of text) (λ deed. if is_client_deed deed then Some deed else None)
+
 -- ---- who speaks
 
 abbrev pub by_caller : ℕ → Deed → Line

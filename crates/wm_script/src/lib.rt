@@ -2,6 +2,7 @@
 #![tactic(auto)]
 
 mod client_lines;
+mod clients;
 mod fields;
 mod laws;
 mod line;
@@ -12,6 +13,8 @@ mod quoted;
 mod script;
 mod window_lines;
 
+pub use clients::read_client_line;
+pub use fields::{at_end, behind, number, serial};
 pub use laws::{bad_line_is_first, script_is_its_lines};
 pub use line::{Deed, Line};
 pub use script::{ScriptRefusal, read_script};

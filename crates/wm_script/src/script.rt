@@ -55,7 +55,7 @@ fn spoken_line(alloc: Global, text: &[u8]) -> Result<Option<Line>, NoMemory>
 }
 
 /// What the line does. `None` exactly where it is outside the grammar.
-fn read_deed(alloc: Global, text: &[u8]) -> Result<Option<Deed>, NoMemory>
+pub(crate) fn read_deed(alloc: Global, text: &[u8]) -> Result<Option<Deed>, NoMemory>
     requires { length text.now ≤ 16777216 }
     ensures value { IfOk result (λ deed. deed ≡ deed_of text.now) }
     ensures fit { IfOk result (λ deed. IfSome deed IsFitDeed) }

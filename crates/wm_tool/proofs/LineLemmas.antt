@@ -8,7 +8,9 @@ use Rattle.wm_script.specs.declared.line.Deed.{Deed}
 use Rattle.wm_script.specs.declared.line.Deed.TheVariants as deed
 use Rattle.wm_script.specs.declared.line.Line.{Line}
 use Rattle.wm_tool.specs.declared.status.Refused.{Refused}
-use Rattle.wm_tool.specs.Output.{act_in, after, after_effect, answer_text, deed_step, effect_of, effect_text, line_step, one_if_some, takes, Takes, entry_of, line_texts, looks_or, Looks, out_from, query_in, start, told, view_text}
+use Rattle.wm_lines.specs.Lines.{act_in}
+use Rattle.wm_lines.specs.Told.{answer_text}
+use Rattle.wm_tool.specs.Output.{after, after_effect, deed_step, effect_of, effect_text, line_step, one_if_some, takes, Takes, entry_of, line_texts, looks_or, Looks, out_from, query_in, start, told, view_text}
 use Rattle.wm_core.specs.Look.{look}
 use Rattle.wm_core.specs.declared.look.Query.{Query}
 use Rattle.wm_tool.specs.Refusals.{IsRising, refusal_at}

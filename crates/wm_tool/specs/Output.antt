@@ -1,28 +1,22 @@
 -- What the tool writes for a script.
 use Rattle.std.specs.Prelude.{ℕ, List, [], ◌∷◌, ◌++◌, length, Option, None, Some, Result, Ok, Err, codes}
-use Rattle.std.specs.Fmt.{decimal}
 use Rattle.std.specs.List.{flat_map}
-use Rattle.wm_base.specs.declared.geometry.Size.{Size}
 use Rattle.wm_base.specs.declared.plan.Border.{Border}
 use Rattle.wm_base.specs.declared.plan.Border.TheVariants.{Bare}
 use Rattle.wm_base.specs.declared.plan.OutputPlan.{OutputPlan}
-use Rattle.wm_base.specs.ErrorText.{word_of}
 use Rattle.wm_tree.specs.TreeValue.{opening}
-use Rattle.wm_core.specs.declared.step.Answer.{Answer}
-use Rattle.wm_core.specs.declared.step.Answer.TheVariants as answers
-use Rattle.wm_json.specs.Replies.{replies_text}
 use Rattle.wm_core.specs.Frame.{frame}
 use Rattle.wm_core.specs.Look.{look}
 use Rattle.wm_core.specs.declared.look.Query.{Query}
 use Rattle.wm_core.specs.declared.look.Query.TheVariants as query
 use Rattle.wm_core.specs.declared.look.View.{View}
 use Rattle.wm_core.specs.declared.look.View.TheVariants as view
-use Rattle.wm_core.specs.declared.state.Want.{Want}
-use Rattle.wm_core.specs.declared.state.Want.TheVariants as want
 use Rattle.wm_core.specs.Act.{Act}
 use Rattle.wm_core.specs.Act as acts
 use Rattle.wm_core.specs.History.{Entry, History, Start, answer}
 use Rattle.wm_layouts.specs.Plan.{bare_env, default_outputs}
+use Rattle.wm_lines.specs.Lines.{act_in}
+use Rattle.wm_lines.specs.Told.{answer_text, want_text}
 use Rattle.wm_paint.specs.FrameText.{frame_text, new_line}
 use Rattle.wm_script.specs.declared.line.Deed.{Deed}
 use Rattle.wm_script.specs.declared.line.Deed.TheVariants as deed
@@ -31,19 +25,6 @@ use Rattle.wm_tool.specs.declared.status.Refused.{Refused}
 use Rattle.wm_tool.specs.Refusals.{verdict_of}
 use Rattle.wm_script.specs.Script.{outputs_in, script}
 use Rattle.wm_talk.specs.Told.{view_json}
-
--- the line that tells an answer
-abbrev pub answer_text : Answer → List ℕ
-answer_text answers.Done = codes "ok" ++ new_line
-answer_text (answers.Mapped id) = codes "ok " ++ (decimal id.0 ++ new_line)
-answer_text (answers.Replies replies) = replies_text replies ++ new_line
-answer_text answers.NoView = codes "no-view" ++ new_line
-answer_text answers.Empty = codes "empty" ++ new_line
-answer_text (answers.BadSerial asked last) = codes "bad-serial " ++ (decimal asked ++ (codes " " ++ (decimal last ++ new_line)))
-answer_text (answers.Full limit) = codes "full " ++ (word_of limit ++ new_line)
-answer_text answers.NameTaken = codes "name-taken" ++ new_line
-answer_text answers.NoTarget = codes "no-target" ++ new_line
-answer_text answers.BadRect = codes "bad-rect" ++ new_line
 
 -- the opening of the standard plan
 abbrev pub start : Start
@@ -105,22 +86,6 @@ pub data Effect : Type 0 where
   Paints : Effect
   Looks : ℕ → Query → Effect
 
--- the step of a line that takes one and runs no text
-abbrev pub act_in : Deed → Option Act
-act_in (deed.Map props buffer) = Some (acts.Map props buffer None)
-act_in (deed.Retitle con title) = Some (acts.Retitle con title)
-act_in (deed.Urgent con on) = Some (acts.Urgent con on)
-act_in (deed.Close con) = Some (acts.Close con)
-act_in deed.Gone = Some acts.Gone
-act_in (deed.Ack con serial) = Some (acts.Ack con serial)
-act_in (deed.Give con buffer) = Some (acts.Give con buffer)
-act_in (deed.Deadline number) = Some (acts.Deadline number)
-act_in (deed.OutputAdd plan) = Some (acts.OutputAdd plan)
-act_in (deed.OutputRemove name) = Some (acts.OutputRemove name)
-act_in (deed.Reserve name edges) = Some (acts.Reserve name edges)
-act_in (deed.Tick text) = Some (acts.Tick text)
-act_in other = None
-
 abbrev pub takes : ℕ → Option Act → Effect
 takes who None = Rests
 takes who (Some act) = Takes (entry_of who act)
@@ -149,15 +114,6 @@ after_effect Rests history = history
 after_effect (Takes entry) history = entry ∷ history
 after_effect Paints history = history
 after_effect (Looks who q) history = history
-
--- a size as `400x300`
-abbrev pub size_text : Size → List ℕ
-size_text size = decimal size.w ++ (codes "x" ++ decimal size.h)
-
--- the line of what is asked of a window
-abbrev pub want_text : Want → List ℕ
-want_text (want.Configure con serial size) = codes "configure " ++ (decimal con.0 ++ (codes " " ++ (decimal serial ++ (codes " " ++ (size_text size ++ new_line)))))
-want_text (want.Kill con number) = codes "kill " ++ (decimal con.0 ++ (codes " " ++ (decimal number ++ new_line)))
 
 -- the lines that tell a view
 abbrev pub view_text : View → List ℕ

@@ -1,7 +1,6 @@
 //! The tool behind the program i3replay: it replays scripts, draws their frames, and answers frames of i3-ipc.
 #![tactic(auto)]
 
-mod answers;
 mod asked;
 mod drawing;
 mod ipc;
@@ -10,8 +9,8 @@ mod planning;
 mod replay;
 mod run;
 mod status;
-mod steps;
 mod telling;
+mod viewing;
 
 pub use run::tool;
 pub use status::{Refused, Status};

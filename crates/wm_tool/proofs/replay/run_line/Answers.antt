@@ -4,7 +4,8 @@ use Rattle.std.specs.Prelude.{OnOk}
 use Rattle.wm_core.specs.Act.{act_of}
 use Rattle.wm_core.specs.History.{History, opening_of}
 use Rattle.wm_tool.specs.Running.{Leads, Notes}
-use Rattle.wm_tool.specs.Output.{act_in, after_effect, deed_step, Effect, effect_of, effect_text, line_step, query_in, run_entry, Takes}
+use Rattle.wm_lines.specs.Lines.{act_in}
+use Rattle.wm_tool.specs.Output.{after_effect, deed_step, Effect, effect_of, effect_text, line_step, query_in, run_entry, Takes}
 use Rattle.wm_tool.proofs.LineLemmas.{look_count, look_leads, step_count, step_leads}
 use Rattle.wm_tool.proofs.RunLemmas.{ok_weaker, on_ok, unchanged}
 use Rattle.wm_tool.proofs.replay.run_line.Goals as goal

@@ -7,7 +7,7 @@ ghost use Rattle.wm_core.specs.Sizes.{IsFitStep};
 ghost use Rattle.wm_layouts.specs.Plan.{IsFitEdges};
 ghost use Rattle.wm_layouts.specs.Sizes.{IsFitSize};
 ghost use Rattle.wm_script.specs.Script.{IsFitDeed};
-ghost use Rattle.wm_tool.specs.Output.{act_in};
+ghost use Rattle.wm_lines.specs.Lines.{act_in};
 
 use std::alloc::Global;
 use wm_base::{Buffer, ConId, Edges, NoMemory, OutputPlan, Props, Str, Text};

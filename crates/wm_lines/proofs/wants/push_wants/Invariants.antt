@@ -1,7 +1,7 @@
 use Rattle.std.proofs.Common.{◌≡◌, ◌++◌, length}
 use Rattle.std.specs.List.{flat_map}
-use Rattle.wm_tool.specs.Output.{want_text}
-use Rattle.wm_tool.proofs.answers.push_wants.Given as goal
+use Rattle.wm_lines.specs.Told.{want_text}
+use Rattle.wm_lines.proofs.wants.push_wants.Given as goal
 
 -- the lines so far and those of the rest are those of all
 abbrev pub invariant-loop-rest : goal.invariant-loop-rest
