@@ -1,0 +1,5 @@
+pub mod ExitLemmas
+pub mod PaintLemmas
+pub mod SinceLemmas
+pub mod TickLemmas
+pub mod WorkLemmas

@@ -1,0 +1,13 @@
+pub mod Clients
+pub mod Due
+pub mod Exits
+pub mod Ipc
+pub mod Paints
+pub mod Pictured
+pub mod Pictures
+pub mod Since
+pub mod Ticks
+pub mod Timed
+pub mod Told
+pub mod Worked
+pub mod Works
