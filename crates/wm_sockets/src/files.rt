@@ -27,7 +27,7 @@ pub struct SocketFile {
 }
 
 impl SocketFile {
-    /// Makes the file at this path, which is at most 95 bytes long, and listens there. A file of a socket that no
+    /// Makes the file at this path, which is at most 99 bytes long, and listens there. A file of a socket that no
     /// server holds any more is replaced. With another one at the path it fails, and leaves that as it is: with
     /// `AddrInUse` where a server listens there, and with `AlreadyExists` where it is no socket. Each other `Err` is
     /// the system's, or want of memory. Of two servers that replace one file in the same moment the later has it.

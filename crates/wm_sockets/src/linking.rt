@@ -11,8 +11,8 @@ use std::os::unix::net::UnixStream;
 use std::time::Duration;
 use wm_ports::{Link, Received, SendFault};
 
-/// How long a receiving waits for bytes before it is quiet. The system counts in ticks of 1 to 4 ms and adds up to one,
-/// so it is quiet within 10 ms: by then whoever serves the link can look for something to send.
+/// How long a receiving waits for bytes before it is quiet, and whoever serves the link looks for something to send. The
+/// system rounds that up to its ticks and adds one, so with ticks of 4 ms or less it is quiet within 8 ms.
 const RECEIVE_WAIT_MS: u64 = 3;
 
 /// How long a sending waits for a peer that does not read. A peer that stopped for so long is given up, so that it holds

@@ -1,9 +1,12 @@
 //! Links, socket files, listeners and the clock, each over the real system.
 use crate::{RealClock, SocketFile, UnixLink, UnixListen};
+use std::alloc::Global;
 use std::io::ErrorKind;
+use std::net::Net;
 use std::os::unix::fs::PermissionsExt;
 use std::os::unix::net::UnixStream;
 use std::process::Abort;
+use std::rt::Files;
 use std::test::*;
 use std::time::Duration;
 use std::{env, fs, io, thread};
@@ -82,49 +85,60 @@ fn expect_none(rt: &impl Abort, listen: &mut UnixListen, faults: u64) {
     assert_eq!(rt; listen.faults, faults);
 }
 
+/// Expects that no socket can be put at the path, and that the error is of this kind.
+fn expect_refused<R: Abort + Files + Net>(rt: &R, alloc: Global, path: &str, kind: ErrorKind) {
+    let refused = SocketFile::bind(rt, alloc, path).map(drop);
+    assert_eq!(rt; refused.map_err(|error| error.kind()), Err(kind));
+}
+
+/// A file that is no socket is left alone.
+fn leave_other_files<R: Abort + Files + Net>(rt: &R, alloc: Global, path: &str) -> io::Result<()> {
+    fs::write(rt, path, "kept")?;
+    expect_refused(rt, alloc, path, ErrorKind::AlreadyExists);
+    assert_eq!(rt; fs::metadata(rt, path)?.len(), 4);
+    fs::remove_file(rt, path)
+}
+
+/// A server whose file only the owner may use, and which leaves its file behind. A second one does not come beside it.
+fn serve<R: Abort + Files + Net>(rt: &R, alloc: Global, path: &str) -> io::Result<()> {
+    let file = SocketFile::bind(rt, alloc, path)?;
+    let mode = fs::metadata(rt, path)?.permissions().mode();
+    assert_eq!(rt; mode & 0o777, 0o600);
+    let mut listen = moved(file.listen()?);
+    expect_none(rt, &mut listen, 0);
+    let mut client = UnixLink::new(UnixStream::connect(rt, path)?)?;
+    assert_eq!(rt; client.send(b"hello"), Ok(5));
+    expect_word(rt, &mut listen.try_clone()?, b"hello");
+    expect_refused(rt, alloc, path, ErrorKind::AddrInUse);
+    expect_word(rt, &mut listen, b"");
+    Ok(())
+}
+
+/// The file that an ended server left is replaced, and each server removes no file but its own.
+fn replace<R: Abort + Files + Net>(rt: &R, alloc: Global, path: &str) -> io::Result<()> {
+    let first = SocketFile::bind(rt, alloc, path)?;
+    fs::remove_file(rt, path)?;
+    let second = SocketFile::bind(rt, alloc, path)?;
+    first.remove(rt)?;
+    assert!(rt; fs::exists(rt, path)?);
+    second.remove(rt)?;
+    assert!(rt; !fs::exists(rt, path)?);
+    second.remove(rt)
+}
+
 #[test]
 fn a_socket_file_is_its_owners_and_goes_with_its_server(rt: HostRuntime) -> io::Result<()> {
     let alloc = rt.alloc();
     let number = std::process::id(rt.process());
     let mut folder = env::temp_dir(&rt)?;
     folder.push(format!(in alloc; "wm_sockets-{number}")?)?;
+    // One that a broken run left.
+    let _ = fs::remove_dir_all(&rt, folder.as_path());
     fs::create_dir(&rt, folder.as_path())?;
-    let path = folder.join(alloc, "ipc")?.into_string();
-    let path = path.as_str();
-
-    fs::write(&rt, path, "kept")?;
-    let refused = SocketFile::bind(&rt, alloc, path).map(drop);
-    assert_eq!(rt;
-        refused.map_err(|e| e.kind()),
-        Err(ErrorKind::AlreadyExists)
-    );
-    assert_eq!(rt; fs::read_to_string(&rt, path)?.as_str(), "kept");
-    fs::remove_file(&rt, path)?;
-
-    let first = SocketFile::bind(&rt, alloc, path)?;
-    assert_eq!(rt;
-        fs::metadata(&rt, path)?.permissions().mode() & 0o777,
-        0o600
-    );
-    let mut listen = moved(first.listen()?);
-    expect_none(&rt, &mut listen, 0);
-    let mut client = UnixLink::new(UnixStream::connect(&rt, path)?)?;
-    assert_eq!(rt; client.send(b"hello"), Ok(5));
-    expect_word(&rt, &mut listen.try_clone()?, b"hello");
-    let refused = SocketFile::bind(&rt, alloc, path).map(drop);
-    assert_eq!(rt; refused.map_err(|e| e.kind()), Err(ErrorKind::AddrInUse));
-    expect_word(&rt, &mut listen, b"");
-
-    drop(first);
-    drop(listen);
-    let second = SocketFile::bind(&rt, alloc, path)?;
-    fs::remove_file(&rt, path)?;
-    let third = SocketFile::bind(&rt, alloc, path)?;
-    second.remove(&rt)?;
-    assert!(rt; fs::exists(&rt, path)?);
-    third.remove(&rt)?;
-    assert!(rt; !fs::exists(&rt, path)?);
-    third.remove(&rt)?;
+    let path = folder.join(alloc, "ipc")?;
+    leave_other_files(&rt, alloc, path.as_str())?;
+    serve(&rt, alloc, path.as_str())?;
+    replace(&rt, alloc, path.as_str())?;
     fs::remove_dir(&rt, folder.as_path())
 }
 
