@@ -43,7 +43,7 @@ impl Link for UnixLink {
     ghost faults = { λ s. s.faults };
 
     /// Receives what is there. It is quiet where nothing came within a few milliseconds, and at the end where the peer
-    /// closed its side.
+    /// closed its side. It fails where the peer went with bytes unread.
     fn receive(&mut self, room: &mut [u8]) -> Received
         requires { 0 < length room.old }
         ensures within { IsWithin result room.new }
