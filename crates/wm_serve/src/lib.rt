@@ -1,0 +1,15 @@
+//! The server: its words, its configuration, its desk behind one lock, its actors, and its summary.
+#![tactic(auto)]
+
+mod callers;
+mod desk;
+mod once;
+mod plans;
+mod rehearsed;
+mod rehearsing;
+mod serving;
+mod summing;
+mod words;
+
+pub use rehearsing::rehearse;
+pub use serving::serve;

@@ -1,0 +1,210 @@
+//! The server from end to end.
+ghost use Rattle.std.specs.Prelude.{◌≡◌, ◌⊎◌, ◌↔◌, ◌≤◌, ◌*◌, ◌+◌, ℕ, [], List, None, Some, length, IfErr, IfOk};
+ghost use Rattle.wm_actors.specs.Pictured.{screen};
+ghost use Rattle.wm_core.specs.Entries.{history_of};
+ghost use Rattle.wm_core.specs.History.{opening_of};
+ghost use Rattle.wm_core.specs.declared.step.Step as steps;
+ghost use Rattle.wm_crew.specs.Running.{outside};
+ghost use Rattle.wm_crew.specs.declared.status.ServeStatus.TheVariants as status;
+ghost use Rattle.wm_layouts.specs.Plan.{IsSound};
+ghost use Rattle.wm_ports.specs.Told.{ReadsAll};
+ghost use Rattle.wm_serve.specs.Plans.{IsEmptyPlan};
+ghost use Rattle.wm_serve.specs.Rehearsals.{IsRehearsed, RanRehearsal};
+ghost use Rattle.wm_serve.specs.Serving.{IsEnded, IsRefused, IsServed, IsSummed, Ran};
+ghost use Rattle.wm_serve.specs.Summary.{summary};
+ghost use Rattle.wm_serve.specs.Words.{order_of};
+ghost use Rattle.wm_serve.specs.declared.words.Order.TheVariants as orders;
+ghost use Rattle.wm_turn.specs.declared.view.Entry.{Entry};
+
+use crate::desk::run_desk;
+use crate::plans::empty_plan;
+use crate::rehearsing::rehearse;
+use crate::summing::summary;
+use crate::words::{Order, order_of};
+use std::alloc::Global;
+use std::sync::Wait;
+use std::thread::Threads;
+use wm_book::Kept;
+use wm_core::Desk;
+use wm_crew::ServeStatus;
+use wm_criteria::Build;
+use wm_layouts::Plan;
+use wm_ports::{Clock, Link, Listen, ReadFault, Sink, Source, read_to_limit, write_all};
+
+/// How long a configuration is at most, in bytes.
+const MOST: usize = 1_048_576;
+
+/// How many of the doors give clients that speak i3-ipc.
+const IPC: usize = 8;
+
+/// For how many milliseconds a transaction may wait.
+const HOLD: u64 = 200;
+
+/// Serves clients by these words: none, or `--rehearse` and a digit from 1 to 8. The configuration that the source gives is
+/// read to its end, and must be empty. Without words the first 8 doors give clients that speak i3-ipc, and the other 16 clients
+/// that speak lines; with `--rehearse` no door is used. Frames are written as they come, and a summary at the end. It may
+/// wait, and need not return.
+pub fn serve<
+    R: Threads + Wait + Sync,
+    I: Source,
+    L: Link + Send,
+    A: Listen<L> + Send,
+    S: Sink + Send,
+    C: Clock + Send,
+    B: Build + Send,
+>(
+    alloc: Global,
+    rt: &R,
+    words: &[String],
+    source: &mut I,
+    doors: &mut Vec<A>,
+    builds: &mut [B],
+    frames: &mut S,
+    clock: &mut C,
+) -> ServeStatus
+    requires doors { length doors.old.items ≡ 24 }
+    requires builds { length builds.old ≡ 24 }
+    ensures words { result ≡ status.BadWords ↔ order_of words.now ≡ None }
+    ensures unread { result ≡ status.BadWords → source.new ≡ source.old }
+    ensures served { order_of words.now ≡ Some orders.Serve → IsServed L.told L.faults A.told A.faults B.log
+        (I.rest source.old) (I.rest source.new) (I.faults source.old) (I.faults source.new)
+        (outside doors.old.items builds.old (S.taken frames.old) (S.faults frames.old) (C.told clock.old))
+        (outside doors.new.items builds.new (S.taken frames.new) (S.faults frames.new) (C.told clock.new)) result }
+    ensures unused { (n : ℕ) → order_of words.now ≡ Some (orders.Rehearse n) → doors.new ≡ doors.old }
+    ensures rehearsed { (n : ℕ) → order_of words.now ≡ Some (orders.Rehearse n) → IsRehearsed B.log n
+        (I.rest source.old) (I.rest source.new) (I.faults source.old) (I.faults source.new) builds.old builds.new
+        (screen (S.taken frames.old) (S.faults frames.old)) (screen (S.taken frames.new) (S.faults frames.new)) (C.told clock.old) (C.told clock.new) result }
+{
+    let Some(order) = order_of(words) else {
+        return ServeStatus::BadWords;
+    };
+    let plan = match configured(alloc, source) {
+        Ok(plan) => plan,
+        Err(status) => return status,
+    };
+    match order {
+        Order::Serve => serve_doors(alloc, rt, plan, doors, builds, frames, clock),
+        Order::Rehearse(n) => rehearse_whole(alloc, rt, plan, n, builds, frames, clock),
+    }
+}
+
+/// The plan of the configuration that the source gives.
+fn configured<I: Source>(alloc: Global, source: &mut I) -> Result<Plan, ServeStatus>
+    ensures plan { IfOk result (λ plan. IsEmptyPlan plan) }
+    ensures sound { IfOk result (λ plan. IsSound plan) }
+    ensures read { IfOk result (λ plan. ReadsAll (I.rest source.old) (I.rest source.new) []) }
+    ensures refused { IfErr result (λ s. IsRefused s (I.rest source.old) (I.rest source.new) (I.faults source.old) (I.faults source.new)) }
+{
+    let bytes = match read_to_limit(alloc, source, MOST) {
+        Ok(bytes) => bytes,
+        Err(ReadFault::Failed) => return Err(ServeStatus::ReadFault),
+        Err(ReadFault::TooLarge { read }) => return Err(ServeStatus::TooLarge { read }),
+        Err(ReadFault::NoMemory) => return Err(ServeStatus::NoMemory),
+    };
+    if !bytes.is_empty() {
+        return Err(ServeStatus::BadConfig { line: 1 });
+    }
+    match empty_plan(alloc) {
+        Ok(plan) => Ok(plan),
+        Err(_) => Err(ServeStatus::NoMemory),
+    }
+}
+
+/// Serves the doors with a new desk, and writes the summary.
+fn serve_doors<
+    R: Threads + Wait + Sync,
+    L: Link + Send,
+    A: Listen<L> + Send,
+    S: Sink + Send,
+    C: Clock + Send,
+    B: Build + Send,
+>(
+    alloc: Global,
+    rt: &R,
+    plan: Plan,
+    doors: &mut Vec<A>,
+    builds: &mut [B],
+    frames: &mut S,
+    clock: &mut C,
+) -> ServeStatus
+    requires doors { length doors.old.items ≤ 4094 }
+    requires builds { length builds.old ≡ length doors.old.items }
+    requires plan { IsEmptyPlan plan }
+    requires sound { IsSound plan }
+    ensures { ((result ≡ status.NoMemory) × (frames.new ≡ frames.old)) ⊎ Ran L.told L.faults A.told A.faults B.log 8 200
+        (outside doors.old.items builds.old (S.taken frames.old) (S.faults frames.old) (C.told clock.old))
+        (outside doors.new.items builds.new (S.taken frames.new) (S.faults frames.new) (C.told clock.new)) result }
+{
+    let Ok(desk) = Desk::start(alloc, plan) else {
+        return ServeStatus::NoMemory;
+    };
+    match run_desk(alloc, rt, desk, doors, IPC, builds, frames, clock, HOLD) {
+        Ok((desk, status)) => close_down(alloc, desk, status, frames),
+        Err(desk) => {
+            drop(desk);
+            ServeStatus::NoMemory
+        }
+    }
+}
+
+/// Writes the summary of the history that the value stands for, where all actors were told to stop.
+fn close_down<V: Kept + Drop, S: Sink>(
+    alloc: Global,
+    value: V,
+    ended: ServeStatus,
+    frames: &mut S,
+) -> ServeStatus
+    ensures { (entries : List (Entry steps.Step)) → V.stands value entries →
+        IsEnded ended result (summary (opening_of (V.opening value)) (history_of entries))
+        (screen (S.taken frames.old) (S.faults frames.old)) (screen (S.taken frames.new) (S.faults frames.new)) }
+{
+    if ended != ServeStatus::Done {
+        drop(value);
+        return ended;
+    }
+    sum_up(alloc, value, frames)
+}
+
+/// Rehearses, and writes the summary.
+fn rehearse_whole<R: Threads + Wait + Sync, S: Sink + Send, C: Clock + Send, B: Build + Send>(
+    alloc: Global,
+    rt: &R,
+    plan: Plan,
+    n: u32,
+    builds: &mut [B],
+    frames: &mut S,
+    clock: &mut C,
+) -> ServeStatus
+    requires few { (1 ≤ n) × (n ≤ 8) }
+    requires builds { 2 * n ≤ length builds.old }
+    requires plan { IsEmptyPlan plan }
+    requires sound { IsSound plan }
+    ensures words { result ≡ status.BadWords → ⊥ }
+    ensures ran { ((result ≡ status.NoMemory) × (frames.new ≡ frames.old)) ⊎ RanRehearsal B.log n 200 builds.old builds.new
+        (screen (S.taken frames.old) (S.faults frames.old)) (screen (S.taken frames.new) (S.faults frames.new)) (C.told clock.old) (C.told clock.new) result }
+{
+    let (builds, _) = builds.split_at_mut(2 * n as usize);
+    let (desk, status) = rehearse(alloc, rt, plan, n, builds, frames, clock, HOLD);
+    match desk {
+        Some(desk) => sum_up(alloc, desk, frames),
+        None => status,
+    }
+}
+
+/// Writes the summary of the history that the value stands for.
+fn sum_up<V: Kept + Drop, S: Sink>(alloc: Global, value: V, frames: &mut S) -> ServeStatus
+    ensures words { result ≡ status.BadWords → ⊥ }
+    ensures summed { (entries : List (Entry steps.Step)) → V.stands value entries →
+        IsSummed result (summary (opening_of (V.opening value)) (history_of entries))
+        (screen (S.taken frames.old) (S.faults frames.old)) (screen (S.taken frames.new) (S.faults frames.new)) }
+{
+    let text = summary(alloc, &value);
+    drop(value);
+    let Ok(text) = text else {
+        return ServeStatus::NoMemory;
+    };
+    match write_all(frames, &text) {
+        Ok(()) => ServeStatus::Done,
+        Err(_) => ServeStatus::WriteFault,
+    }
+}
