@@ -1,0 +1,119 @@
+//! The program i3desk: the desktop of i3, served on Unix sockets.
+#![tactic(auto)]
+
+mod doors;
+
+use doors::{Sockets, builds};
+use std::alloc::AllocError;
+use std::env;
+use std::io::ErrorKind;
+use std::net::Net;
+use std::process::ExitCode;
+use std::rt::Files;
+use std::sync::Wait;
+use std::thread::Threads;
+use wm_crew::ServeStatus;
+use wm_json::VERSION;
+use wm_ports::{StdSink, StdSource};
+use wm_serve::serve;
+use wm_sockets::RealClock;
+
+/// What `--help` writes.
+const HELP: &str = "\
+i3desk: the desktop of i3, served on Unix sockets.
+
+usage: i3desk < CONFIGURATION               serve clients until one says `exit`
+       i3desk --rehearse N < CONFIGURATION  let N callers and N modelled clients, 1 to 8, act in memory
+       i3desk --help                        write this text
+       i3desk --version                     write the version
+
+It listens in the folder in which it was started:
+  i3desk.ipc      clients that speak i3-ipc, at most 8 at a time, as `i3-msg -s i3desk.ipc 'focus left'`
+  i3desk.clients  clients that open windows and speak lines, at most 16 at a time, as `nc -U i3desk.clients`
+Only the user who started it may connect. Each further client waits until another one has gone.
+
+The configuration must be empty. The frames are written to standard output, one after another as they are painted. A frame
+shows an arrangement only once each window whose size it changes has given a buffer for it or was closed, or 200 milliseconds
+have passed. At the end come the summary of all steps and the tree.
+
+Exit status: 0 done, 2 bad words, 3 bad configuration, 6 input too large, 7 read fault, 8 write fault, 9 no memory, 11 a
+listener failed, 12 history full.";
+
+fn main(rt: HostRuntime) -> ExitCode {
+    let status = match words(&rt) {
+        Ok(words) => answer(&rt, &rt, &words),
+        Err(status) => status,
+    };
+    if status.number() != 0 {
+        let _ = eprintln!(rt; "{status}");
+    }
+    ExitCode::from(status.number())
+}
+
+/// The program's words, without its own name. A word that is no UTF-8 is a wrong one.
+fn words(rt: &HostRuntime) -> Result<Vec<String>, ServeStatus> {
+    let mut words = Vec::new(rt.alloc());
+    let args = match env::args(rt) {
+        Ok(args) => args,
+        Err(error) if error.kind() == ErrorKind::OutOfMemory => return Err(ServeStatus::NoMemory),
+        Err(_) => return Err(ServeStatus::BadWords),
+    };
+    for word in args.skip(1) {
+        if words.push(word).is_err() {
+            return Err(ServeStatus::NoMemory);
+        }
+    }
+    Ok(words)
+}
+
+/// Answers `--help` and `--version`, and serves by all other words.
+fn answer<R: Threads + Wait + Files + Net + Sync>(
+    rt: &HostRuntime,
+    system: &R,
+    words: &[String],
+) -> ServeStatus {
+    match words {
+        [word] if word.as_str() == "--help" => say(rt, HELP),
+        [word] if word.as_str() == "--version" => say(rt, VERSION),
+        _ => match run(rt, system, words) {
+            Ok(status) => status,
+            Err(AllocError) => ServeStatus::NoMemory,
+        },
+    }
+}
+
+/// Serves by the words, with doors on the sockets where there are none.
+fn run<R: Threads + Wait + Files + Net + Sync>(
+    rt: &HostRuntime,
+    system: &R,
+    words: &[String],
+) -> Result<ServeStatus, AllocError> {
+    let sockets = Sockets::open(rt, system, words.is_empty());
+    let mut doors = sockets.doors(rt.alloc())?;
+    let mut builds = builds(rt.alloc())?;
+    let mut source = StdSource::new(rt.stdin());
+    let mut frames = StdSink::new(rt.stdout());
+    let Ok(mut clock) = RealClock::new(rt) else {
+        return Ok(ServeStatus::NoMemory);
+    };
+    let status = serve(
+        rt.alloc(),
+        system,
+        words,
+        &mut source,
+        &mut doors,
+        &mut builds,
+        &mut frames,
+        &mut clock,
+    );
+    sockets.remove(system);
+    Ok(status)
+}
+
+/// Writes a text and a line feed to standard output.
+fn say(rt: &HostRuntime, text: &str) -> ServeStatus {
+    match println!(rt; "{text}") {
+        Ok(()) => ServeStatus::Done,
+        Err(_) => ServeStatus::WriteFault,
+    }
+}
