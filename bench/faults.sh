@@ -7,7 +7,7 @@ set -eu
 . "$(dirname "$0")/serving.sh"
 
 python3 - "$server" "$folder" "$here/bench" <<'PROGRAM'
-import fcntl, json, mmap, os, random, select, signal, stat, struct, subprocess, sys, termios, time
+import fcntl, json, mmap, os, random, select, signal, stat, struct, subprocess, sys, termios, threading, time
 
 program, folder, here = sys.argv[1:]
 sys.path.insert(0, here)
@@ -31,10 +31,6 @@ def ended(server):
     return took, summary
 
 
-def marks_in(node):
-    return sum((marks_in(kid) for kid in node["nodes"] + node["floating_nodes"]), list(node["marks"]))
-
-
 def forked(act, *given):
     """A process that acts until it is killed."""
     child = os.fork()
@@ -46,15 +42,32 @@ def forked(act, *given):
     return child
 
 
-def mark_on(path, con, name, answered):
-    """Sets one mark after another, and counts those that were answered."""
+def tell(path, name, answered):
+    """Sends one tick after another, and counts those that were answered."""
     link = Link(path)
     for number in range(1 << 30):
-        owe(link.run('[con_id="%d"] mark --add %s.%d' % (con, name, number)) == DONE, "a mark is refused")
+        owe(link.ask(SEND_TICK, b"%s.%d" % (name, number)) == b'{"success":true}', "a tick is refused")
         answered[:8] = struct.pack("<Q", number + 1)
 
 
-def open_windows(path, answered):
+class Watcher:
+    """Whoever hears all ticks."""
+
+    def __init__(self, path):
+        self.link, self.told = Link(path, None), []
+        self.link.ask(SUBSCRIBE, b'["tick"]')
+        self.thread = threading.Thread(target=self.hear, daemon=True)
+        self.thread.start()
+
+    def hear(self):
+        try:
+            while True:
+                self.told.append(json.loads(self.link.receive()[1])["payload"])
+        except EOFError:
+            pass
+
+
+def open_windows(path):
     """Opens one window after another."""
     link = Windows(path, 0)
     for number in range(1 << 30):
@@ -70,44 +83,47 @@ def open_ids(link):
 
 
 def killed():
-    """A client is killed 100 times, at any moment."""
+    """A client is killed 100 times, at any moment, while another one hears all ticks."""
     server = Server(program, folder)
-    windows = Windows(server.clients, 1)
-    (own,) = windows.ids
+    windows, watcher = Windows(server.clients, 1), Watcher(server.ipc)
     owed = {}
     for turn in range(100):
-        answered = mmap.mmap(-1, 8)
+        name, answered = b"k%d" % turn, mmap.mmap(-1, 8)
         if turn % 2 == 0:
-            child = forked(mark_on, server.ipc, own, "k%d" % turn, answered)
+            child = forked(tell, server.ipc, name, answered)
         else:
-            child = forked(open_windows, server.clients, answered)
+            child = forked(open_windows, server.clients)
         time.sleep(random.uniform(0, 0.06))
         os.kill(child, signal.SIGKILL)
         os.waitpid(child, 0)
-        owed["k%d" % turn] = struct.unpack("<Q", answered[:8])[0]
+        (owed[name.decode()],) = struct.unpack("<Q", answered[:8])
+    see_windows(server, windows.ids)
+    took, summary = ended(server)
+    watcher.thread.join(5)
+    see_ticks(watcher.told[1:], owed)
+    owe(summary["steps"] >= len(watcher.told), "steps are lost")
+    return "%d ticks answered, %d heard, %d steps, ended in %.2f s" % (
+        sum(owed.values()), len(watcher.told) - 1, summary["steps"], took)
+
+
+def see_windows(server, own):
+    """Only these windows are left."""
     link = Link(server.ipc)
     for _ in range(200):
-        if open_ids(link) == [own]:
+        left = open_ids(link)
+        if left == own:
             break
         time.sleep(0.05)
-    owe(open_ids(link) == [own], "windows of killed clients are left: %s" % open_ids(link))
-    marks = json.loads(link.ask(GET_MARKS))
-    see_marks(marks, owed)
+    owe(left == own, "windows of killed clients are left: %s" % left)
     link.close()
-    took, summary = ended(server)
-    see_marks(marks_in(summary["tree"]) or marks, owed)
-    owe(summary["steps"] >= sum(owed.values()), "steps are lost")
-    return "%d marks answered, %d there, %d steps, ended in %.2f s" % (sum(owed.values()), len(marks), summary["steps"], took)
 
 
-def see_marks(marks, owed):
-    """Each mark that was answered is there, and of each client at most the one after them."""
-    there = set(marks)
-    owe(len(there) == len(marks), "a mark is there twice")
+def see_ticks(told, owed):
+    """Of each client each tick that was answered was heard, in order, and at most the one after them."""
     for name, count in owed.items():
-        for number in range(count):
-            owe("%s.%d" % (name, number) in there, "the mark %s.%d was answered and is lost" % (name, number))
-        owe("%s.%d" % (name, count + 1) not in there, "a mark that was never sent is there")
+        heard = [text.split(".")[1] for text in told if text.split(".")[0] == name]
+        owe(heard == [str(number) for number in range(len(heard))], "ticks of %s are lost: %s" % (name, heard))
+        owe(count <= len(heard) <= count + 1, "%d ticks of %s were answered, %d heard" % (count, name, len(heard)))
 
 
 def halves():
