@@ -52,7 +52,6 @@ def fixed(connections, count):
     return answered
 
 
-nops = {}
 for at, count in enumerate([2, 16, 128]):
     server = Server(program, folder)
     windows = Windows(server.clients, count)
@@ -61,16 +60,17 @@ for at, count in enumerate([2, 16, 128]):
         told = "" if wanted is None else "; %d over one is wanted, %.2f times that" % (wanted[at], one / wanted[at])
         print("%d windows, %s: %d a second over one connection, %d over four (%.0f and %.0f us of the server's processor time each)%s"
               % (count, name, one, four, cost, cost_four, told), flush=True)
-        if name == "nop":
-            nops[count] = (one, four)
     took, summary = server.end()
     print("%d windows: %d steps, ended in %.2f s" % (count, summary["steps"], took), flush=True)
     windows.close()
 
-for at, connections in enumerate([1, 4]):
-    alone = fixed(connections, 50000)
-    print("fixed reply over %d: %d a second; nop with 2 windows is %.2f of that (0.5 is wanted)"
-          % (connections, alone, nops[2][at] / alone), flush=True)
+server = Server(program, folder)
+for connections in [1, 4]:
+    pairs = [(rate(server, connections, RUN_COMMAND, ["nop"])[0], fixed(connections, 20000)) for _ in range(3)]
+    nop, alone = [max(answered) for answered in zip(*pairs)]
+    print("nop beside a fixed reply, over %d: %d and %d a second, %.2f of it (0.5 over one is wanted)"
+          % (connections, nop, alone, nop / alone), flush=True)
+server.end()
 
 server = Server(program, folder)
 time.sleep(1)
