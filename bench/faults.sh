@@ -2,7 +2,7 @@
 # Sees that i3desk stands what clients may do to it: they are killed at any moment, leave half frames and half lines open, never
 # read, come 10,000 times one after another, or wait when it is told to exit. Each time the server must end within 11 seconds,
 # with status 0 and its summary, and nothing that was answered may be lost. Then what it does with the files of its sockets.
-# usage: bench/faults.sh [I3DESK [BENCH_SERVER]]
+# usage: bench/faults.sh [I3DESK]
 set -eu
 . "$(dirname "$0")/serving.sh"
 
@@ -240,11 +240,10 @@ def exit_while_waiting():
     last.send(RUN_COMMAND, b"exit")
     took, summary = server.ended(start)
     owe(took < LONGEST, "it ended after %.1f s" % took)
-    steps = summary["steps"]
-    owe(steps >= 16 + 4 + 1, "steps are lost: %d" % steps)
+    owe(summary["steps"] >= 16 + 4 + 1, "steps are lost: %d" % summary["steps"])
     for link in waiting + links + clients:
         see_end(link)
-    return "%d steps, ended in %.2f s" % (steps, took)
+    return "%d steps, ended in %.2f s" % (summary["steps"], took)
 
 
 def see_end(link):

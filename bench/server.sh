@@ -6,6 +6,8 @@
 # usage: bench/server.sh [I3DESK [BENCH_SERVER]]
 set -eu
 . "$(dirname "$0")/serving.sh"
+client=${2:-$here/crates/bench_server/out/bench_server}
+[ -x "$client" ] || "$here/run" bench_server --help >/dev/null
 
 python3 - "$server" "$client" "$folder" "$here/bench" <<'PROGRAM'
 import os, subprocess, sys, threading, time
