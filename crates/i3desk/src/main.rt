@@ -13,10 +13,12 @@ use std::rt::Files;
 use std::sync::Wait;
 use std::thread::Threads;
 use wm_crew::ServeStatus;
-use wm_json::VERSION;
 use wm_ports::{StdSink, StdSource};
 use wm_serve::serve;
 use wm_sockets::RealClock;
+
+/// What `--version` writes.
+const VERSION: &str = "i3desk 1.0.0";
 
 /// What `--help` writes.
 const HELP: &str = "\
