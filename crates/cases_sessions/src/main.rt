@@ -2,13 +2,19 @@
 #![tactic(auto)]
 
 mod actors;
+mod awaiting;
 mod beside;
 mod counted;
+mod desks;
+mod doors;
 mod gated;
 mod gates;
+mod given;
 mod habits;
 mod links;
 mod others;
+mod rehearsing;
+mod replaying;
 mod seats;
 mod serving;
 mod speech;
@@ -16,9 +22,12 @@ mod telling;
 mod working;
 
 use actors::{tell_acted, tell_painter, tell_timing};
+use awaiting::tell_awaited;
 use beside::{tell_beside, tell_client_beside, tell_together};
 use case_data::{Fault, Words};
+use desks::tell_serve;
 use habits::{tell_habit, tell_timer};
+use rehearsing::tell_rehearse;
 use serving::{tell_client, tell_cuts, tell_many, tell_session};
 use std::sync::Wait;
 use std::thread::Threads;
@@ -102,6 +111,9 @@ fn tell<R: Threads + Wait + Sync>(
         "acted" => tell_acted(wait, words, out),
         "ipc-worker" => tell_ipc_worker(wait, words, out),
         "client-worker" => tell_client_worker(wait, words, out),
+        "serve" => tell_serve(wait, words, out),
+        "awaited" => tell_awaited(wait, words, out),
+        "rehearse" => tell_rehearse(wait, words, out),
         _ => Err(Fault::BadLine),
     }
 }

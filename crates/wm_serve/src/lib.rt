@@ -11,5 +11,6 @@ mod serving;
 mod summing;
 mod words;
 
+pub use desk::run_desk;
 pub use rehearsing::rehearse;
 pub use serving::serve;
