@@ -83,10 +83,8 @@ pub fn run_all<
     listens: &mut [A],
     builds: &mut [B],
 ) -> Option<Fault>
-    requires listens { length listens.old ≡ length passes.old }
-    requires builds { length builds.old ≡ length passes.old }
-    requires ready { IsReady (D.is_of server.now.door.now) D.carried timer.old × IsReady (D.is_of server.now.door.now) D.carried painter.old
-        × All (IsReady (D.is_of server.now.door.now) D.carried) passes.old }
+    requires places { (length listens.old ≡ length passes.old) × (length builds.old ≡ length passes.old) }
+    requires ready { IsReady (D.is_of server.now.door.now) D.carried timer.old × IsReady (D.is_of server.now.door.now) D.carried painter.old × All (IsReady (D.is_of server.now.door.now) D.carried) passes.old }
     ensures { AllRan L.told L.faults A.told A.faults B.log (D.is_of server.now.door.now) D.carried server.now.ipc server.now.hold_ms
         (crew passes.old timer.old painter.old) (crew passes.new timer.new painter.new)
         (outside listens.old builds.old (S.taken frames.old) (S.faults frames.old) (C.told clock.old))
@@ -99,8 +97,7 @@ pub fn run_all<
     { timer_loop(alloc, rt, server.door, timer, clock, server.hold_ms) };
     let mut others = || -> (ActorEnd, Option<Fault>)
         requires { IsSync R.row × IsSync D.row × IsSend L.row × IsSend A.row × IsSend S.row × IsSend P.row × IsSend B.row
-            × (length listens.now ≡ length passes.now) × (length builds.now ≡ length passes.now)
-            × IsReady (D.is_of server.now.door.now) D.carried painter.now × All (IsReady (D.is_of server.now.door.now) D.carried) passes.now }
+            × (length listens.now ≡ length passes.now) × (length builds.now ≡ length passes.now) × IsReady (D.is_of server.now.door.now) D.carried painter.now × All (IsReady (D.is_of server.now.door.now) D.carried) passes.now }
         ensures { D.is_of server.entry.now.door.now painter.exit.now
             × Pictured (D.carried painter.entry.now) (D.carried painter.exit.now)
             (screen (S.taken frames.entry.now) (S.faults frames.entry.now)) (screen (S.taken frames.exit.now) (S.faults frames.exit.now)) result.0
