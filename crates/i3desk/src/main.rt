@@ -84,21 +84,34 @@ fn answer<R: Threads + Wait + Files + Net + Sync>(
     }
 }
 
-/// Serves by the words, with doors on the sockets where there are none.
+/// Serves by the words, with doors on the sockets where there are none. Whatever comes, the sockets' files are removed.
 fn run<R: Threads + Wait + Files + Net + Sync>(
     rt: &HostRuntime,
     system: &R,
     words: &[String],
 ) -> Result<ServeStatus, AllocError> {
     let sockets = Sockets::open(rt, system, words.is_empty());
+    let status = run_at(rt, system, words, &sockets);
+    sockets.remove(system);
+    status
+}
+
+/// Serves by the words, with doors on these sockets.
+fn run_at<R: Threads + Wait + Files + Net + Sync>(
+    rt: &HostRuntime,
+    system: &R,
+    words: &[String],
+    sockets: &Sockets,
+) -> Result<ServeStatus, AllocError> {
     let mut doors = sockets.doors(rt.alloc())?;
     let mut builds = builds(rt.alloc())?;
     let mut source = StdSource::new(rt.stdin());
     let mut frames = StdSink::new(rt.stdout());
     let Ok(mut clock) = RealClock::new(rt) else {
+        let _ = eprintln!(rt; "the system's clock cannot be read");
         return Ok(ServeStatus::NoMemory);
     };
-    let status = serve(
+    Ok(serve(
         rt.alloc(),
         system,
         words,
@@ -107,9 +120,7 @@ fn run<R: Threads + Wait + Files + Net + Sync>(
         &mut builds,
         &mut frames,
         &mut clock,
-    );
-    sockets.remove(system);
-    Ok(status)
+    ))
 }
 
 /// Writes a text and a line feed to standard output.
