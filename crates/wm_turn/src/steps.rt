@@ -15,6 +15,8 @@ use crate::stands::Stands;
 use atomic_table::Shared;
 use crossbeam_utils::Backoff;
 use std::sync::Wait;
+use std::thread::Parker;
+use std::time::Duration;
 
 /// What the threads share.
 pub(crate) type Common<V> = Shared<Option<V>, ViewOf<V>, Key<V>, InTurn<V>>;
@@ -28,6 +30,9 @@ const SERVING: usize = 1;
 /// The word of the number of entries.
 const COUNT: usize = 2;
 
+/// How many waits of a waiter are awake, each twice as long as the one before.
+const AWAKE: u32 = 7;
+
 /// Draws a ticket, and waits until it is served.
 pub(crate) fn wait_for_turn<V: Stands, R: Wait>(rt: &R, common: &Common<V>, place: &mut Place<V>)
     requires at { IsAt common.now.table_id place.old }
@@ -37,13 +42,26 @@ pub(crate) fn wait_for_turn<V: Stands, R: Wait>(rt: &R, common: &Common<V>, plac
 {
     let number = common.fetch_add::<Draw>(place, TICKET, 1);
     let backoff = Backoff::new();
+    let mut looks = 0;
     for _ in rt.forever() {
         if common.load::<Watch>(place, SERVING) == number {
             return;
         }
-        backoff.snooze();
+        wait(rt, &backoff, looks);
+        looks = looks.saturating_add(1);
     }
     unreachable!()
+}
+
+/// Waits a little, after so many looks. The first waits are awake, since most turns are short. Later ones leave the processor to
+/// whoever has the turn, or is to have it before: a thread that only yields keeps it from running where there are more
+/// threads than processors. Nothing is promised of the time.
+fn wait<R: Wait>(rt: &R, backoff: &Backoff, looks: u32) {
+    if looks < AWAKE {
+        backoff.spin();
+    } else {
+        Parker::new().park_timeout(rt, Duration::from_micros(1));
+    }
 }
 
 /// Notes the count, and takes the value out of the slot.
