@@ -1,1 +1,2 @@
 pub mod IdMap
+pub mod Spread

@@ -2,5 +2,6 @@
 #![tactic(auto)]
 
 mod map;
+mod spread;
 
 pub use map::IdMap;

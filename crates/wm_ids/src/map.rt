@@ -5,6 +5,7 @@ ghost use Rattle.std.specs.List.Sorted.{IsStrictlySortedBy};
 ghost use Rattle.std.specs.Map.{keys_of, lookup, remove_entry, set_value};
 ghost use Rattle.std.specs.Ordering.{nat_cmp};
 
+use crate::spread::ByFours;
 use std::alloc::Global;
 use std::collections::HashMap;
 use std::marker::Model;
@@ -15,7 +16,7 @@ use wm_base::NoMemory;
 /// once, however high their ids.
 #[derive(Drop)]
 pub struct IdMap<V> {
-    values: HashMap<u32, V>,
+    values: HashMap<u32, V, ByFours>,
 }
 
 impl<V> Model for IdMap<V> {
@@ -37,7 +38,7 @@ impl<V: Drop> IdMap<V> {
         ensures ordered { IsStrictlySortedBy nat_cmp (keys_of result) }
     {
         IdMap {
-            values: HashMap::new(alloc),
+            values: HashMap::with_hasher(alloc, ByFours),
         }
     }
 
