@@ -17,7 +17,7 @@ i3replay: replays scripts of windows, draws their frames, and answers frames of 
 
 usage: i3replay replay < SCRIPT    write the answers and frames of a script
        i3replay draw < SCRIPT      write the last frame of a script as a picture, a portable pixmap
-       i3replay ipc < FRAMES       write the replies to the messages of i3-ipc
+       i3replay ipc < FRAMES       write the replies to the messages of i3-ipc, and events
        i3replay --help             write this text
        i3replay --version          write the version
 
@@ -34,8 +34,9 @@ and then:
   output-remove NAME                      remove it
   reserve NAME TOP RIGHT BOTTOM LEFT      keep its edges free
   run TEXT                                run the commands of a text, as `run layout splitv`
+  tick \"T\"                                tell a text to all who watch the desk
   paint                                   write the frame
-  marks                                   write all marks
+  tree, workspaces, outputs, marks        write what i3-ipc replies to GET_TREE, GET_WORKSPACES, GET_OUTPUTS, GET_MARKS
   ack ID SERIAL                           acknowledge the configure of this serial
   buffer ID INK WxH                       give the window a buffer
   deadline N                              the time of transaction N is over
@@ -44,9 +45,8 @@ and then:
 Each of these is of caller 0, or of another one with `@WHO ` in front. A frame shows an arrangement only
 once each window whose size it changes has given a buffer for it or was closed, or its deadline came.
 
-The commands on layouts, focus, moves, marks, workspaces, outputs, floating windows, the scratchpad, sizes, borders, gaps
-and `kill` are done; the others are read, and answered with `not built yet`. Of the messages of i3-ipc RUN_COMMAND and
-GET_VERSION do what they say; the other types up to 12 are answered {\"success\":false}, and those above have no reply.
+All commands are done but `append_layout`, which changes nothing and is answered with `not built yet`. Each message of i3-ipc has
+its reply, and the events that were subscribed follow the reply to the message that they came with; types above 12 have none.
 
 Exit status: 0 done, 2 bad words, 3 bad script, 4 bad frames, 5 frames cut short, 6 input too large, 7 read fault, 8 write fault, 9 no memory.";
 
