@@ -1,8 +1,6 @@
 //! What is seen, as JSON.
 ghost use Rattle.std.specs.Prelude.{◌≡◌, IfOk, codes};
 ghost use Rattle.serde_json.specs.View.{view};
-ghost use Rattle.wm_json.specs.Nodes.{node_text};
-ghost use Rattle.wm_json.specs.Spaces.{outputs_text, workspaces_text};
 ghost use Rattle.wm_talk.specs.Told.{text_object, view_json};
 ghost use Rattle.wm_talk.specs.Values.{text_data};
 
@@ -10,10 +8,8 @@ use serde_json::{Value, json};
 use std::alloc::{AllocError, Global};
 use wm_base::NoMemory;
 use wm_core::View;
-use wm_json::{
-    NodeView, OutputView, WorkspaceView, compact, node_value, outputs_value, texts_json,
-    workspaces_value,
-};
+use wm_json::{compact, texts_json};
+use wm_written::{node_json, outputs_json, workspaces_json};
 
 /// The JSON of what is seen; empty where no message looks at it.
 pub fn view_json(alloc: Global, view: &View) -> Result<Vec<u8>, NoMemory>
@@ -29,30 +25,6 @@ pub fn view_json(alloc: Global, view: &View) -> Result<Vec<u8>, NoMemory>
         View::Config(config) => config_json(alloc, config.as_str()),
         _ => Ok(Vec::new(alloc)),
     }
-}
-
-/// The JSON of a node, with its subtree in it.
-fn node_json(alloc: Global, node: &NodeView) -> Result<Vec<u8>, NoMemory>
-    ensures { IfOk result (λ bytes. bytes.items ≡ node_text node.now) }
-{
-    let value = node_value(alloc, node)?;
-    compact(alloc, &value)
-}
-
-/// The JSON of the array of the workspaces.
-fn workspaces_json(alloc: Global, spaces: &[WorkspaceView]) -> Result<Vec<u8>, NoMemory>
-    ensures { IfOk result (λ bytes. bytes.items ≡ workspaces_text spaces.now) }
-{
-    let value = workspaces_value(alloc, spaces)?;
-    compact(alloc, &value)
-}
-
-/// The JSON of the array of the outputs.
-fn outputs_json(alloc: Global, outputs: &[OutputView]) -> Result<Vec<u8>, NoMemory>
-    ensures { IfOk result (λ bytes. bytes.items ≡ outputs_text outputs.now) }
-{
-    let value = outputs_value(alloc, outputs)?;
-    compact(alloc, &value)
 }
 
 /// The object of a name.

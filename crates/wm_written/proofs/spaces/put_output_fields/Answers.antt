@@ -1,0 +1,6 @@
+use Rattle.std.proofs.lemmas.Result.{on_ok_weaker}
+use Rattle.wm_written.proofs.SentLemmas.{sends_last, sends_then, text_is}
+use Rattle.wm_written.proofs.spaces.put_output_fields.Goals as goal
+
+pub returns : goal.returns
+returns c = on_ok_weaker _ (λ last. sends_then c.in_ok-put_flag.ensures (sends_then (text_is c.in_ok-put_text.ensures c.as_str.ensures.value) (sends_then (text_is c.in_ok-put_text-2.ensures c.as_str-2.ensures.value) (sends_then c.in_ok-put_flag-2.ensures (sends_last last))))) c.put_rect.ensures
