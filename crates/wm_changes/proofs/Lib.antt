@@ -4,5 +4,6 @@ pub mod FactLemmas
 pub mod FewLemmas
 pub mod FoundLemmas
 pub mod FoundSpaceLemmas
+pub mod SameLemmas
 pub mod StillLemmas
 pub mod ToldLemmas

@@ -16,7 +16,7 @@ use Rattle.wm_base.specs.declared.geometry.Rect.{Rect}
 use Rattle.wm_base.specs.declared.ids.ConId.{ConId}
 use Rattle.wm_changes.specs.declared.words.Change.{Change}
 use Rattle.wm_changes.specs.declared.words.Change.TheVariants.{Close, Empty}
-use Rattle.wm_changes.specs.Changes.{changes, close_line, empty_line, focus_events, space_line, told, window_line}
+use Rattle.wm_changes.specs.Changes.{changes, close_line, empty_line, focus_events, gone_events, here_events, space_line, told, window_line}
 use Rattle.wm_changes.specs.Differences.{differences, same_flag, same_id, space_words, title, window_words}
 use Rattle.wm_changes.specs.Facts.{SpaceFact, WindowFact, put_spaces, put_windows, spaces, spaces_in, top, windows, windows_in}
 use Rattle.wm_changes.specs.OutputChanges.{are_kept, has_output, is_kept, is_output, outputs_differ, same_edges}
@@ -149,11 +149,32 @@ keyed_spaces (s ∷ ss) = keyed_insert (λ s. s.part.id.0) s (put_spaces ss []) 
 focus_still : (t : TreeValue) (a : List Placed) → focus_events t a t a ≡ []
 focus_still t a = rw (same_number (shown t).0, same_number (focused t).0) refl
 
--- a tree that is as it was tells nothing
-pub nothing_told : (t : TreeValue) (a : List Placed) → changes t a t a ≡ []
-nothing_told t a =
+here_still : (t : TreeValue) (a : List Placed) → here_events t t a ≡ []
+here_still t a =
     let windows_there : Found (windows t) (windows t) = found_all (windows t) (sorted_windows (windows_in top t.nodes)) in
     let windows_keyed : Keyed (λ (w : WindowFact). w.part.id.0) (windows t) = keyed_windows (windows_in top t.nodes) in
     let spaces_there : Found (spaces t) (spaces t) = found_all (spaces t) (sorted_spaces (spaces_in (first_kids t.nodes))) in
     let spaces_keyed : Keyed (λ (s : SpaceFact). s.part.id.0) (spaces t) = keyed_spaces (spaces_in (first_kids t.nodes)) in
-    rw (outputs_stay t, spaces_still t a (spaces t) spaces_there spaces_keyed, windows_still t a (windows t) windows_there windows_keyed, closed_still t a (windows t) windows_there windows_keyed, emptied_still t a (spaces t) spaces_there spaces_keyed) (focus_still t a)
+    rw (outputs_stay t, spaces_still t a (spaces t) spaces_there spaces_keyed, windows_still t a (windows t) windows_there windows_keyed) refl
+
+gone_still : (t : TreeValue) (a : List Placed) → gone_events t a t ≡ []
+gone_still t a =
+    let windows_there : Found (windows t) (windows t) = found_all (windows t) (sorted_windows (windows_in top t.nodes)) in
+    let windows_keyed : Keyed (λ (w : WindowFact). w.part.id.0) (windows t) = keyed_windows (windows_in top t.nodes) in
+    let spaces_there : Found (spaces t) (spaces t) = found_all (spaces t) (sorted_spaces (spaces_in (first_kids t.nodes))) in
+    let spaces_keyed : Keyed (λ (s : SpaceFact). s.part.id.0) (spaces t) = keyed_spaces (spaces_in (first_kids t.nodes)) in
+    rw (closed_still t a (windows t) windows_there windows_keyed, emptied_still t a (spaces t) spaces_there spaces_keyed) refl
+
+-- of trees with the same nodes and the same urgent windows only what is focused is told
+pub only_focus : (t u : TreeValue) (a b : List Placed) → t.nodes ≡ u.nodes → t.urgent ≡ u.urgent → changes t a u b ≡ focus_events t a u b
+only_focus t u a b nodes urgent =
+    let here : here_events t u b ≡ [] =
+    ap (λ n. here_events (record t { nodes = n }) u b) nodes
+    ∙ ap (λ g. here_events (record t { nodes = u.nodes; urgent = g }) u b) urgent
+    ∙ here_still u b in
+    let gone : gone_events t a u ≡ [] = ap (λ n. gone_events t a (record u { nodes = n })) (sym nodes) ∙ gone_still t a in
+    rw (here, gone) refl
+
+-- a tree that is as it was tells nothing
+pub nothing_told : (t : TreeValue) (a : List Placed) → changes t a t a ≡ []
+nothing_told t a = only_focus t t a a refl refl ∙ focus_still t a

@@ -1,13 +1,14 @@
 //! The events of two trees.
 ghost use Rattle.std.specs.Prelude.{◌≡◌, ◌++◌, IfOk, OnOk};
-ghost use Rattle.wm_changes.specs.Changes.{changes, focus_events, gone_events, here_events, output_events};
+ghost use Rattle.wm_changes.specs.Changes.{changes, gone_events, here_events, output_events};
 ghost use Rattle.wm_changes.specs.Scene.{IsScene};
 ghost use Rattle.wm_tree.specs.Sound.{IsSound};
 
-use crate::focusing::{tell_space_focus, tell_window_focus};
 use crate::lines::{tell_closed, tell_emptied, tell_spaces, tell_windows};
 use crate::outputs::outputs_differ;
+use crate::refocusing::{focus_changes, tell_focus};
 use crate::scene::Scene;
+use crate::still::are_still;
 use crate::viewer::Viewer;
 use std::alloc::Global;
 use wm_arrange::Arrangement;
@@ -27,6 +28,9 @@ pub fn changes(
     requires after { IsSound after.now }
     ensures { IfOk result (λ events. events.items ≡ changes before.now a.now.parts after.now b.now.parts) }
 {
+    if are_still(before, after) {
+        return focus_changes(alloc, before, a, after, b);
+    }
     match Scene::new(alloc, before) {
         Ok(old) => changes_from(alloc, &old, a, after, b),
         Err(error) => Err(error),
@@ -123,7 +127,7 @@ fn tell_changes(
 {
     tell_here(events, alloc, after, old, new)?;
     tell_gone(events, alloc, before, old, new)?;
-    tell_focus(events, alloc, before, after, old, new)
+    tell_focus(events, alloc, before, after, old.tree, &old.spaces, new)
 }
 
 /// Tells of outputs, workspaces and windows that are new or differ.
@@ -161,25 +165,6 @@ fn tell_gone(
 {
     tell_closed(events, alloc, viewer, old, new)?;
     tell_emptied(events, alloc, viewer, old, new)
-}
-
-/// Tells of what is focused.
-fn tell_focus(
-    events: &mut Vec<EventBody>,
-    alloc: Global,
-    before: &mut Viewer<'_>,
-    after: &mut Viewer<'_>,
-    old: &Scene<'_>,
-    new: &Scene<'_>,
-) -> Result<(), NoMemory>
-    requires old { IsScene old.now }
-    requires new { IsScene new.now }
-    requires old_tree { before.old.tree ≡ old.now.tree.now }
-    requires new_tree { after.old.tree ≡ new.now.tree.now }
-    ensures { OnOk result (events.new.items ≡ events.old.items ++ focus_events old.now.tree.now before.old.parts new.now.tree.now after.old.parts) }
-{
-    tell_space_focus(events, alloc, before, after, old, new)?;
-    tell_window_focus(events, alloc, after, old, new)
 }
 
 /// Tells that outputs differ, where they do.

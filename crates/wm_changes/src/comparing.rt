@@ -72,7 +72,8 @@ pub fn is_marked(before: &Found<'_>, after: &Found<'_>) -> bool
     !same_texts(before.part.marks.items(), after.part.marks.items())
 }
 
-fn same_texts(texts: &[Text], others: &[Text]) -> bool
+/// Whether two lists of texts are the same.
+pub fn same_texts(texts: &[Text], others: &[Text]) -> bool
     ensures { result ≡ pointwise bytes_eq texts.now others.now }
 {
     let mut left = (texts, others);
