@@ -46,10 +46,14 @@ pub record RanRehearsal {B : Type 0} (log : B → Log) (n hold : ℕ) (builds bu
   pub summed : IfSome desk (λ d. (history : List (Entry Step)) → IsRecord d history → IsSummed result (summary (opening_of plan) (history_of history)) left to)
   pub unsummed : IfNone desk ((result ≡ ended) × (to ≡ left))
 
--- Either the configuration was refused, and nothing was written; or it was read to its end and is empty, and then there was no
--- memory for a desk, and nothing was written, or actors rehearsed on it.
+-- builds, frames and clock are as they were
+abbrev pub IsUnused : {B : Type 0} → List B → List B → Screen → Screen → Option (List ℕ) → Option (List ℕ) → Type 0
+IsUnused builds builds' from to clock clock' = (builds' ≡ builds) × (to ≡ from) × (clock' ≡ clock)
+
+-- Either the configuration was refused, and nothing was done; or it was read to its end and is empty, and then there was no
+-- memory for a desk, and nothing was done, or actors rehearsed on it.
 pub data IsRehearsed {B : Type 0} (log : B → Log) (n : ℕ) (read read' : Option (List ℕ)) (read_faults read_faults' : ℕ) (builds builds' : List B) (from to : Screen)
     (clock clock' : Option (List ℕ)) (result : ServeStatus) : Type 0 where
-  Refused : IsRefused result read read' read_faults read_faults' → to ≡ from → IsRehearsed log n read read' read_faults read_faults' builds builds' from to clock clock' result
-  Not_started : ReadsAll read read' [] → result ≡ ended.NoMemory → to ≡ from → IsRehearsed log n read read' read_faults read_faults' builds builds' from to clock clock' result
+  Refused : IsRefused result read read' read_faults read_faults' → IsUnused builds builds' from to clock clock' → IsRehearsed log n read read' read_faults read_faults' builds builds' from to clock clock' result
+  Not_started : ReadsAll read read' [] → result ≡ ended.NoMemory → IsUnused builds builds' from to clock clock' → IsRehearsed log n read read' read_faults read_faults' builds builds' from to clock clock' result
   Has_run : ReadsAll read read' [] → RanRehearsal log n 200 builds builds' from to clock clock' result → IsRehearsed log n read read' read_faults read_faults' builds builds' from to clock clock' result
