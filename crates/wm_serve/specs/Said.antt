@@ -25,7 +25,7 @@ texts_at seen [] = []
 texts_at seen (place ∷ places) = texts_at seen places ++ text_at (entry_at place seen)
 
 -- The entries of a caller run the first so many of the texts that it sends, in order and nothing else, by what it had seen when
--- its link was done with.
+-- its link was done with. An entry behind that is read as the last one that it had seen: a session says no more of it.
 pub record Said (sent : List (List ℕ)) (who : ℕ) (history : List (turn.Entry Step)) : Type 0 where
   pub seen : History
   pub begins : Begins seen (history_of history)
