@@ -1,1 +1,9 @@
+pub mod CallerLemmas
 pub mod DeskLemmas
+pub mod EachLemmas
+pub mod LinkLemmas
+pub mod OnceLemmas
+pub mod RehearsalLemmas
+pub mod SaidLemmas
+pub mod TextLemmas
+pub mod VisitLemmas

@@ -1,7 +1,10 @@
+pub mod Callers
+pub mod Once
 pub mod Plans
 pub mod Rehearsals
 pub mod Rehearsed
 pub mod Running
+pub mod Said
 pub mod Serving
 pub mod Summary
 pub mod Words

@@ -1,11 +1,11 @@
 -- What a rehearsal was.
-use Rattle.std.specs.Prelude.{◌≡◌, ◌*◌, ◌+◌, ◌++◌, ℕ, List, [], length, take, drop, Option, None, IfSome, IfNone}
+use Rattle.std.specs.Prelude.{◌≡◌, ◌*◌, ◌+◌, ◌++◌, ◌<◌, ℕ, List, [], length, take, drop, Option, IfSome, IfNone}
 use Rattle.wm_actors.specs.Pictured.{Screen}
 use Rattle.wm_book.specs.Recorded.{IsRecord, RecordedValue}
 use Rattle.wm_core.specs.Entries.{history_of}
 use Rattle.wm_core.specs.History.{opening_of}
 use Rattle.wm_core.specs.declared.step.Step.{Step}
-use Rattle.wm_crew.specs.declared.status.ServeStatus.TheVariants as status
+use Rattle.wm_crew.specs.declared.status.ServeStatus.TheVariants as ended
 use Rattle.wm_ports.specs.Told.{ReadsAll}
 use Rattle.wm_serve.specs.Plans.{IsEmptyPlan}
 use Rattle.wm_serve.specs.Serving.{IsRefused, IsSummed}
@@ -17,18 +17,21 @@ use Rattle.wm_crew.specs.declared.status.ServeStatus.{ServeStatus}
 use Rattle.wm_layouts.specs.declared.plan.Plan.{Plan}
 use Rattle.wm_serve.specs.Rehearsed.{faults_of, told_of}
 use Rattle.wm_serve.specs.Running.{RanDesk}
-use Rattle.wm_serve.specs.declared.once.OnceListen.{OnceListen}
-use Rattle.wm_serve.specs.declared.rehearsed.RehearsedLink.{RehearsedLink}
+use Rattle.wm_serve.specs.Callers.{doors_of, texts}
+use Rattle.wm_serve.specs.Once.{AreGiven, OnceState, once_told}
+use Rattle.wm_serve.specs.Said.{Said}
 
 -- The actors of a rehearsal ran on a recorded desk at the opening of the plan: n workers for callers, then n for modelled
--- clients, each with a listener of its own; the desk that comes back stands for their history.
+-- clients, each with a listener of its own, which gave it its link; the desk that comes back stands for their history. Where all
+-- of them were told to stop, each caller's entries there run the first of the texts that it sends, by what it had seen when its
+-- link was done with.
 pub record Rehearsed {B : Type 0} (log : B → Log) (plan : Plan) (n hold : ℕ) (builds builds' : List B) (from to : Screen) (clock clock' : Option (List ℕ))
     (desk : Option RecordedValue) (status : ServeStatus) : Type 0 where
-  pub doors : List (OnceListen RehearsedLink)
-  pub doors' : List (OnceListen RehearsedLink)
-  pub two_each : length doors ≡ 2 * n
-  pub ran : RanDesk told_of faults_of (λ _. None) (λ _. 0) log plan n hold (length doors + 2)
-      (outside doors builds from.taken from.faults clock) (outside doors' builds' to.taken to.faults clock') status (λ entries. IfSome desk (λ d. IsRecord d entries))
+  pub doors : List OnceState
+  pub ran : RanDesk told_of faults_of once_told (λ _. 0) log plan n hold (length (doors_of n) + 2)
+      (outside (doors_of n) builds from.taken from.faults clock) (outside doors builds' to.taken to.faults clock') status (λ entries. IfSome desk (λ d. IsRecord d entries))
+  pub given : AreGiven (doors_of n) doors
+  pub said : status ≡ ended.Done → (caller : ℕ) → caller < n → Said (texts caller) caller ran.history
 
 -- The actors of a rehearsal ran on a recorded desk at the opening of the plan of an empty configuration, and wrote their frames.
 -- Where all of them were told to stop, the summary of the history for which the desk stands came then, elsewhere nothing.
@@ -44,10 +47,14 @@ pub record RanRehearsal {B : Type 0} (log : B → Log) (n hold : ℕ) (builds bu
   pub summed : IfSome desk (λ d. (history : List (Entry Step)) → IsRecord d history → IsSummed result (summary (opening_of plan) (history_of history)) left to)
   pub unsummed : IfNone desk ((result ≡ ended) × (to ≡ left))
 
--- Either the configuration was refused, and nothing was written; or it was read to its end and is empty, and then there was no
--- memory for a desk, and nothing was written, or actors rehearsed on it.
+-- builds, frames and clock are as they were
+abbrev pub IsUnused : {B : Type 0} → List B → List B → Screen → Screen → Option (List ℕ) → Option (List ℕ) → Type 0
+IsUnused builds builds' from to clock clock' = (builds' ≡ builds) × (to ≡ from) × (clock' ≡ clock)
+
+-- Either the configuration was refused, and nothing was done; or it was read to its end and is empty, and then there was no
+-- memory for a desk, and nothing was done, or actors rehearsed on it.
 pub data IsRehearsed {B : Type 0} (log : B → Log) (n : ℕ) (read read' : Option (List ℕ)) (read_faults read_faults' : ℕ) (builds builds' : List B) (from to : Screen)
     (clock clock' : Option (List ℕ)) (result : ServeStatus) : Type 0 where
-  Refused : IsRefused result read read' read_faults read_faults' → to ≡ from → IsRehearsed log n read read' read_faults read_faults' builds builds' from to clock clock' result
-  Not_started : ReadsAll read read' [] → result ≡ status.NoMemory → to ≡ from → IsRehearsed log n read read' read_faults read_faults' builds builds' from to clock clock' result
+  Refused : IsRefused result read read' read_faults read_faults' → IsUnused builds builds' from to clock clock' → IsRehearsed log n read read' read_faults read_faults' builds builds' from to clock clock' result
+  Not_started : ReadsAll read read' [] → result ≡ ended.NoMemory → IsUnused builds builds' from to clock clock' → IsRehearsed log n read read' read_faults read_faults' builds builds' from to clock clock' result
   Has_run : ReadsAll read read' [] → RanRehearsal log n 200 builds builds' from to clock clock' result → IsRehearsed log n read read' read_faults read_faults' builds builds' from to clock clock' result

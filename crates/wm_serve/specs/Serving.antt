@@ -72,10 +72,10 @@ pub record Ran {L A B : Type 0} (link_told : L → Option LinkTold) (link_faults
   pub summed : (history : List (Entry Step)) → Stands desk (history_of history) → IsEnded ended result (summary (opening_of plan) (history_of history)) (screen_of left) (screen_of to)
 
 -- Either the configuration was refused, and nothing was done; or it was read to its end and is empty, and then there was no
--- memory for a desk, and nothing was written, or actors ran on it with 8 doors for clients that speak i3-ipc, and deadlines
+-- memory for a desk, and nothing was done, or actors ran on it with 8 doors for clients that speak i3-ipc, and deadlines
 -- after 200 milliseconds.
 pub data IsServed {L A B : Type 0} (link_told : L → Option LinkTold) (link_faults : L → ℕ) (told : A → Option (ListenTold L)) (faults : A → ℕ) (log : B → Log)
     (read read' : Option (List ℕ)) (read_faults read_faults' : ℕ) (from to : Outside A B) (result : ServeStatus) : Type 0 where
   Refused : IsRefused result read read' read_faults read_faults' → to ≡ from → IsServed link_told link_faults told faults log read read' read_faults read_faults' from to result
-  Not_started : ReadsAll read read' [] → result ≡ status.NoMemory → screen_of to ≡ screen_of from → IsServed link_told link_faults told faults log read read' read_faults read_faults' from to result
+  Not_started : ReadsAll read read' [] → result ≡ status.NoMemory → to ≡ from → IsServed link_told link_faults told faults log read read' read_faults read_faults' from to result
   Has_run : ReadsAll read read' [] → Ran link_told link_faults told faults log 8 200 from to result → IsServed link_told link_faults told faults log read read' read_faults read_faults' from to result

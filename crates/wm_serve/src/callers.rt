@@ -1,5 +1,7 @@
 //! What the callers and the clients of a rehearsal do.
-ghost use Rattle.std.specs.Prelude.{◌≡◌, ◌<◌, ◌≤◌, ◌*◌, ◌^◌, length, IfOk};
+ghost use Rattle.std.specs.Prelude.{◌≡◌, ◌<◌, ◌≤◌, ◌++◌, ◌∷◌, ◌^◌, [], length, IfOk, OnOk};
+ghost use Rattle.wm_serve.specs.Callers.{bytes_of, caller_link, client_link, commands, doors_of, habit_of, last_command, last_text, link_at};
+ghost use Rattle.wm_serve.specs.declared.rehearsed.RehearsedLink.TheVariants as links;
 
 use crate::once::OnceListen;
 use crate::rehearsed::RehearsedLink;
@@ -8,17 +10,6 @@ use wm_base::{List, NoMemory};
 use wm_frames::{Message, encode};
 use wm_habits::{Actor, ActorLink, Habit};
 use wm_ports::MemLink;
-
-/// The commands that each caller sends first, in their order.
-const COMMANDS: [&str; 7] = [
-    "split toggle",
-    "layout toggle all",
-    "focus left",
-    "focus right",
-    "move left",
-    "move right",
-    "floating toggle",
-];
 
 /// How many bytes there is room for on a caller's link: more than the replies to all of its commands.
 const ROOM: usize = 65_536;
@@ -30,41 +21,66 @@ const FIRST: &str = "map 0000ff 640x480 class=\"c\"";
 const RUN_COMMAND: u32 = 0;
 
 /// The listeners of a rehearsal with so many callers and as many clients: those of the callers first.
-pub fn rehearsed_doors(alloc: Global, n: u32) -> Result<Vec<OnceListen<RehearsedLink>>, NoMemory>
-    ensures { IfOk result (λ doors. length doors.items ≡ 2 * n) }
+pub fn rehearsed_doors(alloc: Global, n: u32) -> Result<Vec<OnceListen>, NoMemory>
+    requires { n ≤ 8 }
+    ensures { IfOk result (λ doors. doors.items ≡ doors_of n) }
 {
     let mut doors = Vec::new(alloc);
-    for i in 0..n {
-        doors.push(OnceListen::new(RehearsedLink::Caller(caller(alloc, i)?)))?;
-    }
-    for i in 0..n {
-        doors.push(OnceListen::new(RehearsedLink::Client(client(alloc, i)?)))?;
+    for door in 0..2 * n {
+        let listen = OnceListen::new(link_at(alloc, n, door)?, link_at(alloc, n, door)?);
+        doors.push(listen)?;
     }
     Ok(doors)
 }
 
+/// The link at the door of this number, with so many callers.
+fn link_at(alloc: Global, n: u32, door: u32) -> Result<RehearsedLink, NoMemory>
+    ensures { IfOk result (λ made. made ≡ link_at n door) }
+{
+    if door < n {
+        return Ok(RehearsedLink::Caller(caller(alloc, door)?));
+    }
+    Ok(RehearsedLink::Client(client(alloc, door - n)?))
+}
+
 /// The link of a caller: its commands twice, and `exit` where it is the first.
-fn caller(alloc: Global, i: u32) -> Result<MemLink, NoMemory> {
+fn caller(alloc: Global, i: u32) -> Result<MemLink, NoMemory>
+    ensures { IfOk result (λ made. links.Caller made ≡ caller_link i) }
+{
     let mut bytes = Vec::new(alloc);
     push_commands(alloc, i, &mut bytes)?;
-    push_commands(alloc, i, &mut bytes)?;
-    if i == 0 {
-        push_command(alloc, "exit", &mut bytes)?;
-    }
+    push_last(alloc, i, &mut bytes)?;
     MemLink::new(alloc, bytes, ROOM, Vec::new(alloc), Vec::new(alloc))
 }
 
-/// Adds the messages of a caller's eight commands.
-fn push_commands(alloc: Global, i: u32, bytes: &mut Vec<u8>) -> Result<(), NoMemory> {
-    for text in COMMANDS {
-        push_command(alloc, text, bytes)?;
+/// Adds the messages of what a caller sends behind its commands: these once more, and `exit` where it is the first.
+fn push_last(alloc: Global, i: u32, bytes: &mut Vec<u8>) -> Result<(), NoMemory>
+    ensures { OnOk result (bytes.new.items ≡ bytes.old.items ++ bytes_of (commands i ++ last_text i)) }
+{
+    push_commands(alloc, i, bytes)?;
+    if i == 0 {
+        return push_command(alloc, "exit", bytes);
     }
+    Ok(())
+}
+
+/// Adds the messages of a caller's eight commands.
+fn push_commands(alloc: Global, i: u32, bytes: &mut Vec<u8>) -> Result<(), NoMemory>
+    ensures { OnOk result (bytes.new.items ≡ bytes.old.items ++ bytes_of (commands i)) }
+{
+    push_command(alloc, "split toggle", bytes)?;
+    push_command(alloc, "layout toggle all", bytes)?;
+    push_command(alloc, "focus left", bytes)?;
+    push_command(alloc, "focus right", bytes)?;
+    push_command(alloc, "move left", bytes)?;
+    push_command(alloc, "move right", bytes)?;
+    push_command(alloc, "floating toggle", bytes)?;
     push_command(alloc, last_command(i), bytes)
 }
 
 /// The last of a caller's eight commands.
 fn last_command(i: u32) -> &'static str
-    ensures { length result.now ≤ 18 }
+    ensures { result.now ≡ last_command i }
 {
     match i % 4 {
         0 => "workspace number 1",
@@ -75,8 +91,10 @@ fn last_command(i: u32) -> &'static str
 }
 
 /// Adds the message that runs a command.
+#[tactic(auto, unfolding(crate::specs::Callers::bytes_of))]
 fn push_command(alloc: Global, text: &str, bytes: &mut Vec<u8>) -> Result<(), NoMemory>
     requires { length text.now < 2 ^ 32 }
+    ensures { OnOk result (bytes.new.items ≡ bytes.old.items ++ bytes_of (text.now ∷ [])) }
 {
     let mut payload = Vec::new(alloc);
     payload.extend_from_slice(text.as_bytes())?;
@@ -87,13 +105,21 @@ fn push_command(alloc: Global, text: &str, bytes: &mut Vec<u8>) -> Result<(), No
     encode(&message, bytes)
 }
 
-/// The link of a client, whose habit goes by its number.
-fn client(alloc: Global, i: u32) -> Result<ActorLink, NoMemory> {
-    let habit = match i % 4 {
+/// The link of a client, which begins by opening a window.
+fn client(alloc: Global, i: u32) -> Result<ActorLink, NoMemory>
+    ensures { IfOk result (λ made. links.Client made ≡ client_link i) }
+{
+    ActorLink::new(Actor::new(alloc, habit_of(i)), FIRST)
+}
+
+/// The habit of a client, by its number.
+fn habit_of(i: u32) -> Habit
+    ensures { result ≡ habit_of i }
+{
+    match i % 4 {
         0 => Habit::AtOnce,
         1 => Habit::Late { lines: 2 },
         2 => Habit::Never,
         _ => Habit::Wrong,
-    };
-    ActorLink::new(Actor::new(alloc, habit), FIRST)
+    }
 }

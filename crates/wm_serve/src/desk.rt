@@ -44,7 +44,7 @@ pub fn run_desk<
     ensures words { IfOk result (λ ended. ended.1 ≡ status.BadWords → ⊥) }
     ensures opening { IfOk result (λ ended. V.opening ended.0 ≡ V.opening value) }
     ensures err { IfErr result (λ back. back ≡ value) }
-    ensures same { OnErr result (frames.new ≡ frames.old) }
+    ensures same { OnErr result ((doors.new ≡ doors.old) × (builds.new ≡ builds.old) × (frames.new ≡ frames.old) × (clock.new ≡ clock.old)) }
 {
     let seats = doors.len() as u32 + 2;
     let (book, passes) = match Book::start(alloc, value, seats) {

@@ -19,7 +19,7 @@ use wm_ports::{Clock, Sink};
 
 /// Rehearses with `n` callers, 1 to 8, and as many modelled clients, on a recorded desk at the opening of the plan. Each client
 /// opens a window; each caller sends its eight commands twice, and the first one then `exit`. The recorded desk is there
-/// exactly where the status is `Done`. It may wait, and need not return.
+/// exactly where the status is `Done`. Where there is no memory to begin nothing is done. It may wait, and need not return.
 pub fn rehearse<R: Threads + Wait + Sync, S: Sink + Send, C: Clock + Send, B: Build + Send>(
     alloc: Global,
     rt: &R,
@@ -36,7 +36,7 @@ pub fn rehearse<R: Threads + Wait + Sync, S: Sink + Send, C: Clock + Send, B: Bu
     ensures desk { IsTrue (is_some result.0) ↔ (result.1 ≡ status.Done) }
     ensures words { result.1 ≡ status.BadWords → ⊥ }
     ensures opening { IfSome result.0 (λ desk. desk.desk.plan ≡ plan) }
-    ensures ran { ((result.1 ≡ status.NoMemory) × (frames.new ≡ frames.old)) ⊎ Rehearsed B.log plan n hold_ms builds.old builds.new
+    ensures ran { ((result.1 ≡ status.NoMemory) × (builds.new ≡ builds.old) × (frames.new ≡ frames.old) × (clock.new ≡ clock.old)) ⊎ Rehearsed B.log plan n hold_ms builds.old builds.new
         (screen (S.taken frames.old) (S.faults frames.old)) (screen (S.taken frames.new) (S.faults frames.new)) (C.told clock.old) (C.told clock.new) result.0 result.1 }
 {
     let Ok(mut doors) = rehearsed_doors(alloc, n) else {

@@ -131,7 +131,7 @@ fn serve_doors<
     requires builds { length builds.old ≡ length doors.old.items }
     requires plan { IsEmptyPlan plan }
     requires sound { IsSound plan }
-    ensures { ((result ≡ status.NoMemory) × (frames.new ≡ frames.old)) ⊎ Ran L.told L.faults A.told A.faults B.log 8 200
+    ensures { ((result ≡ status.NoMemory) × (doors.new ≡ doors.old) × (builds.new ≡ builds.old) × (frames.new ≡ frames.old) × (clock.new ≡ clock.old)) ⊎ Ran L.told L.faults A.told A.faults B.log 8 200
         (outside doors.old.items builds.old (S.taken frames.old) (S.faults frames.old) (C.told clock.old))
         (outside doors.new.items builds.new (S.taken frames.new) (S.faults frames.new) (C.told clock.new)) result }
 {
@@ -180,7 +180,7 @@ fn rehearse_whole<R: Threads + Wait + Sync, S: Sink + Send, C: Clock + Send, B: 
     requires plan { IsEmptyPlan plan }
     requires sound { IsSound plan }
     ensures words { result ≡ status.BadWords → ⊥ }
-    ensures ran { ((result ≡ status.NoMemory) × (frames.new ≡ frames.old)) ⊎ RanRehearsal B.log n 200 builds.old builds.new
+    ensures ran { ((result ≡ status.NoMemory) × (builds.new ≡ builds.old) × (frames.new ≡ frames.old) × (clock.new ≡ clock.old)) ⊎ RanRehearsal B.log n 200 builds.old builds.new
         (screen (S.taken frames.old) (S.faults frames.old)) (screen (S.taken frames.new) (S.faults frames.new)) (C.told clock.old) (C.told clock.new) result }
 {
     let (builds, _) = builds.split_at_mut(2 * n as usize);

@@ -1,8 +1,8 @@
-use Rattle.std.proofs.Common.{◌≡◌, length, ◌+◌}
+use Rattle.std.proofs.Common.{◌≡◌, map}
+use Rattle.wm_serve.specs.Callers.{link_at}
+use Rattle.wm_serve.specs.Once.{fresh}
+use Rattle.wm_serve.specs.Running.{numbers}
 use Rattle.wm_serve.proofs.callers.rehearsed_doors.Given as goal
 
-abbrev pub invariant-loop-i : goal.invariant-loop-i
-invariant-loop-i l = length l.doors.items ≡ l.i
-
-abbrev pub invariant-loop-i-2 : goal.invariant-loop-i-2
-invariant-loop-i-2 l = length l.doors.items ≡ l.n + l.i
+abbrev pub invariant-loop-door : goal.invariant-loop-door
+invariant-loop-door l = l.doors.items ≡ map fresh (map (link_at l.n) (numbers 0 l.door))

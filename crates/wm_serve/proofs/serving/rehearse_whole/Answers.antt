@@ -1,4 +1,5 @@
-use Rattle.std.proofs.Common.{◌≡◌, ◌++◌, Some, None, IfSome, IsTrue, inl, inr, ⊎_elim, refl, ap, sym, subst}
+use Rattle.std.proofs.Common.{◌≡◌, ◌∙◌, ◌++◌, ap₂, Some, None, IfSome, IsTrue, inl, inr, ⊎_elim, refl, ap, sym, subst}
+use Rattle.std.proofs.lemmas.List.{take-append-drop}
 use Rattle.std.specs.Option.{is_some}
 use Rattle.wm_actors.specs.Pictured.{screen}
 use Rattle.wm_core.specs.Entries.{history_of}
@@ -29,7 +30,7 @@ returns-in-Some-clause-ran g c =
 
 pub returns-in-None-clause-ran : goal.returns-in-None-clause-ran
 returns-in-None-clause-ran g c =
-    ⊎_elim (λ none. inl none)
+    ⊎_elim (λ none. inl (none.0, ap₂ (λ front back. front ++ back) (none.1 ∙ c.split_at_mut-builds.ensures.front) c.split_at_mut-builds.ensures.back ∙ take-append-drop _ _, none.2, none.3))
     (λ r. inr (record {
       plan = c.args.plan;
       empty = c.requires.plan;
