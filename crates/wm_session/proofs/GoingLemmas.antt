@@ -200,7 +200,7 @@ served_at first now s e h asks cause =
           let is : walk start first.pass.caller now.pass.seen (messages s.received) g.marks ≡ record (walk_at s h.told) { left = s.ahead } =
           ap (λ ms. walk start first.pass.caller now.pass.seen ms g.marks) h.messages_are ∙ walks.is now.pass.seen s.ahead (begins_same now.pass.seen) in
           record {
-            fit = subst (λ ms. Fit start first.pass.caller now.pass.seen ms g.marks) (sym h.messages_are) (walks.fit now.pass.seen s.ahead (begins_same now.pass.seen));
+            fit = λ later b. subst (λ ms. Fit start first.pass.caller later ms g.marks) (sym h.messages_are) (walks.fit later s.ahead b);
             sent = subst (λ w. SinceBy (is_whole e) first.link now.link s.received (frames w.told) s.turns) (sym is) h.sent;
             cause = subst (IsCause e s.received first now) (sym is) (cause h.told);
           });

@@ -1,7 +1,7 @@
 -- What a session did, by how it ended.
 use Rattle.std.specs.Prelude.{◌≡◌, ◌⊎◌, ℕ, suc, ◌^◌, Bool, true, false, List, [], ◌++◌, length, Option, None, Some, IfSome, ⊤}
 use Rattle.wm_criteria.specs.Building.{Grew, Log}
-use Rattle.wm_core.specs.History.{Start, opening_of}
+use Rattle.wm_core.specs.History.{History, Start, opening_of}
 use Rattle.wm_core.specs.Passes.{Begins, Pass}
 use Rattle.wm_core.specs.declared.asked.Asked.{Asked}
 use Rattle.wm_defs.specs.Counts.{Rose}
@@ -59,9 +59,9 @@ IsAsked (end.Truncated count) turns stops = turns ≡ stops
 IsAsked end.Stopped turns stops = turns ≡ stops
 IsAsked other turns stops = (turns ≡ stops) ⊎ (turns ≡ suc stops)
 
--- The marks fit the messages of the bytes received, what they tell was sent, and the end has its cause.
+-- The marks fit the messages of the bytes received, whatever comes later; what they tell was sent, and the end has its cause.
 pub record ServedFrom (start : Start) (first now : Stage) (marks : List (Mark Asked)) (received : List ℕ) (turns : ℕ) (e : SessionEnd) : Type 0 where
-  pub fit : Fit start first.pass.caller now.pass.seen (messages received) marks
+  pub fit : (later : History) → Begins now.pass.seen later → Fit start first.pass.caller later (messages received) marks
   pub sent : SinceBy (is_whole e) first.link now.link received (frames (walk start first.pass.caller now.pass.seen (messages received) marks).told) turns
   pub cause : IsCause e received first now (walk start first.pass.caller now.pass.seen (messages received) marks)
 
