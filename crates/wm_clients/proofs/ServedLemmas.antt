@@ -49,7 +49,7 @@ served_by first now e pass gone h begins is cause leaves =
           let is : walk start first.pass.caller pass.seen (lines_in s.received) g.marks ≡ record (walk_at s h.going.told) { left = lines_in s.pending } =
           ap (λ ls. walk start first.pass.caller pass.seen ls g.marks) lines ∙ walks.is pass.seen (lines_in s.pending) begins in
           record {
-            fit = subst (λ ls. FitsClient start first.pass.caller pass.seen ls g.marks) (sym lines) (walks.fit pass.seen (lines_in s.pending) begins);
+            fit = λ later b. subst (λ ls. FitsClient start first.pass.caller later ls g.marks) (sym lines) (walks.fit later (lines_in s.pending) (begins_more now.pass.seen pass.seen later begins b));
             sent = subst (λ w. SinceBy (is_whole e) first.link now.link s.received w.told s.turns) (sym is) h.going.bytes;
             cause = subst (IsCause e s.received first to) (sym is) (cause s.received (record (walk_at s h.going.told) { left = lines_in s.pending }) (h.cause h.going.told));
           });
@@ -82,7 +82,7 @@ served_gone first now e pass said h is t =
     let to : Pass = record now.pass { seen = seen; mine = gone ++ now.pass.mine } in
     subst (λ p. ServedClient first (stage p now.link now.faults) e) (sym t.pass)
     (served_by first now e to gone h (begins_more now.pass.seen t.before seen t.begins (entry ∷ [], refl)) refl (cause_later e first now to is)
-    (subst (λ b. Leaves b to gone) (sym is) (record { place = length t.before; mark = refl; entry = entry_later entry t.before seen (begins_same seen) })))
+    (subst (λ b. Leaves b to gone) (sym is) (record { place = length t.before; mark = refl; entry = λ later b. entry_later entry t.before later b })))
 
 -- as many receivings as questions, or one more
 turns_of_end : (e : ClientEnd) (s : Spot) → IsAsked e s.turns s.stops → AreTurns s

@@ -1,7 +1,7 @@
 -- What a client's session did, by how it ended.
 use Rattle.std.specs.Prelude.{◌≡◌, ◌⊎◌, ℕ, ◌+◌, suc, ◌^◌, Bool, true, false, List, [], ◌∷◌, ◌++◌, length, Option, None, Some, IfSome, ⊤}
 use Rattle.wm_core.specs.Act as act
-use Rattle.wm_core.specs.History.{Start, opening_of}
+use Rattle.wm_core.specs.History.{History, Start, opening_of}
 use Rattle.wm_core.specs.Passes.{Begins, Pass}
 use Rattle.wm_core.specs.declared.asked.Asked.{Asked}
 use Rattle.wm_cut.specs.Lines.{lines_in, rest_in}
@@ -64,20 +64,20 @@ IsAsked end.Truncated turns stops = turns ≡ stops
 IsAsked end.Stopped turns stops = turns ≡ stops
 IsAsked other turns stops = (turns ≡ stops) ⊎ (turns ≡ suc stops)
 
--- the mark of the step that closes the caller's windows
+-- the mark of the step that closes the caller's windows; that step stands there whatever comes later
 pub record IsGone (pass : Pass) (gone : List (Mark Asked)) : Type 0 where
   pub place : ℕ
   pub mark : gone ≡ Wrote place ∷ []
-  pub entry : entry_at place pass.seen ≡ Some (record { who = pass.caller; act = act.Gone })
+  pub entry : (later : History) → Begins pass.seen later → entry_at place later ≡ Some (record { who = pass.caller; act = act.Gone })
 
 -- that mark, or none where the windows stay open
 abbrev pub Leaves : Bool → Pass → List (Mark Asked) → Type 0
 Leaves true pass gone = IsGone pass gone
 Leaves false pass gone = gone ≡ []
 
--- The marks fit the lines of the bytes received, what they tell was sent, and the end has its cause.
+-- The marks fit the lines of the bytes received, whatever comes later; what they tell was sent, and the end has its cause.
 pub record ServedFrom (start : Start) (first now : Stage) (marks : List (Mark Asked)) (received : List ℕ) (turns : ℕ) (e : ClientEnd) : Type 0 where
-  pub fit : FitsClient start first.pass.caller now.pass.seen (lines_in received) marks
+  pub fit : (later : History) → Begins now.pass.seen later → FitsClient start first.pass.caller later (lines_in received) marks
   pub sent : SinceBy (is_whole e) first.link now.link received (walk start first.pass.caller now.pass.seen (lines_in received) marks).told turns
   pub cause : IsCause e received first now (walk start first.pass.caller now.pass.seen (lines_in received) marks)
 
