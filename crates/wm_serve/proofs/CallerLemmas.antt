@@ -17,9 +17,10 @@ use Rattle.wm_serve.proofs.LinkLemmas.{IsText}
 is_text : (text : List ℕ) → IsUtf8 text → length text ≤ 262144 → IsText text
 is_text text utf8 short = record { utf8 = is_utf8-from_IsUtf8 text utf8; short = short }
 
-both_texts : (xs ys : List (List ℕ)) → AllByRecursion IsText xs → AllByRecursion IsText ys → AllByRecursion IsText (xs ++ ys)
-both_texts [] ys first second = second
-both_texts (x ∷ xs) ys first second = (first.0, both_texts xs ys first.1 second)
+-- what holds of all of two lists holds of all of both
+pub all_both : (P : List ℕ → Type 0) (xs ys : List (List ℕ)) → AllByRecursion P xs → AllByRecursion P ys → AllByRecursion P (xs ++ ys)
+all_both P [] ys first second = second
+all_both P (x ∷ xs) ys first second = (first.0, all_both P xs ys first.1 second)
 
 one_of : (a b c : Bool) → IsText (if a then codes "workspace number 1" else if b then codes "workspace number 2" else if c then codes "workspace number 3" else codes "workspace number 4")
 unfolding encode
@@ -67,7 +68,7 @@ exit_texts true = (is_text (codes "exit") (codes "exit", (refl, refl)) (omega ar
 exit_texts false = tt
 
 pub are_texts : (i : ℕ) → AllByRecursion IsText (texts i)
-are_texts i = both_texts (commands i) (commands i ++ last_text i) (commands_texts i) (both_texts (commands i) (last_text i) (commands_texts i) (exit_texts (i == 0)))
+are_texts i = all_both IsText (commands i) (commands i ++ last_text i) (commands_texts i) (all_both IsText (commands i) (last_text i) (commands_texts i) (exit_texts (i == 0)))
 
 -- the bytes of more texts
 pub bytes_more : (xs ys : List (List ℕ)) → bytes_of (xs ++ ys) ≡ bytes_of xs ++ bytes_of ys

@@ -1,18 +1,20 @@
--- What the callers of a rehearsal said, worker by worker.
+-- What the callers and clients of a rehearsal said, worker by worker.
 use Rattle.std.proofs.Common.{◌≡◌, ◌≤◌, ◌<◌, inl, inr, refl, ap, subst, arith, ℕ, suc, zero, ◌+◌, ◌-◌, Bool, true, false, nat_lt, if◌then◌else◌, List, [], ◌∷◌, length, map, Option, None, Some}
 use Rattle.std.proofs.Math.Nat.{eq-or-lt_of_le}
-use Rattle.std.proofs.lemmas.Bool.{lt-ltb, ltb-false, ltb-true}
+use Rattle.std.proofs.lemmas.Bool.{ltb-false, ltb-true}
 use Rattle.std.proofs.lemmas.List.Elements.{All-head, All-tail}
 use Rattle.std.specs.List.{All}
 use Rattle.atomic_table.specs.Seated.{TableId}
+use Rattle.wm_actors.specs.Clients.{NO_LOG}
 use Rattle.wm_actors.specs.declared.ending.ActorEnd.{ActorEnd}
 use Rattle.wm_actors.specs.declared.ending.ActorEnd.TheVariants as end
 use Rattle.wm_book.specs.Carried.{carried}
+use Rattle.wm_core.specs.Entries.{history_of}
 use Rattle.wm_core.specs.declared.step.Step.{Step}
 use Rattle.wm_criteria.specs.Building.{Log}
 use Rattle.wm_crew.proofs.CrewLemmas.{worse_else, worse_then}
 use Rattle.wm_crew.specs.Crew.{Each, posts}
-use Rattle.wm_crew.specs.Duties.{ServedAt, ServedBy, ServedIpc}
+use Rattle.wm_crew.specs.Duties.{ServedAt, ServedBy}
 use Rattle.wm_crew.specs.Faults.{fault_among, fault_of, rank, worse}
 use Rattle.wm_crew.specs.declared.fault.Fault.{Fault}
 use Rattle.wm_crew.specs.declared.fault.Fault.TheVariants as fault
@@ -23,10 +25,10 @@ use Rattle.wm_serve.specs.Callers.{bytes_of, caller_link, client_link, link_at, 
 use Rattle.wm_serve.specs.Once.{OnceState, fresh, once_told}
 use Rattle.wm_serve.specs.Rehearsed.{faults_of, told_of}
 use Rattle.wm_serve.specs.Running.{IsSeatOf, numbers}
-use Rattle.wm_serve.specs.Said.{Said}
+use Rattle.wm_serve.specs.Said.{Said, texts_of}
 use Rattle.wm_serve.proofs.CallerLemmas.{are_texts}
 use Rattle.wm_serve.proofs.DeskLemmas.{Seat}
-use Rattle.wm_serve.proofs.SaidLemmas.{said_by}
+use Rattle.wm_serve.proofs.SaidLemmas.{said_by, silent_by}
 
 -- ---- no fault among several
 
@@ -51,7 +53,7 @@ neither a b none =
     (none_last a (omega (arith, both.0, ap rank none)), none_last b (omega (arith, both.1, ap rank none)))
 
 -- an actor without a fault was told to stop
-was_stopped : (door : ℕ) (e : ActorEnd) → fault_of door e ≡ None → e ≡ end.Stopped
+pub was_stopped : (door : ℕ) (e : ActorEnd) → fault_of door e ≡ None → e ≡ end.Stopped
 was_stopped door end.Stopped none = refl
 was_stopped door end.ListenFault none = absurd cc
 was_stopped door end.WriteFault none = absurd cc
@@ -60,37 +62,40 @@ was_stopped door end.NoMemory none = absurd cc
 
 -- ---- each worker
 
+-- what the worker of this number had its caller say, by whether it serves one: a client runs no texts
+abbrev pub Heard : Bool → ℕ → List (Entry Step) → Type 0
+Heard true number history = Said (texts number) number history
+Heard false number history = texts_of number (history_of history) ≡ []
+
 module _ {B : Type 0} (log : B → Log) (door : TableId) (plan : Plan) (n : ℕ) (history : List (Entry Step)) where
-  -- the worker of a caller
-  caller_said : (number : ℕ) (build build' : B) (seat : Seat) (listen' : OnceState) (e : ActorEnd) → number < n → e ≡ end.Stopped → IsKnown history seat
-      → ServedAt told_of faults_of once_told (λ _. 0) (IsSeatOf door) carried log n number (new_pass door plan number) (fresh (link_at n number)) build seat listen' build' e
-      → Said (texts number) number history
-  caller_said number build build' seat listen' e less stopped known served =
-      let is : nat_lt number n ≡ true = lt-ltb number n less in
-      let ipc : ServedIpc told_of faults_of once_told (λ _. 0) (IsSeatOf door) carried log (new_pass door plan number) (fresh (caller_link number)) build seat listen' build' e =
-      subst (λ b. ServedBy told_of faults_of once_told (λ _. 0) (IsSeatOf door) carried log b (new_pass door plan number)
-      (fresh (if b then caller_link number else client_link (number - n))) build seat listen' build' e) is served in
-      said_by door plan number (texts number) (record { left = bytes_of (texts number); sent = []; turns = 0 }) (caller_link number) (log build) (are_texts number) refl refl
-      seat history known (log build') listen' 0 0 e stopped ipc.worked
+  -- one worker
+  heard_by : (b : Bool) (number : ℕ) (build build' : B) (seat : Seat) (listen' : OnceState) (e : ActorEnd) → e ≡ end.Stopped → IsKnown history seat
+      → ServedBy told_of faults_of once_told (λ _. 0) (IsSeatOf door) carried log b (new_pass door plan number) (fresh (if b then caller_link number else client_link (number - n))) build seat listen' build' e
+      → Heard b number history
+  heard_by true number build build' seat listen' e stopped known served =
+      said_by door plan number (caller_link number) (log build) seat history known (texts number) (record { left = bytes_of (texts number); sent = []; turns = 0 }) (are_texts number) refl refl
+      (log build') listen' e stopped served.worked
+  heard_by false number build build' seat listen' e stopped known served =
+      silent_by door plan number (client_link (number - n)) NO_LOG seat history known NO_LOG listen' e stopped served.worked
 
   -- workers from a number on, which are as many as their doors
-  pub each_said : (number count : ℕ) (builds builds' : List B) (seats : List Seat) (doors' : List OnceState) (ends : List ActorEnd)
+  pub each_heard : (number count : ℕ) (builds builds' : List B) (seats : List Seat) (doors' : List OnceState) (ends : List ActorEnd)
       → length builds ≡ count → length builds' ≡ count → length seats ≡ count → length doors' ≡ count
       → fault_among number ends ≡ None → All (IsKnown history) seats
       → Each (ServedAt told_of faults_of once_told (λ _. 0) (IsSeatOf door) carried log n) number
       (posts (new_passes door plan number count) (map fresh (map (link_at n) (numbers number count))) builds) (posts seats doors' builds') ends
-      → (caller : ℕ) → number ≤ caller → caller < number + count → caller < n → Said (texts caller) caller history
-  each_said number zero builds builds' seats doors' ends lb lb' ls ld none known each caller from to few = absurd (omega (arith, from, to))
-  each_said number (suc count) (b ∷ bs) (b' ∷ bs') (s ∷ ss) (d' ∷ ds') (e ∷ es) lb lb' ls ld none known each caller from to few =
+      → (worker : ℕ) → number ≤ worker → worker < number + count → Heard (nat_lt worker n) worker history
+  each_heard number zero builds builds' seats doors' ends lb lb' ls ld none known each worker from to = absurd (omega (arith, from, to))
+  each_heard number (suc count) (b ∷ bs) (b' ∷ bs') (s ∷ ss) (d' ∷ ds') (e ∷ es) lb lb' ls ld none known each worker from to =
       let neither_one = neither (fault_of number e) (fault_among (suc number) es) none in
       elim (eq-or-lt_of_le from) [
-        | inl same ↦ subst (λ k. Said (texts k) k history) same
-            (caller_said number b b' s d' e (omega (arith, same, few)) (was_stopped number e neither_one.0) (All-head (IsKnown history) s ss known) each.0)
-        | inr beyond ↦ each_said (suc number) count bs bs' ss ds' es (omega (arith, lb)) (omega (arith, lb')) (omega (arith, ls)) (omega (arith, ld))
-            neither_one.1 (All-tail (IsKnown history) s ss known) each.1 caller beyond (omega (arith, to)) few
+        | inl same ↦ subst (λ k. Heard (nat_lt k n) k history) same
+            (heard_by (nat_lt number n) number b b' s d' e (was_stopped number e neither_one.0) (All-head (IsKnown history) s ss known) each.0)
+        | inr beyond ↦ each_heard (suc number) count bs bs' ss ds' es (omega (arith, lb)) (omega (arith, lb')) (omega (arith, ls)) (omega (arith, ld))
+            neither_one.1 (All-tail (IsKnown history) s ss known) each.1 worker beyond (omega (arith, to))
       ]
-  each_said number (suc count) [] builds' seats doors' ends lb lb' ls ld none known each caller from to few = absurd (omega (arith, lb))
-  each_said number (suc count) (b ∷ bs) [] seats doors' ends lb lb' ls ld none known each caller from to few = absurd (omega (arith, lb'))
-  each_said number (suc count) (b ∷ bs) (b' ∷ bs') [] doors' ends lb lb' ls ld none known each caller from to few = absurd (omega (arith, ls))
-  each_said number (suc count) (b ∷ bs) (b' ∷ bs') (s ∷ ss) [] ends lb lb' ls ld none known each caller from to few = absurd (omega (arith, ld))
-  each_said number (suc count) (b ∷ bs) (b' ∷ bs') (s ∷ ss) (d' ∷ ds') [] lb lb' ls ld none known each caller from to few = absurd each
+  each_heard number (suc count) [] builds' seats doors' ends lb lb' ls ld none known each worker from to = absurd (omega (arith, lb))
+  each_heard number (suc count) (b ∷ bs) [] seats doors' ends lb lb' ls ld none known each worker from to = absurd (omega (arith, lb'))
+  each_heard number (suc count) (b ∷ bs) (b' ∷ bs') [] doors' ends lb lb' ls ld none known each worker from to = absurd (omega (arith, ls))
+  each_heard number (suc count) (b ∷ bs) (b' ∷ bs') (s ∷ ss) [] ends lb lb' ls ld none known each worker from to = absurd (omega (arith, ld))
+  each_heard number (suc count) (b ∷ bs) (b' ∷ bs') (s ∷ ss) (d' ∷ ds') [] lb lb' ls ld none known each worker from to = absurd each

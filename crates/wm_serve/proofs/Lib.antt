@@ -1,9 +1,15 @@
+pub mod ActorLemmas
 pub mod CallerLemmas
+pub mod CalmLemmas
 pub mod DeskLemmas
 pub mod EachLemmas
 pub mod LinkLemmas
 pub mod OnceLemmas
+pub mod PlaceLemmas
 pub mod RehearsalLemmas
 pub mod SaidLemmas
+pub mod SilentLemmas
+pub mod StayLemmas
+pub mod StopLemmas
 pub mod TextLemmas
 pub mod VisitLemmas

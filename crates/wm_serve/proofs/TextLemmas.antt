@@ -21,7 +21,8 @@ use Rattle.wm_turn.specs.declared.view.Mark.{Mark}
 use Rattle.wm_turn.specs.declared.view.Mark.TheVariants.{Wrote, Read}
 use Rattle.wm_session.specs.Places.{at_length, entry_at}
 use Rattle.wm_session.specs.Walk.{Fit, FitsQuery, FitsRead, IsNextLook, IsNextStep, IsStepOf, Walk, answer_at, answered, events_above, next_read, seen_by, walk}
-use Rattle.wm_serve.specs.Said.{text_at, text_in, texts_at}
+use Rattle.wm_serve.specs.Said.{text_in}
+use Rattle.wm_serve.proofs.PlaceLemmas.{text_at, texts_at}
 
 -- the text that a call runs
 abbrev pub call_text : Call → List (List ℕ)

@@ -19,12 +19,12 @@ use Rattle.wm_serve.specs.Rehearsed.{faults_of, told_of}
 use Rattle.wm_serve.specs.Running.{RanDesk}
 use Rattle.wm_serve.specs.Callers.{doors_of, texts}
 use Rattle.wm_serve.specs.Once.{AreGiven, OnceState, once_told}
-use Rattle.wm_serve.specs.Said.{Said}
+use Rattle.wm_serve.specs.Said.{Said, texts_of}
 
 -- The actors of a rehearsal ran on a recorded desk at the opening of the plan: n workers for callers, then n for modelled
 -- clients, each with a listener of its own, which gave it its link; the desk that comes back stands for their history. Where all
--- of them were told to stop, each caller's entries there run the first of the texts that it sends, by what it had seen when its
--- link was done with.
+-- of them were told to stop, each caller's entries there run the first of the texts that it sends, and those of the first caller
+-- all that it sends.
 pub record Rehearsed {B : Type 0} (log : B → Log) (plan : Plan) (n hold : ℕ) (builds builds' : List B) (from to : Screen) (clock clock' : Option (List ℕ))
     (desk : Option RecordedValue) (status : ServeStatus) : Type 0 where
   pub doors : List OnceState
@@ -32,6 +32,7 @@ pub record Rehearsed {B : Type 0} (log : B → Log) (plan : Plan) (n hold : ℕ)
       (outside (doors_of n) builds from.taken from.faults clock) (outside doors builds' to.taken to.faults clock') status (λ entries. IfSome desk (λ d. IsRecord d entries))
   pub given : AreGiven (doors_of n) doors
   pub said : status ≡ ended.Done → (caller : ℕ) → caller < n → Said (texts caller) caller ran.history
+  pub all_said : status ≡ ended.Done → texts_of 0 (history_of ran.history) ≡ texts 0
 
 -- The actors of a rehearsal ran on a recorded desk at the opening of the plan of an empty configuration, and wrote their frames.
 -- Where all of them were told to stop, the summary of the history for which the desk stands came then, elsewhere nothing.

@@ -1,32 +1,23 @@
 -- What a caller said, by its entries in a history.
-use Rattle.std.specs.Prelude.{◌≡◌, ℕ, List, [], ◌∷◌, ◌++◌, length, take, Option, None, Some}
+use Rattle.std.specs.Prelude.{◌≡◌, ℕ, ◌==◌, if◌then◌else◌, List, [], ◌∷◌, ◌++◌, length, take}
 use Rattle.wm_core.specs.Act.{Act}
 use Rattle.wm_core.specs.Act as act
 use Rattle.wm_core.specs.Entries.{history_of}
-use Rattle.wm_core.specs.History.{Entry, History}
-use Rattle.wm_core.specs.Passes.{Begins}
+use Rattle.wm_core.specs.History.{History}
 use Rattle.wm_core.specs.declared.step.Step.{Step}
-use Rattle.wm_session.specs.Places.{entry_at}
 use Rattle.wm_turn.specs.History.{places}
-use Rattle.wm_turn.specs.declared.view.Entry as turn
+use Rattle.wm_turn.specs.declared.view.Entry.{Entry}
 
 -- the text that a step runs
 abbrev pub text_in : Act → List (List ℕ)
 text_in (act.Run text) = text.text ∷ []
 text_in other = []
 
-abbrev pub text_at : Option Entry → List (List ℕ)
-text_at None = []
-text_at (Some entry) = text_in entry.act
+-- the texts that a caller's entries run, in order; the newest entry comes first
+abbrev pub texts_of : ℕ → History → List (List ℕ)
+texts_of who [] = []
+texts_of who (entry ∷ history) = texts_of who history ++ (if entry.who == who then text_in entry.act else [])
 
--- the texts that the entries at these places run, in order; the newest place comes first
-abbrev pub texts_at : History → List ℕ → List (List ℕ)
-texts_at seen [] = []
-texts_at seen (place ∷ places) = texts_at seen places ++ text_at (entry_at place seen)
-
--- The entries of a caller run the first so many of the texts that it sends, in order and nothing else, by what it had seen when
--- its link was done with. An entry behind that is read as the last one that it had seen: a session says no more of it.
-pub record Said (sent : List (List ℕ)) (who : ℕ) (history : List (turn.Entry Step)) : Type 0 where
-  pub seen : History
-  pub begins : Begins seen (history_of history)
-  pub texts : texts_at seen (places who history) ≡ take (length (places who history)) sent
+-- The caller's entries, all that a history has of them, run the first so many of the texts that it sends, in order.
+abbrev pub Said : List (List ℕ) → ℕ → List (Entry Step) → Type 0
+Said sent who history = texts_of who (history_of history) ≡ take (length (places who history)) sent
