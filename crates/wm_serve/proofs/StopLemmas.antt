@@ -1,5 +1,6 @@
 -- Which steps stop a desk: texts that have an exit.
-use Rattle.std.proofs.Common.{◌≡◌, ◌∙◌, refl, sym, ap, ℕ, ◌||◌, Bool, true, false, if◌then◌else◌, List, [], ◌∷◌, ◌++◌, Option, None, Some}
+use Rattle.std.proofs.Common.{◌≡◌, ◌∙◌, refl, sym, ap, ℕ, ◌||◌, Bool, true, false, if◌then◌else◌, List, [], ◌∷◌, Option, None, Some}
+use Rattle.std.proofs.Math.Bool.{or-false, or_assoc}
 use Rattle.std.specs.List.{list_any}
 use Rattle.wm_apply.specs.Batches.{Outcome, command_done, commands_done, group_done, groups_done, outcome, targets}
 use Rattle.wm_apply.specs.Commands.{is_exit}
@@ -13,7 +14,6 @@ use Rattle.wm_core.specs.Act.{Act, CommandText}
 use Rattle.wm_core.specs.Act as act
 use Rattle.wm_core.specs.Windows.{is_window}
 use Rattle.wm_txn.specs.History as commits
-use Rattle.wm_core.specs.History.{Entry, History, Start, effect_after, stopped, tree}
 use Rattle.wm_core.specs.Outputs.{add_answer, added, remove_answer, removed, reserve_answer, reserved}
 use Rattle.wm_core.specs.declared.step.Answer.{Answer}
 use Rattle.wm_core.specs.declared.step.Answer.TheVariants as answers
@@ -36,23 +36,15 @@ abbrev pub exits_in : Option Batch → Bool
 exits_in None = false
 exits_in (Some batch) = exits_among batch.groups
 
-or_once : (a b c : Bool) → (a || b) || c ≡ a || (b || c)
-or_once true b c = refl
-or_once false b c = refl
-
-or_false : (a : Bool) → a || false ≡ a
-or_false true = refl
-or_false false = refl
-
 commands_exit : (env : Env) (found : Targets) (cs : List Command) (o : Outcome) → (commands_done env found cs o).exit ≡ o.exit || list_any is_exit cs
-commands_exit env found [] o = sym (or_false o.exit)
-commands_exit env found (c ∷ cs) o = commands_exit env found cs (command_done env found c o) ∙ or_once o.exit (is_exit c) (list_any is_exit cs)
+commands_exit env found [] o = sym (or-false o.exit)
+commands_exit env found (c ∷ cs) o = commands_exit env found cs (command_done env found c o) ∙ or_assoc o.exit (is_exit c) (list_any is_exit cs)
 
 groups_exit : (env : Env) (subject : Option ConId) (gs : List Group) (o : Outcome) → (groups_done env subject gs o).exit ≡ o.exit || exits_among gs
-groups_exit env subject [] o = sym (or_false o.exit)
+groups_exit env subject [] o = sym (or-false o.exit)
 groups_exit env subject (g ∷ gs) o =
     groups_exit env subject gs (group_done env subject g o)
-    ∙ ap (λ b. b || exits_among gs) (commands_exit env (targets g.criteria subject o.tree) g.commands o) ∙ or_once o.exit (list_any is_exit g.commands) (exits_among gs)
+    ∙ ap (λ b. b || exits_among gs) (commands_exit env (targets g.criteria subject o.tree) g.commands o) ∙ or_assoc o.exit (list_any is_exit g.commands) (exits_among gs)
 
 -- a text that is run stops the desk exactly where it has an exit
 run_stops : (env : Env) (batch : Batch) (t : TreeValue) → (run_effect env (Ready batch) t).stops ≡ exits_among batch.groups
@@ -120,25 +112,3 @@ only_texts env t who (act.Give v buffer) stops = absurd (not_both (effect env t 
     (calm_if (is_window t who v) (if has_no_pixels buffer.size then refused answers.Empty t else telling (commits.Gave v buffer) (λ judge. answers.Done) t) (refused answers.NoView t)
     (calm_if (has_no_pixels buffer.size) (refused answers.Empty t) (telling (commits.Gave v buffer) (λ judge. answers.Done) t) refl refl) refl) stops)
 only_texts env t who (act.Deadline number) stops = absurd cc
-
--- where a desk is to stop an entry ran a text that stopped it
-pub record StoppedBy (start : Start) (history : History) : Type 0 where
-  pub before : History
-  pub entry : Entry
-  pub later : History
-  pub stands : history ≡ later ++ entry ∷ before
-  pub stops : (effect_after start before entry).stops ≡ true
-  pub runs : RunsText entry.act
-
-stopped_step : (start : Start) (entry : Entry) (history : History) (b : Bool) → stopped start history ≡ b → (stopped start history ≡ true → StoppedBy start history)
-    → stopped start (entry ∷ history) ≡ true → StoppedBy start (entry ∷ history)
-stopped_step start entry history true is before stops =
-    let s = before is in
-    record { before = s.before; entry = s.entry; later = entry ∷ s.later; stands = ap (λ h. entry ∷ h) s.stands; stops = s.stops; runs = s.runs }
-stopped_step start entry history false is before stops =
-    let here : (effect_after start history entry).stops ≡ true = sym (ap (λ b. b || (effect_after start history entry).stops) is) ∙ stops in
-    record { before = history; entry = entry; later = []; stands = refl; stops = here; runs = only_texts start.env (tree start history) entry.who entry.act here }
-
-pub stopped_by : (start : Start) (history : History) → stopped start history ≡ true → StoppedBy start history
-stopped_by start [] stops = absurd cc
-stopped_by start (entry ∷ history) stops = stopped_step start entry history (stopped start history) refl (stopped_by start history) stops

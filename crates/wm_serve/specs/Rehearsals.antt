@@ -23,8 +23,8 @@ use Rattle.wm_serve.specs.Said.{Said, texts_of}
 
 -- The actors of a rehearsal ran on a recorded desk at the opening of the plan: n workers for callers, then n for modelled
 -- clients, each with a listener of its own, which gave it its link; the desk that comes back stands for their history. Where all
--- of them were told to stop, each caller's entries there run the first of the texts that it sends, and those of the first caller
--- all that it sends.
+-- of them were told to stop, the texts that each caller's entries there run are a prefix of what it sends, and those of caller 0
+-- are all that it sends.
 pub record Rehearsed {B : Type 0} (log : B → Log) (plan : Plan) (n hold : ℕ) (builds builds' : List B) (from to : Screen) (clock clock' : Option (List ℕ))
     (desk : Option RecordedValue) (status : ServeStatus) : Type 0 where
   pub doors : List OnceState

@@ -18,6 +18,6 @@ abbrev pub texts_of : ℕ → History → List (List ℕ)
 texts_of who [] = []
 texts_of who (entry ∷ history) = texts_of who history ++ (if entry.who == who then text_in entry.act else [])
 
--- The caller's entries, all that a history has of them, run the first so many of the texts that it sends, in order.
+-- The texts that a caller's entries in a history run are a prefix of what it sends, of as many texts as it has entries.
 abbrev pub Said : List (List ℕ) → ℕ → List (Entry Step) → Type 0
 Said sent who history = texts_of who (history_of history) ≡ take (length (places who history)) sent
