@@ -2,6 +2,8 @@
 #![tactic(auto)]
 
 mod fields;
+mod limits;
+mod marks;
 mod reading;
 mod refusal;
 mod saved;
