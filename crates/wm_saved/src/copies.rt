@@ -6,16 +6,7 @@ use crate::saved::{SavedKind, SavedLayout, SavedNode};
 use std::alloc::Global;
 use wm_base::{List, NoMemory, Text};
 use wm_forest::{Swallow, SwallowKey};
-
-fn copy_marks(alloc: Global, marks: &[Text]) -> Result<List<Text>, NoMemory>
-    ensures { IfOk result (λ copy. copy ≡ marks.now) }
-{
-    let mut copy = Vec::with_capacity(alloc, marks.len())?;
-    for mark in marks {
-        copy.push(mark.clone()?)?;
-    }
-    Ok(List::of(copy))
-}
+use wm_json::copy_texts;
 
 fn copy_swallow(alloc: Global, keys: &[(SwallowKey, Text)]) -> Result<Swallow, NoMemory>
     ensures { IfOk result (λ copy. copy.keys ≡ keys.now) }
@@ -71,7 +62,7 @@ fn copy_kind(alloc: Global, kind: &SavedKind) -> Result<SavedKind, NoMemory>
 fn copy_node(alloc: Global, node: &SavedNode) -> Result<SavedNode, NoMemory>
     ensures { IfOk result (λ copy. copy ≡ node.now) }
 {
-    let marks = copy_marks(alloc, node.marks.items())?;
+    let marks = copy_texts(alloc, node.marks.items())?;
     match copy_kind(alloc, &node.kind) {
         Ok(kind) => Ok(SavedNode {
             border: node.border,

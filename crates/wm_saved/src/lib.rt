@@ -10,6 +10,8 @@ mod reading;
 mod refusal;
 mod saved;
 mod swallows;
+#[cfg(test)]
+mod tests;
 
 pub use reading::read_layout;
 pub use refusal::LayoutRefusal;
