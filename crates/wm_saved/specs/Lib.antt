@@ -2,5 +2,6 @@ pub mod Answers
 pub mod Containers
 pub mod Fields
 pub mod Limits
+pub mod Others
 pub mod Reading
 pub mod Swallows

@@ -4,6 +4,7 @@
 mod copies;
 mod fields;
 mod fit;
+mod laws;
 mod limits;
 mod marks;
 mod reading;
@@ -13,6 +14,7 @@ mod swallows;
 #[cfg(test)]
 mod tests;
 
+pub use laws::other_fields_are_passed_over;
 pub use reading::read_layout;
 pub use refusal::LayoutRefusal;
 pub use saved::{SavedKind, SavedLayout, SavedNode};

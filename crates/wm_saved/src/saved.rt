@@ -34,11 +34,29 @@ pub enum SavedKind {
 }
 
 impl fmt::Debug for SavedNode {
-    /// Its border and its marks, and not what is below it.
+    /// All of it but for what is below it.
     fn fmt<W: fmt::Write>(&self, f: &mut fmt::Formatter<W>) -> fmt::Result {
         f.debug_struct("SavedNode")
             .field("border", &self.border)
             .field("marks", &self.marks)
-            .finish_non_exhaustive()
+            .field("kind", &self.kind)
+            .finish()
+    }
+}
+
+impl fmt::Debug for SavedKind {
+    /// All of it but for the nodes of a split.
+    fn fmt<W: fmt::Write>(&self, f: &mut fmt::Formatter<W>) -> fmt::Result {
+        match self {
+            SavedKind::Split { layout, .. } => f
+                .debug_struct("Split")
+                .field("layout", layout)
+                .finish_non_exhaustive(),
+            SavedKind::Placeholder { name, swallows } => f
+                .debug_struct("Placeholder")
+                .field("name", name)
+                .field("swallows", swallows)
+                .finish(),
+        }
     }
 }

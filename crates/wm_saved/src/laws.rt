@@ -1,0 +1,9 @@
+//! Laws of reading layout files.
+ghost use Rattle.wm_saved.specs.Others.{PassesOverOthers};
+
+/// With or without a field of a key that is not read, whatever its value, an object is read as the same container, or
+/// has the same first fault.
+#[tactic(auto, using(crate::proofs::OtherLemmas::passes_over_others))]
+pub fn other_fields_are_passed_over()
+    ensures { PassesOverOthers }
+{}
