@@ -12,15 +12,15 @@ use wm_base::{Limit, NoMemory as OutOfMemory, Str};
 #[derive(Debug, Drop, Error)]
 pub enum LayoutRefusal {
     /// The value at this path is the first fault.
-    #[error("no layout has this value at `{path:?}`")]
+    #[error("no layout has this value at `{}`", .path.as_str())]
     BadField { path: Str },
 
     /// The text at this path is the first fault: it is no plain pattern.
-    #[error("no plain pattern at `{path:?}`")]
+    #[error("no plain pattern at `{}`", .path.as_str())]
     PatternRefused { path: Str },
 
     /// The layout has no fault, and has more than a whole desktop may have.
-    #[error("more than the limit on {limit:?}")]
+    #[error("beyond the limit on {}", .limit.word())]
     Full { limit: Limit },
 
     /// Memory ran out.

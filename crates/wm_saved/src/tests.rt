@@ -6,18 +6,30 @@ use std::test::Fail;
 use wm_base::{Border, Layout};
 use wm_forest::SwallowKey;
 
+/// What this refusal tells.
+fn told_refusal(alloc: Global, refusal: &LayoutRefusal) -> Result<String, Fail> {
+    match refusal {
+        LayoutRefusal::BadField { path } => Ok(format!(in alloc; "bad {}", path.as_str())?),
+        LayoutRefusal::PatternRefused { path } => {
+            Ok(format!(in alloc; "pattern {}", path.as_str())?)
+        }
+        LayoutRefusal::Full { limit } => Ok(format!(in alloc; "full {}", limit.word())?),
+        LayoutRefusal::NoMemory => Ok(String::from_str(alloc, "no memory")?),
+    }
+}
+
+/// What reading this value tells.
+fn told_value(alloc: Global, value: &Value) -> Result<String, Fail> {
+    match read_layout(alloc, value) {
+        Ok(_layout) => Ok(String::from_str(alloc, "ok")?),
+        Err(refusal) => told_refusal(alloc, &refusal),
+    }
+}
+
 /// What reading this text tells.
 fn told(alloc: Global, text: &str) -> Result<String, Fail> {
     let value = Value::from_str(alloc, text)?;
-    Ok(match read_layout(alloc, &value) {
-        Ok(_) => format!(in alloc; "ok")?,
-        Err(LayoutRefusal::BadField { path }) => format!(in alloc; "bad {}", path.as_str())?,
-        Err(LayoutRefusal::PatternRefused { path }) => {
-            format!(in alloc; "pattern {}", path.as_str())?
-        }
-        Err(LayoutRefusal::Full { limit }) => format!(in alloc; "full {}", limit.word())?,
-        Err(LayoutRefusal::NoMemory) => format!(in alloc; "no memory")?,
-    })
+    told_value(alloc, &value)
 }
 
 #[test]
