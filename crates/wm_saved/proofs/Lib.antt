@@ -1,3 +1,4 @@
+pub mod FaultLemmas
 pub mod FitLemmas
 pub mod ItemLemmas
 pub mod MarkLemmas

@@ -1,5 +1,6 @@
 pub mod Answers
 pub mod Containers
+pub mod Faults
 pub mod Fields
 pub mod Limits
 pub mod Others

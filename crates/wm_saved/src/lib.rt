@@ -14,7 +14,7 @@ mod swallows;
 #[cfg(test)]
 mod tests;
 
-pub use laws::other_fields_are_passed_over;
+pub use laws::{faults_are_at_their_paths, other_fields_are_passed_over};
 pub use reading::read_layout;
 pub use refusal::LayoutRefusal;
 pub use saved::{SavedKind, SavedLayout, SavedNode};
