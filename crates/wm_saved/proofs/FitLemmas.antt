@@ -100,14 +100,18 @@ record IsFitHead (h : Head) : Type 0 where
   border : is_fit_border h.border ≡ true
   marks : list_all is_fit_mark h.marks ≡ true
 
+-- whatever is read of this and then by it
+reads : {A B : Type 0} (P : B → Type 0) (m : Answer A) (f : A → Answer B) → ((x : A) → m ≡ Ok x → (y : B) → f x ≡ Ok y → P y) → (y : B) → (m >>= f) ≡ Ok y → P y
+reads P (Ok x) f a y e = a x refl y e
+reads P (Err z) f a y e = absurd cc
+
 head_fits : (path : List ℕ) (d : Data) (h : Head) → head_of path d ≡ Ok h → IsFitHead h
-head_fits path d h e =
-    let border = read_first (border_of path d) (λ b. layout_of path d >>= λ l. marks_of path d >>= λ m. name_of path d >>= λ n. Ok (record { border = b; layout = l; marks = m; name = n })) h e in
-    let layout = read_first (layout_of path d) (λ l. marks_of path d >>= λ m. name_of path d >>= λ n. Ok (record { border = border.0; layout = l; marks = m; name = n })) h border.2 in
-    let marks = read_first (marks_of path d) (λ m. name_of path d >>= λ n. Ok (record { border = border.0; layout = layout.0; marks = m; name = n })) h layout.2 in
-    let name = read_first (name_of path d) (λ n. Ok (record { border = border.0; layout = layout.0; marks = marks.0; name = n })) h marks.2 in
-    let all : Head = record { border = border.0; layout = layout.0; marks = marks.0; name = name.0 } in
-    subst IsFitHead (same_value all h (Ok h) refl name.2) (record { border = border_fits path d border.0 border.1; marks = marks_fit path d marks.0 marks.1 })
+head_fits path d =
+    reads IsFitHead (border_of path d) (λ b. layout_of path d >>= λ l. marks_of path d >>= λ m. name_of path d >>= λ n. Ok (record { border = b; layout = l; marks = m; name = n }))
+    (λ b be. reads IsFitHead (layout_of path d) (λ l. marks_of path d >>= λ m. name_of path d >>= λ n. Ok (record { border = b; layout = l; marks = m; name = n }))
+    (λ l le. reads IsFitHead (marks_of path d) (λ m. name_of path d >>= λ n. Ok (record { border = b; layout = l; marks = m; name = n }))
+    (λ m me. reads IsFitHead (name_of path d) (λ n. Ok (record { border = b; layout = l; marks = m; name = n }))
+    (λ n ne h e. subst IsFitHead (same_value (record { border = b; layout = l; marks = m; name = n }) h (Ok h) refl e) (record { border = border_fits path d b be; marks = marks_fit path d m me })))))
 
 kids_are : (h : Head) (ns : List SavedNode) (s : List Swallow) → kids (with_head h ns s) ≡ ns
 kids_are h [] s = ap kids_of (outs-Placeholder h.name s)
