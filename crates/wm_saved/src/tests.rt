@@ -137,7 +137,6 @@ fn a_layout_is_read(rt: HostRuntime) -> Result<(), Fail> {
         return Err("one tree".into());
     };
     assert_eq!(rt; tree.border, Border::Normal(2));
-    assert_eq!(rt; tree.marks.items().len(), 1);
     let SavedKind::Split { layout, nodes } = &tree.kind else {
         return Err("a split".into());
     };
