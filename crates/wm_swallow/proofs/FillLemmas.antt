@@ -5,6 +5,7 @@ use Rattle.wm_base.specs.declared.geometry.Size.{Size}
 use Rattle.wm_base.specs.declared.ids.ConId.{ConId}
 use Rattle.wm_base.specs.declared.properties.Props.{Props}
 use Rattle.wm_criteria.specs.Gathered.{con_ids, own_id}
+use Rattle.wm_forest.specs.declared.kind.KindEdit.{KindEdit}
 use Rattle.wm_forest.specs.declared.kind.KindEdit.TheVariants as edits
 use Rattle.wm_forest.specs.declared.part.ConKind.{ConKind}
 use Rattle.wm_forest.specs.declared.part.ConKind.TheVariants.{Split, Window, Placeholder}
@@ -21,6 +22,49 @@ use Rattle.wm_tree.specs.Move.{marks_in}
 use Rattle.wm_swallow.specs.Laws.{FoundTakes, IdsStay, IsWindowAfterwards, MarksStay}
 use Rattle.wm_swallow.specs.Swallowing.{filled_at, has_entry, swallower, takes}
 use Rattle.wm_swallow.proofs.WalkLemmas.{taker_takes, takes_first}
+
+-- ---- what a change of one node leaves
+
+module _ (c : ConId) (edit : KindEdit) where
+  -- a node is there as before, with the same marks
+  record Marked (v : ConId) (old new : Forest) : Type 0 where
+    pub there : has v new ≡ has v old
+    pub marks : first_marks (only v new) ≡ first_marks (only v old)
+
+  pick : (v : ConId) (a k l : Bool) (x y z w x' y' z' w' : Forest) → first_marks x ≡ first_marks x' → first_marks y ≡ first_marks y' → first_marks z ≡ first_marks z' → first_marks w ≡ first_marks w'
+      → first_marks (cond a x (cond k y (cond l z w))) ≡ first_marks (cond a x' (cond k y' (cond l z' w')))
+  pick v true k l x y z w x' y' z' w' p q r s = p
+  pick v false true l x y z w x' y' z' w' p q r s = q
+  pick v false false true x y z w x' y' z' w' p q r s = r
+  pick v false false false x y z w x' y' z' w' p q r s = s
+
+  marked : (v : ConId) (f : Forest) → Marked v f (at c kind_changed edit f)
+  marked v =
+      by_change c kind_changed edit (λ old new found. Marked v old new) (record { there = refl; marks = refl })
+      (λ part kids floats rest. record {
+        there = refl;
+        marks =
+            pick v (same part.id v) (has v kids) (has v floats) (con (record part { kind = changed edit part.kind }) kids floats end) (only v kids) (only v floats) (only v rest) (con part kids floats end) (only v kids) (only v floats) (only v rest)
+            refl refl refl refl;
+      })
+      (λ part kids floats rest new found h. record {
+        there = rw h.there refl;
+        marks = rw h.there (pick v (same part.id v) (has v kids) (has v floats) (con part new floats end) (only v new) (only v floats) (only v rest) (con part kids floats end) (only v kids) (only v floats) (only v rest) refl h.marks refl refl);
+      })
+      (λ part kids floats rest new found h. record {
+        there = rw h.there refl;
+        marks = rw h.there (pick v (same part.id v) (has v kids) (has v floats) (con part kids new end) (only v kids) (only v new) (only v rest) (con part kids floats end) (only v kids) (only v floats) (only v rest) refl refl h.marks refl);
+      })
+      (λ part kids floats rest new found h. record {
+        there = rw h.there refl;
+        marks = pick v (same part.id v) (has v kids) (has v floats) (con part kids floats end) (only v kids) (only v floats) (only v new) (con part kids floats end) (only v kids) (only v floats) (only v rest) refl refl refl h.marks;
+      })
+
+  pub marks_stay : (v : ConId) (f : Forest) → marks_in v (at c kind_changed edit f) ≡ marks_in v f
+  marks_stay v f = (marked v f).marks
+
+  pub still_there : (v : ConId) (f : Forest) → has v (at c kind_changed edit f) ≡ has v f
+  still_there v f = (marked v f).there
 
 module _ (c : ConId) (props : Props) (owner : ℕ) (natural : Size) where
   abbrev change : Forest → Forest
@@ -41,48 +85,6 @@ module _ (c : ConId) (props : Props) (owner : ℕ) (natural : Size) where
       (λ part kids floats rest new found h. ap (λ ids. own_id part.id part.kind ++ (ids ++ (con_ids floats ++ con_ids rest))) h)
       (λ part kids floats rest new found h. ap (λ ids. own_id part.id part.kind ++ (con_ids kids ++ (ids ++ con_ids rest))) h)
       (λ part kids floats rest new found h. ap (λ ids. own_id part.id part.kind ++ (con_ids kids ++ (con_ids floats ++ ids))) h)
-
-  -- ---- marks
-
-  -- a node is there as before, with the same marks
-  record Marked (v : ConId) (old new : Forest) : Type 0 where
-    pub there : has v new ≡ has v old
-    pub marks : first_marks (only v new) ≡ first_marks (only v old)
-
-  pick : (v : ConId) (a k l : Bool) (x y z w x' y' z' w' : Forest) → first_marks x ≡ first_marks x' → first_marks y ≡ first_marks y' → first_marks z ≡ first_marks z' → first_marks w ≡ first_marks w'
-      → first_marks (cond a x (cond k y (cond l z w))) ≡ first_marks (cond a x' (cond k y' (cond l z' w')))
-  pick v true k l x y z w x' y' z' w' p q r s = p
-  pick v false true l x y z w x' y' z' w' p q r s = q
-  pick v false false true x y z w x' y' z' w' p q r s = r
-  pick v false false false x y z w x' y' z' w' p q r s = s
-
-  marked : (v : ConId) (f : Forest) → Marked v f (change f)
-  marked v =
-      by_change c kind_changed (edits.Fill props owner natural) (λ old new found. Marked v old new) (record { there = refl; marks = refl })
-      (λ part kids floats rest. record {
-        there = refl;
-        marks =
-            pick v (same part.id v) (has v kids) (has v floats) (con (record part { kind = changed (edits.Fill props owner natural) part.kind }) kids floats end) (only v kids) (only v floats) (only v rest) (con part kids floats end) (only v kids) (only v floats) (only v rest)
-            refl refl refl refl;
-      })
-      (λ part kids floats rest new found h. record {
-        there = rw h.there refl;
-        marks = rw h.there (pick v (same part.id v) (has v kids) (has v floats) (con part new floats end) (only v new) (only v floats) (only v rest) (con part kids floats end) (only v kids) (only v floats) (only v rest) refl h.marks refl refl);
-      })
-      (λ part kids floats rest new found h. record {
-        there = rw h.there refl;
-        marks = rw h.there (pick v (same part.id v) (has v kids) (has v floats) (con part kids new end) (only v kids) (only v new) (only v rest) (con part kids floats end) (only v kids) (only v floats) (only v rest) refl refl h.marks refl);
-      })
-      (λ part kids floats rest new found h. record {
-        there = rw h.there refl;
-        marks = pick v (same part.id v) (has v kids) (has v floats) (con part kids floats end) (only v kids) (only v floats) (only v new) (con part kids floats end) (only v kids) (only v floats) (only v rest) refl refl refl h.marks;
-      })
-
-  pub marks_stay : (v : ConId) (f : Forest) → marks_in v (change f) ≡ marks_in v f
-  marks_stay v f = (marked v f).marks
-
-  pub still_there : (v : ConId) (f : Forest) → has v (change f) ≡ has v f
-  still_there v f = (marked v f).there
 
   -- ---- the placeholder itself
 
@@ -110,8 +112,8 @@ module _ (c : ConId) (props : Props) (owner : ℕ) (natural : Size) where
       → kind_by con_kind (first_part (only c (cond a (kind_changed (edits.Fill props owner natural) part kids floats rest) (cond k (con part (change kids) floats rest) (cond l (con part kids (change floats) rest) (con part kids floats (change rest)))))))
       ≡ Some (record p { kind = Window props owner natural })
   becomes_step true k l part kids floats rest p ea ek el u v w h = rw ea (own part.kind p h.0 h.1)
-  becomes_step false true l part kids floats rest p ea ek el u v w h = rw (ea, still_there c kids, ek) (u h)
-  becomes_step false false true part kids floats rest p ea ek el u v w h = rw (ea, ek, still_there c floats, el) (v h)
+  becomes_step false true l part kids floats rest p ea ek el u v w h = rw (ea, still_there c (edits.Fill props owner natural) c kids, ek) (u h)
+  becomes_step false false true part kids floats rest p ea ek el u v w h = rw (ea, ek, still_there c (edits.Fill props owner natural) c floats, el) (v h)
   becomes_step false false false part kids floats rest p ea ek el u v w h = rw (ea, ek, el) (w h)
 
   pub becomes : (p : ConPart) (f : Forest) → Is p f → Becomes p f
@@ -150,4 +152,4 @@ marks_after props owner natural t v = by (swallower props t)
   where
     by : (o : Option ConId) → marks_in v (filled_at o props owner natural t).nodes ≡ marks_in v t.nodes
     by None = refl
-    by (Some c) = marks_stay c props owner natural v t.nodes
+    by (Some c) = marks_stay c (edits.Fill props owner natural) v t.nodes

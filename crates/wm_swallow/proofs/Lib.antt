@@ -1,2 +1,12 @@
+pub mod CourseLemmas
 pub mod FillLemmas
+pub mod FreeLemmas
+pub mod GiveLemmas
+pub mod GrowLemmas
+pub mod HeldLemmas
+pub mod MarkBudget
+pub mod SavedLemmas
+pub mod StandLemmas
+pub mod StepLemmas
 pub mod WalkLemmas
+pub mod WholeLemmas

@@ -1,2 +1,6 @@
+pub mod Appending
 pub mod Laws
+pub mod Limits
+pub mod SavedRows
+pub mod Steps
 pub mod Swallowing

@@ -1,6 +1,7 @@
-//! Windows that go to placeholders: a placeholder that swallows a window becomes that window.
+//! Saved layouts that are appended to a workspace, and windows that go to their placeholders.
 #![tactic(auto)]
 
+mod appending;
 mod laws;
 mod swallowing;
 

@@ -1,0 +1,21 @@
+-- The rows of a saved layout are those of its lists of nodes.
+use Rattle.std.proofs.Common.{◌≡◌, List, [], ◌∷◌, refl, sym, ◌∙◌, ap}
+use mathlib.Core.Former.{Count}
+use Rattle.wm_base.specs.declared.plan.Layout.{Layout}
+use Rattle.wm_saved.specs.declared.saved.SavedKind.{SavedKind, Split, Split', Placeholder, Row_of-SavedNode, end_of-SavedNode, more_of-SavedNode, items-the_row-SavedNode, items_hidden-the_row-SavedNode-0}
+use Rattle.wm_saved.specs.declared.saved.SavedNode.{SavedNode}
+use Rattle.wm_swallow.specs.SavedRows.{Saved, none, saved, newcomer, row_below, row_of, rows}
+
+listed : (n : _) (row : Row_of-SavedNode n) → row_of row ≡ rows (items-the_row-SavedNode n row)
+listed n end_of-SavedNode = refl
+listed n (more_of-SavedNode border marks kind rest) = ap (λ r. saved border marks (newcomer kind) (row_below kind) r) (listed _ rest)
+
+abbrev parts : SavedKind → (n : Count) × Row_of-SavedNode n
+parts (Split' _ _ row) = (_, row)
+parts (Placeholder _ _) = (_, end_of-SavedNode)
+
+-- below a split is the row of its nodes
+pub below_split : (layout : Layout) (nodes : List SavedNode) → row_below (Split layout nodes) ≡ rows nodes
+below_split layout nodes =
+    let row = parts (Split layout nodes) in
+    listed row.0 row.1 ∙ ap rows (items_hidden-the_row-SavedNode-0 nodes)
