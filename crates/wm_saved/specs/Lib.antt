@@ -1,0 +1,6 @@
+pub mod Answers
+pub mod Containers
+pub mod Fields
+pub mod Limits
+pub mod Reading
+pub mod Swallows

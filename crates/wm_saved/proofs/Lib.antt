@@ -1,0 +1,4 @@
+pub mod AnswerLemmas
+pub mod ItemLemmas
+pub mod MarkLemmas
+pub mod NodeLemmas
