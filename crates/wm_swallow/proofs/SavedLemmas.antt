@@ -1,10 +1,10 @@
 -- The rows of a saved layout are those of its lists of nodes.
-use Rattle.std.proofs.Common.{◌≡◌, List, [], ◌∷◌, refl, sym, ◌∙◌, ap}
+use Rattle.std.proofs.Common.{◌≡◌, List, [], ◌∷◌, length, refl, sym, ◌∙◌, ap, arith}
 use mathlib.Core.Former.{Count}
 use Rattle.wm_base.specs.declared.plan.Layout.{Layout}
 use Rattle.wm_saved.specs.declared.saved.SavedKind.{SavedKind, Split, Split', Placeholder, Row_of-SavedNode, end_of-SavedNode, more_of-SavedNode, items-the_row-SavedNode, items_hidden-the_row-SavedNode-0}
 use Rattle.wm_saved.specs.declared.saved.SavedNode.{SavedNode}
-use Rattle.wm_swallow.specs.SavedRows.{Saved, none, saved, newcomer, row_below, row_of, rows}
+use Rattle.wm_swallow.specs.SavedRows.{Saved, none, saved, newcomer, row_below, row_of, row_size, rows}
 
 listed : (n : _) (row : Row_of-SavedNode n) → row_of row ≡ rows (items-the_row-SavedNode n row)
 listed n end_of-SavedNode = refl
@@ -19,3 +19,8 @@ pub below_split : (layout : Layout) (nodes : List SavedNode) → row_below (Spli
 below_split layout nodes =
     let row = parts (Split layout nodes) in
     listed row.0 row.1 ∙ ap rows (items_hidden-the_row-SavedNode-0 nodes)
+
+-- a row has as many containers as its list has nodes
+pub row_length_is : (nodes : List SavedNode) → row_size (rows nodes) ≡ length nodes
+row_length_is [] = refl
+row_length_is (n ∷ ns) = omega (arith, row_length_is ns)

@@ -18,6 +18,11 @@ use Rattle.wm_tree.specs.TreeValue.{TreeValue}
 abbrev pub is_held : Forest → List ℕ → Bool
 is_held f m = is_some (bearer None m f)
 
+-- the same of a tree, where there is one
+abbrev pub known_by : Option TreeValue → List ℕ → Bool
+known_by None m = false
+known_by (Some t) m = is_held t.nodes m
+
 -- how many different marks there are that are not known
 abbrev pub different : (List ℕ → Bool) → List (List ℕ) → ℕ
 different known [] = 0
@@ -28,13 +33,17 @@ abbrev pub is_overmarked : Saved → Bool
 is_overmarked none = false
 is_overmarked (saved border marks newcomer kids rest) = nat_lt 32 (different (λ m. false) marks) || is_overmarked kids || is_overmarked rest
 
--- the first of the limits on containers that appending the row to the workspace w would pass
-abbrev pub passed_by_containers : ConId → Saved → TreeValue → Option Limit
-passed_by_containers w row t =
+-- the first of the limits on containers that the row would pass last in a row of such children of a workspace
+abbrev pub passed_in : Forest → Saved → TreeValue → Option Limit
+passed_in kids row t =
     if nat_lt 4096 (con_count t.nodes + size row) then Some Containers
-    else if nat_lt 256 (row_length (first_kids (only w t.nodes)) + row_size row) || is_wide row then Some Children
+    else if nat_lt 256 (row_length kids + row_size row) || is_wide row then Some Children
     else if not (fits 32 row) then Some Depth
     else None
+
+-- the first of these limits that appending the row to the workspace w would pass
+abbrev pub passed_by_containers : ConId → Saved → TreeValue → Option Limit
+passed_by_containers w row t = passed_in (first_kids (only w t.nodes)) row t
 
 -- the first of the limits on marks and ids that it would pass
 abbrev pub passed_by_marks : Saved → TreeValue → Option Limit

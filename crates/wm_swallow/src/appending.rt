@@ -11,14 +11,15 @@ ghost use Rattle.wm_tree.specs.Words.{attached};
 ghost use Rattle.wm_focus.specs.Marks.{given_mark, mark_refusal};
 ghost use Rattle.wm_shared.specs.Subject.{is_container};
 ghost use Rattle.wm_forest.specs.declared.place.Place.TheVariants.{Last};
-ghost use Rattle.wm_forest.specs.declared.place.NewCon.TheVariants.{Placeholder};
+ghost use Rattle.wm_saved.specs.Limits.{is_fit};
 
-use std::alloc::{AllocError, Global};
-use wm_base::{Border, ConId, List, NoMemory, Props, Refusal, Text};
+use crate::limits::check;
+use std::alloc::Global;
+use wm_base::{Border, ConId, NoMemory, Props, Refusal, Text};
 use wm_focus::mark;
 use wm_forest::short_text;
 use wm_saved::{SavedKind, SavedLayout, SavedNode};
-use wm_tree::{ConState, NewCon, Place, Swallow, SwallowKey, Tree, TreeRefusal};
+use wm_tree::{ConState, NewCon, Place, Tree, TreeRefusal};
 
 /// Puts the saved containers last in a workspace or split, one after the other, and what is below each before the next.
 #[cycle(nodes)]
@@ -145,15 +146,18 @@ fn newcomer(alloc: Global, kind: &SavedKind) -> Result<NewCon, NoMemory>
 {
     match kind {
         SavedKind::Split { layout, .. } => Ok(NewCon::Split { layout: *layout }),
-        SavedKind::Placeholder { name, swallows } => placeholder(alloc, name, swallows.items()),
+        SavedKind::Placeholder { .. } => placeholder(alloc, kind.copy(alloc)?),
     }
 }
 
-/// A placeholder with this title and these entries, and no other properties.
-fn placeholder(alloc: Global, name: &Text, swallows: &[Swallow]) -> Result<NewCon, NoMemory>
-    ensures { IfOk result (λ new. new ≡ Placeholder (titled_only name.now) swallows.now) }
+/// The placeholder for a saved one: its title is its name, and it has no other properties.
+fn placeholder(alloc: Global, kind: SavedKind) -> Result<NewCon, NoMemory>
+    ensures { IfOk result (λ new. new ≡ newcomer kind) }
 {
-    let swallows = copy_entries(alloc, swallows)?;
+    let (name, swallows) = match kind {
+        SavedKind::Placeholder { name, swallows } => (name, swallows),
+        SavedKind::Split { layout, .. } => return Ok(NewCon::Split { layout }),
+    };
     match titled_only(alloc, name) {
         Ok(props) => Ok(NewCon::Placeholder { props, swallows }),
         Err(error) => {
@@ -164,8 +168,8 @@ fn placeholder(alloc: Global, name: &Text, swallows: &[Swallow]) -> Result<NewCo
 }
 
 /// The properties with this title and nothing else.
-fn titled_only(alloc: Global, title: &Text) -> Result<Props, NoMemory>
-    ensures { IfOk result (λ props. props ≡ titled_only title.now) }
+fn titled_only(alloc: Global, title: Text) -> Result<Props, NoMemory>
+    ensures { IfOk result (λ props. props ≡ titled_only title) }
 {
     let empty = short_text(alloc, "")?;
     Ok(Props {
@@ -174,30 +178,48 @@ fn titled_only(alloc: Global, title: &Text) -> Result<Props, NoMemory>
         role: empty.clone()?,
         kind: empty.clone()?,
         machine: empty,
-        title: title.clone()?,
+        title,
     })
 }
 
-/// Equal entries.
-fn copy_entries(alloc: Global, entries: &[Swallow]) -> Result<List<Swallow>, AllocError>
-    ensures { IfOk result (λ copy. copy ≡ entries.now) }
+/// Appends the layout's trees to the workspace, last in order. The ids are given depth first, a split's before those of its
+/// children. Each container has its saved border and marks; a mark held elsewhere moves. A placeholder's title is its name.
+/// Refused where the workspace is not there, and where the whole would pass a limit, the first in the order of the limits:
+/// the tree is then as it was. The layout's borders and marks are within their limits.
+pub fn append(
+    alloc: Global,
+    tree: &mut Tree,
+    workspace: ConId,
+    layout: &SavedLayout,
+) -> Result<(), TreeRefusal>
+    requires sound { IsSound tree.old }
+    requires space { IsSpaceThere workspace tree.old.nodes }
+    requires fit { is_fit layout.now ≡ true }
+    ensures tree { OnOk result (tree.new ≡ appended workspace (rows layout.now.trees) tree.old) }
+    ensures fine { OnOk result ((has workspace tree.old.nodes ≡ true) × (passed_by_append workspace (rows layout.now.trees) tree.old ≡ None)) }
+    ensures err { OnErr result (tree.new ≡ tree.old) }
+    ensures cause { IfErr result (IsAppendCause tree.old workspace (rows layout.now.trees)) }
+    ensures sound { IsSound tree.new }
 {
-    let mut copy = Vec::with_capacity(alloc, entries.len())?;
-    for entry in entries {
-        copy.push(copy_entry(alloc, entry)?)?;
-    }
-    Ok(List::of(copy))
+    let trees = layout.trees.items();
+    check(alloc, tree, workspace, trees)?;
+    *tree = with_all(alloc, tree, workspace, trees)?;
+    Ok(())
 }
 
-/// An equal entry.
-fn copy_entry(alloc: Global, entry: &Swallow) -> Result<Swallow, AllocError>
-    ensures { IfOk result (λ copy. copy ≡ entry.now) }
+/// A copy of the tree in which the saved containers stand last in the workspace.
+fn with_all(
+    alloc: Global,
+    tree: &Tree,
+    workspace: ConId,
+    nodes: &[SavedNode],
+) -> Result<Tree, NoMemory>
+    requires sound { IsSound tree.now }
+    requires free { IsFree workspace (rows nodes.now) tree.now }
+    ensures tree { IfOk result (λ new. new ≡ appended workspace (rows nodes.now) tree.now) }
+    ensures sound { IfOk result (λ new. IsSound new) }
 {
-    let keys = entry.keys.items();
-    let mut copy: Vec<(SwallowKey, Text)> = Vec::with_capacity(alloc, keys.len())?;
-    for (key, pattern) in keys {
-        copy.push((*key, pattern.clone()?))?;
-    }
-    let keys = List::of(copy);
-    Ok(Swallow { keys })
+    let mut copy = tree.copy()?;
+    attach_all(alloc, &mut copy, workspace, nodes)?;
+    Ok(copy)
 }

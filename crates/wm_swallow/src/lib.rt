@@ -3,7 +3,10 @@
 
 mod appending;
 mod laws;
+mod limits;
+mod shapes;
 mod swallowing;
 
+pub use appending::append;
 pub use laws::{first_one_swallows, ids_and_marks_stay, placeholder_becomes_window};
 pub use swallowing::swallow;
