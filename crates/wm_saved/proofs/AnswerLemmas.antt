@@ -1,5 +1,5 @@
 -- Answers by answers.
-use Rattle.std.proofs.Common.{◌≡◌, Ok, Err, refl, sym, ◌∙◌, ap, subst}
+use Rattle.std.proofs.Common.{◌≡◌, Ok, Err, refl, sym, ap, subst}
 use Rattle.wm_saved.specs.Answers.{Answer, ◌>>=◌, IsAnswer}
 
 -- what follows what was read

@@ -1,5 +1,5 @@
 -- Items of an array that are read one after another.
-use Rattle.std.proofs.Common.{◌≡◌, ℕ, suc, ◌<◌, List, [], ◌∷◌, ◌++◌, drop, length, Ok, Err, refl, sym, ◌∙◌, ap, arith, append-nil, append_assoc}
+use Rattle.std.proofs.Common.{◌≡◌, List, [], ◌∷◌, ◌++◌, Ok, Err, refl, sym, ap, append_assoc}
 use Rattle.wm_saved.specs.Answers.{Answer, ◌>>=◌}
 
 -- an answer with what was read before in front

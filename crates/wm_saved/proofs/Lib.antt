@@ -1,4 +1,5 @@
 pub mod AnswerLemmas
+pub mod FitLemmas
 pub mod ItemLemmas
 pub mod MarkLemmas
 pub mod NodeLemmas

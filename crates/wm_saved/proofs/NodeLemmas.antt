@@ -1,10 +1,10 @@
 -- The containers of a tree, by its root and the trees below it.
-use Rattle.std.proofs.Common.{◌≡◌, ℕ, ◌+◌, ◌<◌, suc, max, Bool, true, false, nat_lt, ◌&&◌, ◌||◌, List, [], ◌∷◌, ◌++◌, drop, get_or, length, map, refl, sym, ◌∙◌, ap}
+use Rattle.std.proofs.Common.{◌≡◌, ℕ, ◌+◌, ◌<◌, suc, max, Bool, true, false, nat_lt, ◌&&◌, ◌||◌, List, ◌∷◌, ◌++◌, drop, get_or, length, refl, sym, ◌∙◌, ap}
 use Rattle.std.specs.List.{flat_map, list_all, list_any}
 use Rattle.std.proofs.lemmas.List.{drop_more, length-append, length-map}
 use Rattle.std.proofs.lemmas.Grind.{flat_map-append}
 use Rattle.std.proofs.lemmas.List.Folds.{flat_map-map, list_all-append, list_any-append}
-use Rattle.wm_saved.specs.Containers.{Own, below_kind, containers, kids, kids_of, kind_levels, levels, most, node_levels, tree_containers, tree_levels, with_below}
+use Rattle.wm_saved.specs.Containers.{Own, below_kind, containers, kids, kids_of, kind_levels, levels, node_levels, tree_containers, tree_levels, with_below}
 use Rattle.wm_saved.specs.Limits.{all_marks, is_wide, is_wide_own}
 use Rattle.wm_saved.specs.declared.saved.SavedKind.{SavedKind}
 use Rattle.wm_saved.specs.declared.saved.SavedKind.TheFolds.{fold-SavedKind, fold-SavedNode, fold_out-SavedKind, fold_out-SavedNode, map-SavedKind}

@@ -1,5 +1,5 @@
 -- The fields of an object of a layout file, one by one: which values each may have, what a missing one means, and which paths are at fault.
-use Rattle.std.specs.Prelude.{ℕ, suc, Bool, ◌&&◌, nat_le, if◌then◌else◌, List, [], ◌∷◌, ◌++◌, length, Option, Some, None, option_and_then, Ok, Err, codes, decimal, ⊤}
+use Rattle.std.specs.Prelude.{ℕ, suc, Bool, ◌&&◌, nat_le, if◌then◌else◌, List, [], ◌∷◌, length, Option, Some, None, option_and_then, Ok, codes, decimal, ⊤}
 use Rattle.std.specs.Str.{bytes_eq}
 use Rattle.serde_json.specs.Data.{Data, Items, no_items, item}
 use Rattle.serde_json.specs.Find.{get, as_array, as_number, as_str, as_u64}

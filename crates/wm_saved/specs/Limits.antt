@@ -46,13 +46,17 @@ is_crowded_own o = nat_lt 32 (different o.marks)
 abbrev pub is_crowded : List SavedNode → Bool
 is_crowded trees = list_any is_crowded_own (containers trees)
 
+-- a container, or all of them together, has too many marks
+abbrev pub has_many_marks : List SavedNode → Bool
+has_many_marks trees = is_crowded trees || nat_lt 1024 (different (all_marks trees))
+
 -- the first limit that these trees pass on an empty workspace, where nothing else is: 4,096 containers, 256 children of one, 32 levels, 32 marks of one and 1,024 in all
 abbrev pub passed : List SavedNode → Option Limit
 passed trees =
     if nat_lt 4096 (length (containers trees)) then Some Containers
     else if is_wide trees then Some Children
     else if nat_lt 32 (levels trees) then Some Depth
-    else if is_crowded trees || nat_lt 1024 (different (all_marks trees)) then Some Marks
+    else if has_many_marks trees then Some Marks
     else None
 
 -- the layout of trees that pass no limit
@@ -72,8 +76,11 @@ is_fit_border (Normal n) = nat_le n 64
 is_fit_border (Pixel n) = nat_le n 64
 is_fit_border Bare = true
 
+abbrev pub is_fit_with : Border → List (List ℕ) → Bool
+is_fit_with border marks = is_fit_border border && list_all is_fit_mark marks
+
 abbrev pub is_fit_own : Own → Bool
-is_fit_own o = is_fit_border o.border && list_all is_fit_mark o.marks
+is_fit_own o = is_fit_with o.border o.marks
 
 -- each border is at most 64 pixels wide, and each mark has 1 to 256 bytes
 abbrev pub are_fit : List SavedNode → Bool

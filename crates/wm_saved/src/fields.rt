@@ -5,6 +5,7 @@ ghost use Rattle.wm_saved.specs.Answers.{IsAnswer, below};
 ghost use Rattle.wm_saved.specs.declared.fields.Frame.TheVariants as frames;
 ghost use Rattle.wm_saved.specs.Fields.{bordered, border_of, field, frame_in, items_from, layout_in, layout_of, mark_at, mark_in, marks_of, name_of, text_in, type_in, type_of, width_in};
 
+use crate::fit::is_fit_mark;
 use crate::refusal::{LayoutRefusal, bad_field, bad_item, below, or_bad};
 use serde_json::Value;
 use std::alloc::Global;
@@ -105,7 +106,7 @@ fn mark_in(alloc: Global, value: &Value) -> Result<Option<Text>, NoMemory>
     let Some(mark) = value.as_str() else {
         return Ok(None);
     };
-    if mark.is_empty() || mark.len() > 256 {
+    if !is_fit_mark(mark) {
         return Ok(None);
     }
     match Text::new(alloc, mark) {

@@ -1,7 +1,9 @@
 //! Saved layouts: i3's layout files are read from JSON.
 #![tactic(auto)]
 
+mod copies;
 mod fields;
+mod fit;
 mod limits;
 mod marks;
 mod reading;
@@ -9,5 +11,6 @@ mod refusal;
 mod saved;
 mod swallows;
 
+pub use reading::read_layout;
 pub use refusal::LayoutRefusal;
 pub use saved::{SavedKind, SavedLayout, SavedNode};

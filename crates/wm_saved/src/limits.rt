@@ -2,11 +2,12 @@
 ghost use Rattle.std.specs.Prelude.{◌≡◌, ◌+◌, ◌<◌, IfNone, IfOk, IfSome, IsTrue, length, nat_le};
 ghost use Rattle.wm_saved.specs.Containers.{containers, kids_of, levels};
 ghost use Rattle.wm_saved.specs.declared.saved.SavedKind.TheViews.{out-SavedKind};
-ghost use Rattle.wm_saved.specs.Limits.{all_marks, different, is_crowded, is_wide, passed, with_mark, with_marks};
+ghost use Rattle.wm_saved.specs.Limits.{has_many_marks, is_wide, passed};
 
+use crate::marks::{are_too_many, is_crowded};
 use crate::saved::{SavedKind, SavedNode};
-use std::alloc::{AllocError, Global};
-use wm_base::{Limit, NoMemory, Text};
+use std::alloc::Global;
+use wm_base::{Limit, NoMemory};
 
 /// How many containers a desktop has at most.
 const MAX_CONTAINERS: usize = 4096;
@@ -16,12 +17,6 @@ const MAX_CHILDREN: usize = 256;
 
 /// How many levels there are at most below a workspace.
 const MAX_DEPTH: usize = 32;
-
-/// How many marks a desktop has at most.
-const MAX_MARKS: usize = 1024;
-
-/// How many marks a container has at most.
-const MAX_OWN_MARKS: usize = 32;
 
 /// How much of this room is left behind the containers below one of this kind, or none where they do not fit.
 #[cycle(count)]
@@ -94,4 +89,31 @@ fn fits_levels(nodes: &[SavedNode], room: usize) -> bool
         }
     }
     true
+}
+
+/// Whether these and the containers below them have too many marks, one of them or all together.
+fn has_many_marks(alloc: Global, trees: &[SavedNode]) -> Result<bool, NoMemory>
+    ensures { IfOk result (λ many. many ≡ has_many_marks trees.now) }
+{
+    if is_crowded(alloc, trees)? {
+        return Ok(true);
+    }
+    are_too_many(alloc, trees)
+}
+
+/// The first limit that these trees pass on an empty workspace, where nothing else is.
+pub(crate) fn passed(alloc: Global, trees: &[SavedNode]) -> Result<Option<Limit>, NoMemory>
+    ensures { IfOk result (λ limit. limit ≡ passed trees.now) }
+{
+    if room_behind(trees, MAX_CONTAINERS).is_none() {
+        Ok(Some(Limit::Containers))
+    } else if is_wide(trees) {
+        Ok(Some(Limit::Children))
+    } else if !fits_levels(trees, MAX_DEPTH) {
+        Ok(Some(Limit::Depth))
+    } else if has_many_marks(alloc, trees)? {
+        Ok(Some(Limit::Marks))
+    } else {
+        Ok(None)
+    }
 }

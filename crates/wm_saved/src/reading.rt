@@ -1,12 +1,14 @@
 //! Layouts are read: the nodes of JSON values, with those below them.
-ghost use Rattle.std.specs.Prelude.{◌≡◌};
+ghost use Rattle.std.specs.Prelude.{◌≡◌, IfOk, IsTrue};
 ghost use Rattle.serde_json.specs.View.{items_view, members_view, view};
 ghost use Rattle.wm_saved.specs.Answers.{IsAnswer};
+ghost use Rattle.wm_saved.specs.Limits.{is_fit, layout_at};
 ghost use Rattle.wm_saved.specs.Reading.{finished, head_of, node_at, nodes_from, nodes_in, tail_of, trees_at, with_head};
 
 use crate::fields::{border_of, layout_of, marks_of, name_of, type_of};
+use crate::limits::passed;
 use crate::refusal::{LayoutRefusal, bad, below, item_below};
-use crate::saved::{SavedKind, SavedNode};
+use crate::saved::{SavedKind, SavedLayout, SavedNode};
 use crate::swallows::swallows_of;
 use serde_json::{Map, Value};
 use std::alloc::Global;
@@ -163,4 +165,19 @@ fn nodes_from(alloc: Global, path: &str, values: &[Value]) -> Result<List<SavedN
         nodes.push(node_at(alloc, path.as_str(), value)?)?;
     }
     Ok(List::of(nodes))
+}
+
+/// The layout that a layout file's value describes. The fields of an object are looked at in the byte order of their
+/// keys, and an object's nodes in their order. The first fault is `BadField` with its path, or `PatternRefused` where
+/// a text is no plain pattern; without a fault, `Full` tells the first limit that the layout alone passes.
+pub fn read_layout(alloc: Global, value: &Value) -> Result<SavedLayout, LayoutRefusal>
+    ensures answer { IsAnswer (layout_at (view value.now)) result }
+    ensures fit { IfOk result (λ layout. IsTrue (is_fit layout)) }
+{
+    let trees = trees_at(alloc, "", value)?;
+    match passed(alloc, trees.items()) {
+        Ok(None) => Ok(SavedLayout { trees }),
+        Ok(Some(limit)) => Err(LayoutRefusal::Full { limit }),
+        Err(_) => Err(LayoutRefusal::NoMemory),
+    }
 }

@@ -1,4 +1,4 @@
-use Rattle.std.proofs.Common.{◌+◌, length, arith, sym, subst}
+use Rattle.std.proofs.Common.{length, arith, sym, subst}
 use Rattle.std.specs.Prelude.{◌<◌, IfNone}
 use Rattle.wm_saved.specs.Containers.{containers}
 use Rattle.wm_saved.proofs.NodeLemmas.{count_left}

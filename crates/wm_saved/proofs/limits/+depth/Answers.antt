@@ -1,4 +1,4 @@
-use Rattle.std.proofs.Common.{arith, rules, sym, ap, ◌∙◌, max, nat_le}
+use Rattle.std.proofs.Common.{arith}
 use Rattle.wm_saved.proofs.NodeLemmas.{levels_left}
 use Rattle.wm_saved.proofs.limits.+depth.Goals as goal
 use Rattle.wm_saved.proofs.limits.+depth.Goals.{fits_levels-then-room-eq0-via-then-room-eq0, fits_levels-then-room-eq0-via-else-room-eq0+then-not-fits_below}
