@@ -1,17 +1,15 @@
 -- Appending a row of saved containers: what is seen afterwards, and that no step of it passes a limit.
-use Rattle.std.proofs.Common.{◌≡◌, ◌≢◌, ℕ, ◌+◌, ◌-◌, ◌≤◌, ◌<◌, Bool, true, false, cond, leb, ltb, ◌||◌, ◌&&◌, not, List, [], ◌∷◌, ◌++◌, length, Option, Some, None, append_assoc, refl, sym, ◌∙◌, ap, subst, arith}
-use Rattle.std.specs.Prelude.{is_some}
+use Rattle.std.proofs.Common.{◌≡◌, ℕ, ◌+◌, ◌≤◌, ◌<◌, Bool, true, false, ◌&&◌, List, [], ◌∷◌, ◌++◌, Some, None, append_assoc, refl, sym, ◌∙◌, ap, subst, arith}
 use Rattle.std.specs.List.{list_all}
-use Rattle.std.proofs.lemmas.Bool.Decides.{nat_tests}
 use Rattle.wm_base.specs.declared.ids.ConId.{ConId}
 use Rattle.wm_base.specs.declared.plan.Border.{Border}
-use Rattle.wm_focus.specs.Marks.{bears, given_mark, is_mark, mark_refusal}
+use Rattle.wm_focus.specs.Marks.{given_mark, is_mark, mark_refusal}
 use Rattle.wm_forest.specs.declared.place.NewCon.{NewCon}
 use Rattle.wm_forest.specs.declared.place.Place.TheVariants.{Last}
-use Rattle.wm_forest.specs.Counts.{con_count, mark_count, marks_of, row_length}
+use Rattle.wm_forest.specs.Counts.{con_count, mark_count, marks_of}
 use Rattle.wm_forest.specs.Forest.{Forest, end, con}
-use Rattle.wm_forest.specs.Look.{con_kind, first_kids, first_part, has, kind_of, only, same, space_kind}
-use Rattle.wm_forest.specs.Place.{IsPlace, new_part, passed_limit, put, room_at, share_at}
+use Rattle.wm_forest.specs.Look.{has, same}
+use Rattle.wm_forest.specs.Place.{new_part, put, share_at}
 use Rattle.wm_forest.specs.declared.part.Part.{Part}
 use Rattle.wm_forest.specs.declared.kind.KindEdit.{KindEdit}
 use Rattle.wm_forest.specs.declared.kind.KindEdit.TheVariants as edits
@@ -26,13 +24,12 @@ use Rattle.wm_tree.specs.Move.{marks_in}
 use Rattle.wm_forest.specs.RootId.{id}
 use Rattle.wm_forest.specs.SoundRow.{tally}
 use Rattle.wm_forest.specs.Spot.{top}
-use Rattle.wm_shared.specs.Subject.{is_container, is_space}
 use Rattle.wm_swallow.specs.Appending.{appended, come, come_marked, given_marks, state_with}
-use Rattle.wm_swallow.specs.Limits.{different, is_held, is_overmarked}
-use Rattle.wm_swallow.specs.SavedRows.{Saved, none, saved, all_marks, fits, is_wide, row_size, size}
-use Rattle.wm_swallow.specs.Steps.{IsFree, IsRoomFor, IsRoomIn}
-use Rattle.wm_swallow.proofs.GiveLemmas.{HasRoom, HasRoomOf, not_refused, own_room_given, room_given, there_given}
-use Rattle.wm_swallow.proofs.StandLemmas.{Alike, Seen, Standing, alike_has, alike_standing, alike_tally, seen, standing}
+use Rattle.wm_swallow.specs.Limits.{is_held}
+use Rattle.wm_swallow.specs.SavedRows.{Saved, none, saved, all_marks, row_size, size}
+use Rattle.wm_swallow.specs.Steps.{IsRoomFor}
+use Rattle.wm_swallow.proofs.GiveLemmas.{HasRoom, HasRoomOf, not_refused, own_room_given, room_given}
+use Rattle.wm_swallow.proofs.StandLemmas.{Seen, Standing, alike_standing, alike_tally, seen, standing}
 use Rattle.wm_swallow.proofs.StepLemmas.{Came, Fresh, alike_mark, came, came_with_marks, lower, newcomer_standing}
 use Rattle.wm_tree.specs.TreeValue.{TreeValue}
 

@@ -1,10 +1,8 @@
 -- A mark that is given to a new container passes no limit where there is room for all that are to come.
-use Rattle.std.proofs.Common.{◌≡◌, ℕ, ◌+◌, ◌≤◌, ◌<◌, Bool, true, false, cond, leb, ltb, ◌||◌, not, List, [], ◌∷◌, ◌++◌, length, Option, Some, None, refl, sym, ◌∙◌, ap, subst, arith}
-use Rattle.std.specs.Prelude.{is_some}
-use Rattle.std.specs.Str.{bytes_eq}
+use Rattle.std.proofs.Common.{◌≡◌, ℕ, ◌+◌, ◌≤◌, Bool, true, false, cond, leb, ◌||◌, List, ◌∷◌, length, Some, None, refl, sym, ◌∙◌, ap, arith}
 use Rattle.std.proofs.lemmas.Bool.Decides.{nat_tests}
 use Rattle.wm_base.specs.declared.ids.ConId.{ConId}
-use Rattle.wm_focus.specs.Marks.{bears, cleared, full_of_marks, give_refusal, given_mark, is_marked, taken_off, with_mark}
+use Rattle.wm_focus.specs.Marks.{bears, cleared, give_refusal, given_mark, is_marked, taken_off, with_mark}
 use Rattle.wm_focus.proofs.MarkForests.{marks_off, marks_same, marks_set, off_marks, has_off, has_marks}
 use Rattle.wm_forest.specs.Change.{at}
 use Rattle.wm_forest.specs.Counts.{mark_count}
@@ -13,8 +11,8 @@ use Rattle.wm_forest.specs.Look.{has}
 use Rattle.wm_forest.specs.Marks.{marks_word}
 use Rattle.wm_forest.specs.SoundRow.{tally}
 use Rattle.wm_swallow.specs.Limits.{different, is_held}
-use Rattle.wm_swallow.proofs.HeldLemmas.{beside_held, held, held_beside, held_by, held_is, held_off, held_own, held_set, off_count, set_count, with_mark_length, with_mark_others, with_mark_own}
-use Rattle.wm_swallow.proofs.MarkBudget.{LearnsOf, different_same, takes_one}
+use Rattle.wm_swallow.proofs.HeldLemmas.{held, held_beside, held_by, held_is, held_off, held_own, held_set, off_count, set_count, with_mark_length, with_mark_others, with_mark_own}
+use Rattle.wm_swallow.proofs.MarkBudget.{LearnsOf, takes_one}
 use Rattle.wm_tree.specs.Move.{is_full_of_marks, marks_in}
 use Rattle.wm_tree.specs.TreeValue.{TreeValue}
 
@@ -104,8 +102,8 @@ module _ (c : ConId) (m : List ℕ) (t : TreeValue) (there : has c t.nodes ≡ t
           let nodes : (cleared c m true t).nodes ≡ taken_off (Some c) m t.nodes = ap (taken_off (Some c) m) (marks_same c t.nodes) in
           let all : mark_count (taken_off (Some c) m t.nodes) ≤ 1023 = let one : ◌≡◌ {A = ℕ} (cond (bears m own) 0 1) 1 = rw e refl in omega (arith, one, count_most, room, takes_one m (is_held t.nodes) (is_held new) tree_learns ms) in
           let mine : length (marks_in c (taken_off (Some c) m t.nodes)) ≤ 31 =
-              let one : ◌≡◌ {A = ℕ} (cond (bears m own) 0 1) 1 = rw e refl in
-              let same : length (marks_in c (taken_off (Some c) m t.nodes)) ≡ length own = ap (λ (ms : List (List ℕ)). length ms) (marks_off c m t.nodes) in
-              omega (arith, one, own_room, takes_one m (λ x. bears x own) (λ x. bears x (marks_in c new)) own_learns os, same) in
+          let one : ◌≡◌ {A = ℕ} (cond (bears m own) 0 1) 1 = rw e refl in
+          let same : length (marks_in c (taken_off (Some c) m t.nodes)) ≡ length own = ap (λ (ms : List (List ℕ)). length ms) (marks_off c m t.nodes) in
+          omega (arith, one, own_room, takes_one m (λ x. bears x own) (λ x. bears x (marks_in c new)) own_learns os, same) in
           let full : is_full_of_marks c (cleared c m true t).nodes ≡ false = ap (is_full_of_marks c) nodes ∙ few (mark_count (taken_off (Some c) m t.nodes)) (length (marks_in c (taken_off (Some c) m t.nodes))) all mine in
           rw (e, full) refl

@@ -1,5 +1,5 @@
 -- A new node last in another one: what is seen of it, of that one, and of the others.
-use Rattle.std.proofs.Common.{◌≡◌, ◌+◌, ◌≤◌, ℕ, Bool, true, false, cond, ◌||◌, Option, Some, None, refl, sym, ◌∙◌, ap, subst, arith}
+use Rattle.std.proofs.Common.{◌≡◌, ◌+◌, ℕ, Bool, true, false, cond, ◌||◌, Some, refl, ap, arith}
 use Rattle.std.specs.Prelude.{option_map}
 use Rattle.wm_base.specs.declared.ids.ConId.{ConId}
 use Rattle.wm_forest.specs.declared.part.Part.{Part}
@@ -11,7 +11,7 @@ use Rattle.wm_forest.specs.Look.{has, same}
 use Rattle.wm_forest.specs.Place.{put}
 use Rattle.wm_forest.specs.Spot.{room_below}
 use Rattle.wm_forest.proofs.RecencyLemmas.{same_is, same_self}
-use Rattle.wm_swallow.proofs.StandLemmas.{Standing, standing, standing_of, takes_kids}
+use Rattle.wm_swallow.proofs.StandLemmas.{Standing, standing, standing_of}
 use Rattle.wm_tree.specs.Move.{marks_in}
 
 none_of : (a k l r : Bool) → (a || k || l || r) ≡ false → (a ≡ false) × (k ≡ false) × (l ≡ false) × (r ≡ false)

@@ -1,12 +1,10 @@
 -- Who has a mark before and after it is given to a container, and how many marks there are.
-use Rattle.std.proofs.Common.{◌≡◌, ℕ, ◌+◌, ◌≤◌, Bool, true, false, cond, ◌||◌, ◌&&◌, not, List, [], ◌∷◌, ◌++◌, length, Option, Some, None, filter, refl, sym, ◌∙◌, ap, subst, suc, arith}
+use Rattle.std.proofs.Common.{◌≡◌, ℕ, ◌+◌, ◌≤◌, Bool, true, false, cond, ◌||◌, ◌&&◌, not, List, [], ◌∷◌, ◌++◌, length, Option, Some, None, refl, sym, ◌∙◌, subst, suc, arith}
 use Rattle.std.specs.Prelude.{is_some}
-use Rattle.std.specs.List.{list_any}
 use Rattle.std.specs.Option.{option_or}
 use Rattle.std.specs.Str.{bytes_eq}
 use Rattle.wm_base.specs.declared.ids.ConId.{ConId}
-use Rattle.wm_focus.specs.Marks.{bearer, bears, given_mark, part_off, taken_off, with_mark}
-use Rattle.wm_focus.proofs.MarkForests.{marks_off, marks_same, marks_set, off_marks}
+use Rattle.wm_focus.specs.Marks.{bearer, bears, taken_off, with_mark}
 use Rattle.wm_focus.proofs.MarkLists.{bytes_one, bytes_self}
 use Rattle.wm_forest.specs.declared.part.Part.{Part}
 use Rattle.wm_forest.specs.Change.{append, at, is_end, is_id}

@@ -1,5 +1,6 @@
 pub mod CourseLemmas
 pub mod FillLemmas
+pub mod FitLemmas
 pub mod FreeLemmas
 pub mod GiveLemmas
 pub mod GrowLemmas

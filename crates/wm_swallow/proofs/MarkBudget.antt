@@ -1,9 +1,8 @@
 -- Marks that are given one after the other: how many are new, and how many there are afterwards.
-use Rattle.std.proofs.Common.{◌≡◌, ℕ, ◌+◌, ◌≤◌, Bool, true, false, cond, ◌||◌, not, List, [], ◌∷◌, ◌++◌, length, Option, Some, None, refl, sym, ◌∙◌, ap, subst, arith}
-use Rattle.std.specs.List.{list_any}
+use Rattle.std.proofs.Common.{◌≡◌, ℕ, ◌+◌, ◌≤◌, Bool, true, false, cond, ◌||◌, List, [], ◌∷◌, refl, sym, ◌∙◌, ap, arith}
 use Rattle.std.specs.Str.{bytes_eq}
 use Rattle.wm_focus.specs.Marks.{bears}
-use Rattle.wm_focus.proofs.MarkLists.{bytes_one, bytes_self}
+use Rattle.wm_focus.proofs.MarkLists.{bytes_one}
 use Rattle.wm_swallow.specs.Limits.{different}
 
 -- tests that differ in the mark m alone, which the second one passes

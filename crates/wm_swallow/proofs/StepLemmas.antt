@@ -1,10 +1,10 @@
 -- What one step of appending makes of what is seen of the nodes.
-use Rattle.std.proofs.Common.{◌≡◌, ◌≢◌, ◌⊎◌, eqb, ◌+◌, ◌-◌, ◌≤◌, ◌<◌, ℕ, Bool, true, false, cond, List, [], ◌∷◌, Option, Some, None, refl, sym, ◌∙◌, ap, subst, inl, inr, arith}
+use Rattle.std.proofs.Common.{◌≡◌, ◌≢◌, ◌⊎◌, eqb, ◌+◌, ◌-◌, ◌≤◌, ◌<◌, ℕ, Bool, true, false, cond, List, [], ◌∷◌, Option, Some, None, refl, ◌∙◌, ap, inl, inr, arith}
 use Rattle.std.specs.Prelude.{option_map}
 use Rattle.std.proofs.lemmas.Bool.Decides.{eqb_tells}
 use Rattle.wm_base.specs.declared.ids.ConId.{ConId}
 use Rattle.wm_base.specs.declared.plan.Border.{Border}
-use Rattle.wm_focus.specs.Marks.{given_mark, part_off, taken_off}
+use Rattle.wm_focus.specs.Marks.{given_mark, taken_off}
 use Rattle.wm_forest.specs.declared.kind.KindEdit.TheVariants as edits
 use Rattle.wm_forest.specs.declared.part.ConState.{ConState}
 use Rattle.wm_forest.specs.declared.part.NodeKind.{NodeKind}
@@ -24,10 +24,10 @@ use Rattle.wm_forest.specs.SoundRow.{one_of, tally}
 use Rattle.wm_forest.specs.Spot.{top}
 use Rattle.wm_forest.proofs.ChangeLemmas.{by_change}
 use Rattle.wm_forest.proofs.CountLemmas.{count-put, tally-absent}
-use Rattle.wm_forest.proofs.RecencyLemmas.{same_is, same_self}
-use Rattle.wm_swallow.specs.Appending.{bordered, come, come_marked, given_marks, state_with}
+use Rattle.wm_forest.proofs.RecencyLemmas.{same_self}
+use Rattle.wm_swallow.specs.Appending.{come, come_marked, given_marks, state_with}
 use Rattle.wm_swallow.proofs.GrowLemmas.{has_grown, standing_new, standing_other, standing_own}
-use Rattle.wm_swallow.proofs.StandLemmas.{Alike, Seen, Standing, alike_cons, alike_has, alike_standing, alike_tally, plain, plain_kind, seen, standing}
+use Rattle.wm_swallow.proofs.StandLemmas.{Alike, Standing, alike_cons, alike_has, alike_standing, alike_tally, plain, plain_kind, seen, standing}
 use Rattle.wm_tree.specs.TreeValue.{TreeValue}
 use Rattle.wm_tree.specs.Words.{attached}
 

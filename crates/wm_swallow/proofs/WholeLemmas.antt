@@ -1,23 +1,24 @@
 -- Appending a layout to a workspace of a sound tree, where it passes no limit, is free of refusals.
-use Rattle.std.proofs.Common.{◌≡◌, ◌≢◌, ℕ, ◌+◌, ◌-◌, ◌≤◌, ◌<◌, Bool, true, false, cond, leb, ltb, ◌||◌, ◌&&◌, not, List, [], ◌∷◌, ◌++◌, length, Option, Some, None, refl, sym, ◌∙◌, ap, subst, arith}
+use Rattle.std.proofs.Common.{◌≡◌, ◌≢◌, ℕ, ◌+◌, ◌≤◌, ◌<◌, Bool, true, false, cond, leb, ltb, ◌||◌, not, List, [], ◌∷◌, ◌++◌, Option, Some, None, refl, sym, ◌∙◌, ap, subst, arith}
 use Rattle.std.specs.Prelude.{is_some}
 use Rattle.std.specs.Option.{option_or}
 use Rattle.std.proofs.lemmas.Bool.Decides.{nat_tests}
-use Rattle.wm_base.specs.declared.errors.Limit.{Limit}
 use Rattle.wm_base.specs.declared.errors.Limit.TheVariants.{Containers, Children, Depth, Marks, Ids}
 use Rattle.wm_base.specs.declared.ids.ConId.{ConId}
-use Rattle.wm_base.specs.declared.plan.Layout.{Layout}
 use Rattle.wm_forest.specs.Counts.{con_count, mark_count, row_length}
-use Rattle.wm_forest.specs.Look.{first_kids, first_part, has, kind_by, kind_of, only, space_kind}
-use Rattle.wm_forest.specs.SoundRow.{tally}
+use Rattle.wm_forest.specs.Look.{first_kids, has, kind_of, only, same, space_kind}
 use Rattle.wm_forest.specs.Spot.{top}
 use Rattle.wm_forest.proofs.CountLemmas.{counted}
+use Rattle.wm_forest.proofs.RecencyLemmas.{same_is}
 use Rattle.wm_saved.specs.declared.saved.SavedKind.{SavedKind, Split', Placeholder, Row_of-SavedNode, end_of-SavedNode, more_of-SavedNode}
 use Rattle.wm_saved.specs.declared.saved.SavedNode.{SavedNode}
-use Rattle.wm_swallow.specs.Limits.{HasFitMarks, IsSpaceThere, different, is_held, is_overmarked, passed_by_append, passed_by_containers, passed_by_marks}
-use Rattle.wm_swallow.specs.SavedRows.{Saved, none, saved, all_marks, fits, is_wide, newcomer, row_below, row_of, row_size, rows, size}
+use Rattle.wm_swallow.specs.Limits.{HasFitMarks, IsSpaceThere, different, is_held, is_overmarked, passed_by_append}
+use Rattle.wm_swallow.specs.SavedRows.{Saved, all_marks, fits, is_wide, newcomer, row_below, row_of, row_size, rows, size}
+use Rattle.wm_swallow.specs.Appending.{appended}
+use Rattle.wm_swallow.specs.Laws.{AppendingAdds, IsMore}
 use Rattle.wm_swallow.specs.Steps.{IsFree}
-use Rattle.wm_swallow.proofs.FreeLemmas.{AreSplits, Fits, free, is_none}
+use Rattle.wm_swallow.proofs.CourseLemmas.{Course, course}
+use Rattle.wm_swallow.proofs.FreeLemmas.{AreSplits, free, is_none}
 use Rattle.wm_swallow.proofs.GiveLemmas.{HasRoom}
 use Rattle.wm_swallow.proofs.HeldLemmas.{absent}
 use Rattle.wm_swallow.proofs.StandLemmas.{Seen, Standing, is_seen, seen, standing}
@@ -122,3 +123,29 @@ whole w nodes t s there space fit passed = by (standing 0 w t.nodes) refl (is_se
           fit = fit;
         })
         [] (subst (HasRoom t.nodes) (sym (append_none (all_marks (rows nodes)))) g.marks)
+
+-- ---- what was added
+
+-- a node that was there is there still
+still : (w c : ConId) (row : Saved) (t : TreeValue) (x : Standing) → IsSound t → has c t.nodes ≡ true → Course w row t x (appended w row t) → has w (appended w row t).nodes ≡ true → has c (appended w row t).nodes ≡ true
+still w c row t x s here k own = by (same w c) refl (standing 0 c t.nodes) refl (is_seen 0 c t.nodes here)
+  where
+    by : (b : Bool) → same w c ≡ b → (o : Option Standing) → standing 0 c t.nodes ≡ o → is_some o ≡ true → has c (appended w row t).nodes ≡ true
+    by true e o f h = subst (λ z. has z (appended w row t).nodes ≡ true) (same_is w c e) own
+    by false e None f h = cc
+    by false e (Some y) f h = (seen top c (appended w row t).nodes y (k.others c (low_sound c t s here) e ∙ f)).there
+
+pub appending_adds : AppendingAdds
+appending_adds w row t s there = by (standing 0 w t.nodes) refl (is_seen 0 w t.nodes there)
+  where
+    by : (o : Option Standing) → standing 0 w t.nodes ≡ o → is_some o ≡ true → IsMore w row t (appended w row t)
+    by None e h = cc
+    by (Some x) e h =
+        let k : Course w row t x (appended w row t) = course w row t x (low_sound w t s there) (fresh_sound t s) e in
+        let own : Seen top w (appended w row t).nodes (record x { kids = x.kids + row_size row }) = seen top w (appended w row t).nodes (record x { kids = x.kids + row_size row }) k.own in
+        record {
+          ids = k.next;
+          containers = k.cons;
+          children = own.kids ∙ ap (λ n. n + row_size row) (sym (seen top w t.nodes x e).kids);
+          kept = λ c here. still w c row t x s here k own.there;
+        }

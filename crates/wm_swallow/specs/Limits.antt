@@ -1,5 +1,5 @@
 -- The limits that appending a saved layout may pass, and why it is refused.
-use Rattle.std.specs.Prelude.{◌≡◌, ◌≢◌, ℕ, ◌+◌, Bool, true, false, ◌||◌, not, nat_lt, if◌then◌else◌, List, [], ◌∷◌, length, Option, None, Some, is_some}
+use Rattle.std.specs.Prelude.{◌≡◌, ◌≢◌, ℕ, ◌+◌, Bool, true, false, ◌||◌, not, nat_lt, if◌then◌else◌, List, [], ◌∷◌, Option, None, Some, is_some}
 use Rattle.std.specs.List.{list_all}
 use Rattle.std.specs.Option.{option_or}
 use Rattle.wm_base.specs.declared.errors.Limit.{Limit}
@@ -31,7 +31,7 @@ different known (m ∷ ms) = (if bears m ms || known m then 0 else 1) + differen
 -- some container has more than 32 different marks
 abbrev pub is_overmarked : Saved → Bool
 is_overmarked none = false
-is_overmarked (saved border marks newcomer kids rest) = nat_lt 32 (different (λ m. false) marks) || is_overmarked kids || is_overmarked rest
+is_overmarked (saved border marks newcomer kids rest) = nat_lt 32 (different (known_by None) marks) || is_overmarked kids || is_overmarked rest
 
 -- the first of the limits on containers that the row would pass last in a row of such children of a workspace
 abbrev pub passed_in : Forest → Saved → TreeValue → Option Limit

@@ -1,5 +1,5 @@
 //! Appending a saved layout to a workspace.
-ghost use Rattle.std.specs.Prelude.{◌≡◌, IfOk, OnOk, OnErr, IfErr, None, true, false};
+ghost use Rattle.std.specs.Prelude.{◌≡◌, IfOk, OnOk, OnErr, IfErr, IsTrue, None, true, false};
 ghost use Rattle.wm_forest.specs.Look.{has};
 ghost use Rattle.wm_forest.specs.RootId.{id};
 ghost use Rattle.wm_swallow.specs.Appending.{appended, come, come_marked, given_marks, state_with};
@@ -44,7 +44,6 @@ fn attach_all(
 
 /// Puts what is below a saved container into the one that came for it.
 #[cycle(nodes)]
-#[tactic(auto, using(crate::proofs::SavedLemmas::below_split))]
 fn attach_below(
     alloc: Global,
     tree: &mut Tree,
@@ -194,7 +193,7 @@ pub fn append(
 ) -> Result<(), TreeRefusal>
     requires sound { IsSound tree.old }
     requires space { IsSpaceThere workspace tree.old.nodes }
-    requires fit { is_fit layout.now ≡ true }
+    requires fit { IsTrue (is_fit layout.now) }
     ensures tree { OnOk result (tree.new ≡ appended workspace (rows layout.now.trees) tree.old) }
     ensures fine { OnOk result ((has workspace tree.old.nodes ≡ true) × (passed_by_append workspace (rows layout.now.trees) tree.old ≡ None)) }
     ensures err { OnErr result (tree.new ≡ tree.old) }

@@ -1,5 +1,5 @@
-//! Laws on the definitions of placeholders that swallow windows.
-ghost use Rattle.wm_swallow.specs.Laws.{FoundTakes, IdsStay, IsFirst, IsWindowAfterwards, MarksStay};
+//! Laws on the definitions of placeholders that swallow windows, and of layouts that are appended.
+ghost use Rattle.wm_swallow.specs.Laws.{AppendingAdds, FoundTakes, IdsStay, IsFirst, IsWindowAfterwards, MarksStay};
 
 /// What is found is the first node, depth first and each before its tiled children, that takes the window; nothing is found
 /// exactly where none takes it.
@@ -21,4 +21,11 @@ pub fn placeholder_becomes_window()
 pub fn ids_and_marks_stay()
     ensures ids { IdsStay }
     ensures marks { MarksStay }
+{}
+
+/// Appending to a workspace of a sound tree gives as many ids as the layout has containers, adds these containers and the
+/// trees to the workspace's children, and loses nothing.
+#[tactic(auto, using(crate::proofs::WholeLemmas::appending_adds))]
+pub fn appending_adds_all()
+    ensures { AppendingAdds }
 {}

@@ -8,5 +8,7 @@ mod shapes;
 mod swallowing;
 
 pub use appending::append;
-pub use laws::{first_one_swallows, ids_and_marks_stay, placeholder_becomes_window};
+pub use laws::{
+    appending_adds_all, first_one_swallows, ids_and_marks_stay, placeholder_becomes_window,
+};
 pub use swallowing::swallow;

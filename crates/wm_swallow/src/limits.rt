@@ -125,7 +125,6 @@ fn room_after(nodes: &[SavedNode], room: usize) -> Option<usize>
 
 /// How much of the room is left after the containers below one of this kind.
 #[cycle(room)]
-#[tactic(auto, using(crate::proofs::SavedLemmas::below_split))]
 fn room_after_kind(kind: &SavedKind, room: usize) -> Option<usize>
     ensures { MatchOption result (room < size (row_below kind.now)) (λ left. left + size (row_below kind.now) ≡ room) }
 {
@@ -213,7 +212,6 @@ fn gather(nodes: &[SavedNode], found: &mut Vec<Text>) -> Result<(), AllocError>
 
 /// Puts the marks of the containers below one of this kind behind the ones that were found.
 #[cycle(gather)]
-#[tactic(auto, using(crate::proofs::SavedLemmas::below_split))]
 fn gather_kind(kind: &SavedKind, found: &mut Vec<Text>) -> Result<(), AllocError>
     ensures { OnOk result (found.new.items ≡ found.old.items ++ all_marks (row_below kind.now)) }
 {

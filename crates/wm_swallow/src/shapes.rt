@@ -1,5 +1,6 @@
 //! How many children, levels and marks saved containers have.
-ghost use Rattle.std.specs.Prelude.{◌≡◌, ◌+◌, ◌||◌, not, nat_lt, length};
+ghost use Rattle.std.specs.Prelude.{◌≡◌, ◌||◌, not, nat_lt};
+ghost use Rattle.std.specs.Option.{option_copied};
 ghost use Rattle.wm_focus.specs.Marks.{bears};
 ghost use Rattle.wm_swallow.specs.Limits.{different, is_overmarked, known_by};
 ghost use Rattle.wm_swallow.specs.SavedRows.{fits, is_wide, row_below, row_size, rows};
@@ -28,16 +29,22 @@ pub(crate) fn is_wide(nodes: &[SavedNode]) -> bool
 
 /// Whether one of this kind, or a container below it, has more children than it may have.
 #[cycle(width)]
-#[tactic(auto, using(crate::proofs::SavedLemmas::below_split, crate::proofs::SavedLemmas::row_length_is))]
 fn is_wide_kind(kind: &SavedKind) -> bool
     ensures { result ≡ (nat_lt 256 (row_size (row_below kind.now)) || is_wide (row_below kind.now)) }
 {
     match kind {
-        SavedKind::Split { nodes, .. } => {
-            nodes.items().len() > MAX_CHILDREN || is_wide(nodes.items())
-        }
+        SavedKind::Split { nodes, .. } => is_wide_row(nodes.items()),
         SavedKind::Placeholder { .. } => false,
     }
+}
+
+/// Whether these are more children than a container may have, or a container of these or below them has more.
+#[cycle(width)]
+#[tactic(auto, using(crate::proofs::SavedLemmas::row_length_is))]
+fn is_wide_row(nodes: &[SavedNode]) -> bool
+    ensures { result ≡ (nat_lt 256 (row_size (rows nodes.now)) || is_wide (rows nodes.now)) }
+{
+    nodes.len() > MAX_CHILDREN || is_wide(nodes)
 }
 
 /// Whether these and what is below them have at most so many levels.
@@ -93,7 +100,7 @@ fn is_overmarked_kind(kind: &SavedKind) -> bool
 /// Whether there is room for the different ones of these marks that no container of the tree has; of all different ones
 /// where there is no tree.
 pub(crate) fn fit_new(tree: Option<&Tree>, marks: &[Text], room: usize) -> bool
-    ensures { result ≡ not (nat_lt room (different (known_by (option_copied tree)) marks.now)) }
+    ensures { result ≡ not (nat_lt room (different (known_by (option_copied tree.entry)) marks.now)) }
 {
     let mut left = room;
     let mut rest = marks;
@@ -111,7 +118,7 @@ pub(crate) fn fit_new(tree: Option<&Tree>, marks: &[Text], room: usize) -> bool
 
 /// Whether a container of the tree has the mark, where there is a tree.
 fn is_known(tree: Option<&Tree>, mark: &Text) -> bool
-    ensures { result ≡ known_by (option_copied tree) mark.now }
+    ensures { result ≡ known_by (option_copied tree.entry) mark.now }
 {
     match tree {
         Some(tree) => marked(tree, mark).is_some(),
