@@ -14,7 +14,7 @@ use Rattle.wm_forest.specs.Place.{new_kind, room_at}
 use Rattle.wm_forest.specs.RootId.{id}
 use Rattle.wm_forest.specs.Spot.{top}
 use Rattle.wm_swallow.specs.Appending.{appended, come, come_marked}
-use Rattle.wm_swallow.specs.Limits.{different, is_overmarked, known_by}
+use Rattle.wm_swallow.specs.Limits.{different, is_overmarked}
 use Rattle.wm_swallow.specs.SavedRows.{Saved, none, saved, all_marks, fits, is_wide, row_size, size}
 use Rattle.wm_swallow.specs.Steps.{IsFree, IsRoomIn}
 use Rattle.wm_swallow.proofs.CourseLemmas.{CameBare, Course, all_then, bearer_new, came_bare, course, room_after, room_came, room_for}
@@ -110,12 +110,12 @@ free p (saved border marks newcomer kids rest) t s low fresh h g behind room =
     let d : Course c kids t1 s1 t2 = course c kids t1 s1 (omega (arith, k.next)) k.fresh k.newcomer_is in
     let wide = or3 (ltb 256 (row_size kids)) (is_wide kids) (is_wide rest) g.narrow in
     let deep = and3 (ltb 0 s.levels) (fits (s.levels - 1) kids) (fits s.levels rest) g.deep in
-    let few = or3 (ltb 32 (different (known_by None) marks)) (is_overmarked kids) (is_overmarked rest) g.few in
+    let few = or3 (ltb 32 (different (λ m. false) marks)) (is_overmarked kids) (is_overmarked rest) g.few in
     let fit = fit3 marks (all_marks kids) (all_marks rest) g.fit in
     let x : List (List ℕ) = all_marks kids ++ (all_marks rest ++ behind) in
     let bare : CameBare p border newcomer t = came_bare p border newcomer t (seen top p t.nodes s h).there (fresh c (omega arith)) in
     let room0 : HasRoom t0.nodes (marks ++ x) = room_came p border newcomer t bare (marks ++ x) (subst (HasRoom t.nodes) (all_then marks (all_marks kids) (all_marks rest) behind) room) in
-    let own : HasRoomOf (marks_in c t0.nodes) marks = subst (λ (ms : List (List ℕ)). HasRoomOf ms marks) (sym bare.marks) (omega (arith, at_most 32 (different (known_by None) marks) few.0)) in
+    let own : HasRoomOf (marks_in c t0.nodes) marks = subst (λ (ms : List (List ℕ)). HasRoomOf ms marks) (sym bare.marks) (omega (arith, at_most 32 (different (λ m. false) marks) few.0)) in
     let room1 : HasRoom t1.nodes x = room_after c t0 s1 (bearer_new p border newcomer t s b) marks x room0 in
     let here2 : standing 0 p t2.nodes ≡ Some s2 = d.others p (omega (arith, k.next, low)) (lower c p low) ∙ k.own in (
       room_in p t s h (g.takes refl) (omega (arith, g.cons)) (omega (arith, g.kids)) (some_level s.levels deep.0) (omega (arith, g.ids)),

@@ -11,7 +11,8 @@ use Rattle.wm_forest.specs.Look.{has}
 use Rattle.wm_forest.specs.Marks.{marks_word}
 use Rattle.wm_forest.specs.SoundRow.{tally}
 use Rattle.wm_swallow.specs.Limits.{different, is_held}
-use Rattle.wm_swallow.proofs.HeldLemmas.{held, held_beside, held_by, held_is, held_off, held_own, held_set, off_count, set_count, with_mark_length, with_mark_others, with_mark_own}
+use Rattle.wm_swallow.proofs.HeldLemmas.{held, held_beside, held_by, held_is, held_off, held_own, held_set, with_mark_length, with_mark_others, with_mark_own}
+use Rattle.wm_swallow.proofs.MarkCounts.{off_count, set_count}
 use Rattle.wm_swallow.proofs.MarkBudget.{LearnsOf, takes_one}
 use Rattle.wm_tree.specs.Move.{is_full_of_marks, marks_in}
 use Rattle.wm_tree.specs.TreeValue.{TreeValue}

@@ -1,3 +1,4 @@
+pub mod BehindLemmas
 pub mod CourseLemmas
 pub mod FillLemmas
 pub mod FitLemmas
@@ -6,6 +7,7 @@ pub mod GiveLemmas
 pub mod GrowLemmas
 pub mod HeldLemmas
 pub mod MarkBudget
+pub mod MarkCounts
 pub mod SavedLemmas
 pub mod StandLemmas
 pub mod StepLemmas

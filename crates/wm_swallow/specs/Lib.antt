@@ -1,4 +1,5 @@
 pub mod Appending
+pub mod Behind
 pub mod Laws
 pub mod Limits
 pub mod SavedRows

@@ -18,11 +18,6 @@ use Rattle.wm_tree.specs.TreeValue.{TreeValue}
 abbrev pub is_held : Forest → List ℕ → Bool
 is_held f m = is_some (bearer None m f)
 
--- the same of a tree, where there is one
-abbrev pub known_by : Option TreeValue → List ℕ → Bool
-known_by None m = false
-known_by (Some t) m = is_held t.nodes m
-
 -- how many different marks there are that are not known
 abbrev pub different : (List ℕ → Bool) → List (List ℕ) → ℕ
 different known [] = 0
@@ -31,7 +26,7 @@ different known (m ∷ ms) = (if bears m ms || known m then 0 else 1) + differen
 -- some container has more than 32 different marks
 abbrev pub is_overmarked : Saved → Bool
 is_overmarked none = false
-is_overmarked (saved border marks newcomer kids rest) = nat_lt 32 (different (known_by None) marks) || is_overmarked kids || is_overmarked rest
+is_overmarked (saved border marks newcomer kids rest) = nat_lt 32 (different (λ m. false) marks) || is_overmarked kids || is_overmarked rest
 
 -- the first of the limits on containers that the row would pass last in a row of such children of a workspace
 abbrev pub passed_in : Forest → Saved → TreeValue → Option Limit
@@ -60,7 +55,7 @@ passed_by_append w row t = option_or (passed_by_containers w row t) (passed_by_m
 abbrev pub IsAppendCause : TreeValue → ConId → Saved → TreeRefusal → Type 0
 IsAppendCause t w row (refusals.Missing c) = (c ≡ w) × (has w t.nodes ≡ false)
 IsAppendCause t w row (refusals.Full limit) = (has w t.nodes ≡ true) × (passed_by_append w row t ≡ Some limit)
-IsAppendCause t w row refusals.NoMemory = (has w t.nodes ≡ true) × (passed_by_containers w row t ≡ None)
+IsAppendCause t w row refusals.NoMemory = (has w t.nodes ≡ true) × (passed_by_append w row t ≡ None)
 
 -- w is a workspace where it is there
 abbrev pub IsSpaceThere : ConId → Forest → Type 0

@@ -201,7 +201,7 @@ pub fn append(
     ensures sound { IsSound tree.new }
 {
     let trees = layout.trees.items();
-    check(alloc, tree, workspace, trees)?;
+    check(tree, workspace, trees)?;
     *tree = with_all(alloc, tree, workspace, trees)?;
     Ok(())
 }

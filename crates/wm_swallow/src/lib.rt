@@ -2,6 +2,7 @@
 #![tactic(auto)]
 
 mod appending;
+mod behind;
 mod laws;
 mod limits;
 mod shapes;

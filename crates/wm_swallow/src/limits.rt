@@ -5,9 +5,9 @@ ghost use Rattle.wm_forest.specs.Look.{first_kids, has, only};
 ghost use Rattle.wm_swallow.specs.Limits.{different, is_held, passed_by_append, passed_by_marks, passed_in, IsAppendCause};
 ghost use Rattle.wm_swallow.specs.SavedRows.{all_marks, fits, is_wide, row_below, row_size, rows, size};
 
-use crate::shapes::{MAX_CHILDREN, fit_new, fits, is_overmarked, is_wide};
-use std::alloc::{AllocError, Global};
-use wm_base::{ConId, Limit, NoMemory, Text};
+use crate::behind::{Behind, room_after_marks};
+use crate::shapes::{MAX_CHILDREN, fits, is_overmarked, is_wide};
+use wm_base::{ConId, Limit};
 use wm_saved::{SavedKind, SavedNode};
 use wm_tree::{Cursor, NodeKind, Tree, TreeRefusal};
 
@@ -23,15 +23,10 @@ const MAX_MARKS: usize = 1_024;
 /// The first id that is not given.
 const END_OF_IDS: u32 = 4_000_000_001;
 
-/// Refuses where the workspace is not there, or appending these to it would pass a limit.
-pub(crate) fn check(
-    alloc: Global,
-    tree: &Tree,
-    workspace: ConId,
-    nodes: &[SavedNode],
-) -> Result<(), TreeRefusal>
+/// Refuses where the workspace is not there, or appending these to it would pass a limit. Takes no memory.
+pub(crate) fn check(tree: &Tree, workspace: ConId, nodes: &[SavedNode]) -> Result<(), TreeRefusal>
     ensures fine { OnOk result ((has workspace tree.now.nodes ≡ true) × (passed_by_append workspace (rows nodes.now) tree.now ≡ None)) }
-    ensures cause { IfErr result (IsAppendCause tree.now workspace (rows nodes.now)) }
+    ensures cause { IfErr result (λ e. (e ≢ TreeRefusal.NoMemory) × IsAppendCause tree.now workspace (rows nodes.now) e) }
 {
     let Some(kids) = kids_of(tree.nodes(), workspace) else {
         return Err(TreeRefusal::Missing(workspace));
@@ -39,7 +34,7 @@ pub(crate) fn check(
     if let Some(limit) = passed_by_containers(tree, &kids, nodes) {
         return Err(TreeRefusal::Full { limit });
     }
-    if let Some(limit) = passed_by_marks(alloc, tree, nodes)? {
+    if let Some(limit) = passed_by_marks(tree, nodes) {
         return Err(TreeRefusal::Full { limit });
     }
     Ok(())
@@ -156,31 +151,25 @@ fn room_in(row: &Cursor<'_>, room: usize) -> Option<usize>
 }
 
 /// The first of the limits on marks and ids that would be passed by appending these.
-fn passed_by_marks(
-    alloc: Global,
-    tree: &Tree,
-    nodes: &[SavedNode],
-) -> Result<Option<Limit>, NoMemory>
-    ensures { IfOk result (λ limit. limit ≡ passed_by_marks (rows nodes.now) tree.now) }
+fn passed_by_marks(tree: &Tree, nodes: &[SavedNode]) -> Option<Limit>
+    ensures { result ≡ passed_by_marks (rows nodes.now) tree.now }
 {
-    if is_overmarked(nodes) || !marks_fit(alloc, tree, nodes)? {
-        Ok(Some(Limit::Marks))
+    if is_overmarked(nodes) || !marks_fit(tree, nodes) {
+        Some(Limit::Marks)
     } else if !ids_fit(tree, nodes) {
-        Ok(Some(Limit::Ids))
+        Some(Limit::Ids)
     } else {
-        Ok(None)
+        None
     }
 }
 
 /// Whether there is room for the marks of these containers that no container of the tree has.
-fn marks_fit(alloc: Global, tree: &Tree, nodes: &[SavedNode]) -> Result<bool, NoMemory>
-    ensures { IfOk result (λ fit. fit ≡ not (nat_lt 1024 (mark_count tree.now.nodes + different (is_held tree.now.nodes) (all_marks (rows nodes.now))))) }
+fn marks_fit(tree: &Tree, nodes: &[SavedNode]) -> bool
+    ensures { result ≡ not (nat_lt 1024 (mark_count tree.now.nodes + different (is_held tree.now.nodes) (all_marks (rows nodes.now)))) }
 {
-    let mut marks = Vec::new(alloc);
-    gather(nodes, &mut marks)?;
     match room_beside_marks(tree.nodes(), MAX_MARKS) {
-        Some(room) => Ok(fit_new(Some(tree), &marks, room)),
-        None => Ok(false),
+        Some(room) => room_after_marks(tree, nodes, &Behind::Nothing, room).is_some(),
+        None => false,
     }
 }
 
@@ -195,42 +184,6 @@ fn room_beside_marks(row: Cursor<'_>, room: usize) -> Option<usize>
     let room = room_beside_marks(row.kids(), room)?;
     let room = room_beside_marks(row.floats(), room)?;
     room_beside_marks(row.rest(), room)
-}
-
-/// Puts the marks of these containers and those below them behind the ones that were found, depth first.
-#[cycle(gather)]
-fn gather(nodes: &[SavedNode], found: &mut Vec<Text>) -> Result<(), AllocError>
-    ensures { OnOk result (found.new.items ≡ found.old.items ++ all_marks (rows nodes.now)) }
-{
-    let [node, rest @ ..] = nodes else {
-        return Ok(());
-    };
-    push_all(node.marks.items(), found)?;
-    gather_kind(&node.kind, found)?;
-    gather(rest, found)
-}
-
-/// Puts the marks of the containers below one of this kind behind the ones that were found.
-#[cycle(gather)]
-fn gather_kind(kind: &SavedKind, found: &mut Vec<Text>) -> Result<(), AllocError>
-    ensures { OnOk result (found.new.items ≡ found.old.items ++ all_marks (row_below kind.now)) }
-{
-    match kind {
-        SavedKind::Split { nodes, .. } => gather(nodes.items(), found),
-        SavedKind::Placeholder { .. } => Ok(()),
-    }
-}
-
-/// Puts the marks behind the ones that were found.
-fn push_all(marks: &[Text], found: &mut Vec<Text>) -> Result<(), AllocError>
-    ensures { OnOk result (found.new.items ≡ found.old.items ++ marks.now) }
-{
-    let mut rest = marks;
-    while let [mark, after @ ..] = rest {
-        found.push(mark.clone()?)?;
-        rest = after;
-    }
-    Ok(())
 }
 
 /// Whether there are ids left for these containers and those below them.

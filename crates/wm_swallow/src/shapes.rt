@@ -1,14 +1,11 @@
 //! How many children, levels and marks saved containers have.
-ghost use Rattle.std.specs.Prelude.{◌≡◌, ◌||◌, not, nat_lt};
-ghost use Rattle.std.specs.Option.{option_copied};
+ghost use Rattle.std.specs.Prelude.{◌≡◌, ◌||◌, false, nat_lt};
 ghost use Rattle.wm_focus.specs.Marks.{bears};
-ghost use Rattle.wm_swallow.specs.Limits.{different, is_overmarked, known_by};
+ghost use Rattle.wm_swallow.specs.Limits.{different, is_overmarked};
 ghost use Rattle.wm_swallow.specs.SavedRows.{fits, is_wide, row_below, row_size, rows};
 
 use wm_base::Text;
-use wm_focus::marked;
 use wm_saved::{SavedKind, SavedNode};
-use wm_tree::Tree;
 
 /// How many tiled children a container has at most.
 pub(crate) const MAX_CHILDREN: usize = 256;
@@ -79,7 +76,7 @@ pub(crate) fn is_overmarked(nodes: &[SavedNode]) -> bool
     match nodes {
         [] => false,
         [node, rest @ ..] => {
-            !fit_new(None, node.marks.items(), MAX_MARKS_OF_ONE)
+            are_too_many(node.marks.items())
                 || is_overmarked_kind(&node.kind)
                 || is_overmarked(rest)
         }
@@ -97,37 +94,26 @@ fn is_overmarked_kind(kind: &SavedKind) -> bool
     }
 }
 
-/// Whether there is room for the different ones of these marks that no container of the tree has; of all different ones
-/// where there is no tree.
-pub(crate) fn fit_new(tree: Option<&Tree>, marks: &[Text], room: usize) -> bool
-    ensures { result ≡ not (nat_lt room (different (known_by (option_copied tree.entry)) marks.now)) }
+/// Whether these are more different marks than a container may have.
+fn are_too_many(marks: &[Text]) -> bool
+    ensures { result ≡ nat_lt 32 (different (λ m. false) marks.now) }
 {
-    let mut left = room;
+    let mut room = MAX_MARKS_OF_ONE;
     let mut rest = marks;
     while let [mark, after @ ..] = rest {
-        if !bears(after, mark) && !is_known(tree, mark) {
-            if left == 0 {
-                return false;
+        if !bears(after, mark) {
+            if room == 0 {
+                return true;
             }
-            left -= 1;
+            room -= 1;
         }
         rest = after;
     }
-    true
-}
-
-/// Whether a container of the tree has the mark, where there is a tree.
-fn is_known(tree: Option<&Tree>, mark: &Text) -> bool
-    ensures { result ≡ known_by (option_copied tree.entry) mark.now }
-{
-    match tree {
-        Some(tree) => marked(tree, mark).is_some(),
-        None => false,
-    }
+    false
 }
 
 /// Whether the mark is among the marks.
-fn bears(marks: &[Text], mark: &Text) -> bool
+pub(crate) fn bears(marks: &[Text], mark: &Text) -> bool
     ensures { result ≡ bears mark.now marks.now }
 {
     marks.iter().any(|own| own.as_str() == mark.as_str())
