@@ -104,11 +104,12 @@ fn give_marks(tree: &mut Tree, con: ConId, marks: &[Text]) -> Result<(), NoMemor
     ensures tree { OnOk result (tree.new ≡ given_marks con marks.now tree.old) }
     ensures sound { IsSound tree.new }
 {
-    let [name, rest @ ..] = marks else {
-        return Ok(());
-    };
-    give_mark(tree, con, name)?;
-    give_marks(tree, con, rest)
+    let mut rest = marks;
+    while let [name, after @ ..] = rest {
+        give_mark(tree, con, name)?;
+        rest = after;
+    }
+    Ok(())
 }
 
 /// Gives the mark to the container, and takes it off any other.

@@ -120,21 +120,24 @@ fn room_after_own(
 ) -> Option<usize>
     ensures { IsRoomLeft (is_held tree.now.nodes) marks.now (all_marks (row_below kind.now) ++ behind_marks behind.now) room result }
 {
-    match marks {
-        [] => Some(room),
-        [mark, rest @ ..] => {
-            let new = is_new(tree, mark, rest, kind, &*behind);
-            let left = room_after_own(tree, rest, kind, &*behind, room)?;
-            one_less(new, left)
-        }
-    }
+    room.checked_sub(new_marks(tree, marks, kind, &*behind))
 }
 
-/// One less of the room for a new mark. `None` where there is none.
-fn one_less(new: bool, room: usize) -> Option<usize>
-    ensures { MatchOption result (room < (if new then 1 else 0)) (λ left. left + (if new then 1 else 0) ≡ room) }
+/// How many of these marks of a container of this kind no container of the tree has, nor one below the kind or behind; each is
+/// counted once.
+fn new_marks(tree: &Tree, marks: &[Text], kind: &SavedKind, behind: &Behind<'_>) -> usize
+    ensures { result + different (is_held tree.now.nodes) (all_marks (row_below kind.now) ++ behind_marks behind.now)
+        ≡ different (is_held tree.now.nodes) (marks.now ++ (all_marks (row_below kind.now) ++ behind_marks behind.now)) }
 {
-    if new { room.checked_sub(1) } else { Some(room) }
+    let mut count = 0;
+    let mut rest = marks;
+    while let [mark, after @ ..] = rest {
+        if is_new(tree, mark, after, kind, &*behind) {
+            count += 1;
+        }
+        rest = after;
+    }
+    count
 }
 
 /// Whether no container of the tree has the mark, nor is it one of these, or stands below the kind or behind.
