@@ -1,0 +1,15 @@
+pub mod BehindLemmas
+pub mod CourseLemmas
+pub mod FillLemmas
+pub mod FitLemmas
+pub mod FreeLemmas
+pub mod GiveLemmas
+pub mod GrowLemmas
+pub mod HeldLemmas
+pub mod MarkBudget
+pub mod MarkCounts
+pub mod SavedLemmas
+pub mod StandLemmas
+pub mod StepLemmas
+pub mod WalkLemmas
+pub mod WholeLemmas
