@@ -23,7 +23,7 @@ def commands(page):
             found.append((text[2:], shown))
         elif shown is not None:
             shown.append(text)
-        elif re.match(r"(\./run|cd|rt) ", text):
+        elif re.match(r"(\./run|\(cd|rt) ", text):
             found.append((text, None))
     return [one for one in found if not one[0].startswith(SKIPPED)]
 
