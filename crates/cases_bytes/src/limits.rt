@@ -3,7 +3,7 @@ use case_data::Fault;
 use wm_base::{ErrorText, Limit};
 
 /// Each error that a reply can give.
-pub const ERRORS: [ErrorText; 28] = [
+pub const ERRORS: [ErrorText; 27] = [
     ErrorText::NoMatch,
     ErrorText::NotWindow,
     ErrorText::NotTiled,
@@ -31,7 +31,6 @@ pub const ERRORS: [ErrorText; 28] = [
     ErrorText::FullIds,
     ErrorText::ScratchEmpty,
     ErrorText::NoCriteria,
-    ErrorText::NotBuilt,
 ];
 
 const LIMITS: [Limit; 7] = [

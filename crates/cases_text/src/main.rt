@@ -1,7 +1,8 @@
-//! The program cases_text: what texts of commands and criteria read as, print as and match, and which plans are sound, from
-//! files of such cases.
+//! The program cases_text: what texts of commands and criteria read as, print as and match, which plans are sound, and
+//! what configurations give, from files of such cases.
 #![tactic(auto)]
 
+mod configs;
 mod desk;
 mod form;
 mod matched;
@@ -71,6 +72,7 @@ fn tell_whole(word: &str, words: &mut Words<'_>, out: &mut String) -> Result<(),
         "prepares_long" => prepared::tell_long(words, out),
         "plan" => plans::tell_plan(words, out),
         "rect" => plans::tell_fit(words, out),
+        "config" => configs::tell_config(words, out),
         "matches" => matched::tell_matches(words, out),
         _ => Err(Fault::BadLine),
     }

@@ -1,4 +1,4 @@
-//! The program i3replay: replays scripts of windows, draws their frames, and answers frames of i3-ipc.
+//! The program i3replay: replays scripts of windows, draws their frames, answers frames of i3-ipc, and takes steps that a number makes.
 #![tactic(auto)]
 
 use std::alloc::AllocError;
@@ -18,6 +18,7 @@ i3replay: replays scripts of windows, draws their frames, and answers frames of 
 usage: i3replay replay < SCRIPT    write the answers and frames of a script
        i3replay draw < SCRIPT      write the last frame of a script as a picture, a portable pixmap
        i3replay ipc < FRAMES       write the replies to the messages of i3-ipc, and events
+       i3replay generate N COUNT   write how far COUNT steps lead that are made from the number N
        i3replay --help             write this text
        i3replay --version          write the version
 
@@ -47,6 +48,10 @@ once each window whose size it changes has given a buffer for it or was closed, 
 
 All commands are done but `append_layout`, which changes nothing and is answered with `not built yet`. Each message of i3-ipc has
 its reply, and the events that were subscribed follow the reply to the message that they came with; types above 12 have none.
+
+`generate` reads nothing. N is a number of 1 to 10 digits, at most 4294967295, and COUNT one of 1 to 5 digits, at most 20000. It
+writes how many steps were taken, how many layout transactions have ended, how many steps had come when the last of them
+began, and how many windows are open, a line each.
 
 Exit status: 0 done, 2 bad words, 3 bad script, 4 bad frames, 5 frames cut short, 6 input too large, 7 read fault, 8 write fault, 9 no memory.";
 

@@ -22,6 +22,7 @@ both_last p q = record {
   putting_away = λ w c t e f g h. (p.putting_away w c t e f g h.0, q.putting_away w c t e f g h.1);
   sinking = λ c t e f h. (p.sinking c t e f h.0, q.sinking c t e f h.1);
   attaching = λ who props natural t e f h. (p.attaching who props natural t e f h.0, q.attaching who props natural t e f h.1);
+  joining = λ c newcomer t e f h. (p.joining c newcomer t e f h.0, q.joining c newcomer t e f h.1);
   wrapping = λ c layout t e f g h. (p.wrapping c layout t e f g h.0, q.wrapping c layout t e f g h.1);
   space_coming = λ o name t e f g h. (p.space_coming o name t e f g h.0, q.space_coming o name t e f g h.1);
   output_coming = λ plan name t e f h. (p.output_coming plan name t e f h.0, q.output_coming plan name t e f h.1);

@@ -6,8 +6,9 @@ use Rattle.wm_floats.proofs.FloatLemmas.{window_is}
 use Rattle.wm_floats.specs.Floating.{floating_rect}
 use Rattle.wm_floats.specs.Windows.{window_refusal}
 use Rattle.wm_focus.specs.Marks.{bare, part_off, taken_off}
+use Rattle.wm_focus.specs.Swaps.{is_window_kind}
 use Rattle.law_lasting.proofs.EachLemmas.{each_along, each_change, each_exchanged, each_only, each_put, each_raised, each_settled, each_taking, each_without}
-use Rattle.law_lasting.proofs.FlagLemmas.{Right, each_moved, right_edited, right_fullscreen, right_hidden, right_loose, right_sink, right_state}
+use Rattle.law_lasting.proofs.FlagLemmas.{Right, each_moved, either_true, right_edited, right_fullscreen, right_hidden, right_loose, right_sink, right_state}
 use Rattle.law_lasting.specs.Each.{Each}
 use Rattle.law_lasting.specs.Flags.{FlagsOnlyWindows, may_be_flagged}
 use Rattle.law_lasting.specs.Lasting.{Lasts}
@@ -28,7 +29,7 @@ use Rattle.wm_tree.specs.Move.{apart, passed_by_move, share_in, wrap_word}
 use Rattle.wm_forest.specs.Marks.{marks_word, other_marks, unmark_word}
 use Rattle.wm_forest.specs.Taking.{heir}
 use Rattle.wm_tree.specs.Outputs.{left_to, new_output, new_space, without_output, yielded}
-use Rattle.wm_forest.specs.Place.{new_part, rect_at, share_at}
+use Rattle.wm_forest.specs.Place.{new_kind, new_part, rect_at, share_at}
 use Rattle.wm_tree.specs.TreeValue.{TreeValue, current, newcomer_place, opening_outputs, workspace_of}
 use Rattle.wm_forest.specs.RootId.{id, root}
 use Rattle.wm_tree.specs.Words.{edited}
@@ -101,6 +102,8 @@ flags_last = record {
   putting_away = λ w c t s on fits q. each_moved right_loose c (Scratchpad (rect_of c t)) t q;
   sinking = λ c t s fits q. right_sink c t q;
   attaching = λ who props natural t s fits q. each_put Right (newcomer_place t) (con (new_part (id t.next_id) (share_at (newcomer_place t) t.nodes) t.border (rect_at (newcomer_place t)) (new.Window props who natural)) end end end) t.nodes (refl, tt, tt, tt) q;
+  joining = λ p newcomer t s room q.
+      each_put Right (Last p) (con (new_part (id t.next_id) (share_at (Last p) t.nodes) t.border (rect_at (Last p)) newcomer) end end end) t.nodes (either_true (is_window_kind (new_kind newcomer)), tt, tt, tt) q;
   wrapping = λ c layout t s own after q.
       each_change Right c wrap_word (new_part (id t.next_id) (share_in c t.nodes) t.border None (new.Split layout)) (λ part kids floats rest p. (refl, (shared part.kind p.0, p.1, p.2, tt), tt, p.3)) t.nodes q;
   space_coming = λ o name t s out after q. each_put Right (Last o) (new_space (id t.next_id) name t) t.nodes (refl, tt, tt, tt) q;

@@ -2,8 +2,10 @@
 use Rattle.std.proofs.Common.{◌≡◌, ◌≢◌, ℕ, ◌≤◌, Bool, true, false, cond, ◌||◌, not, List, Option, None, Some, refl, ap, sym, ◌∙◌, arith}
 use Rattle.std.specs.Option.{option_map}
 use Rattle.wm_base.specs.declared.geometry.Rect.{Rect}
+use Rattle.wm_base.specs.declared.geometry.Size.{Size}
 use Rattle.wm_base.specs.declared.ids.ConId.{ConId}
 use Rattle.wm_base.specs.declared.plan.Layout.{Layout}
+use Rattle.wm_base.specs.declared.properties.Props.{Props}
 use Rattle.wm_floats.specs.Floating.{floating_rect, sink_tree, sunk, tiling_place}
 use Rattle.wm_floats.specs.Fullscreen.{fullscreen_tree, others_unfull, unfull_but}
 use Rattle.wm_floats.specs.Scratchpad.{to_scratchpad_tree}
@@ -31,7 +33,7 @@ use Rattle.wm_forest.specs.declared.part.Part.{Part}
 use Rattle.wm_forest.specs.declared.place.Place.{Place}
 use Rattle.wm_forest.specs.declared.place.Place.TheVariants.{Scratchpad}
 use Rattle.wm_forest.specs.Forest.{Forest, end, con}
-use Rattle.wm_forest.specs.Kinds.{changed, kind_changed, laid_out, titled}
+use Rattle.wm_forest.specs.Kinds.{changed, filled, kind_changed, laid_out, titled}
 use Rattle.wm_forest.specs.Look.{con_kind, first_part, has, kind_by, kind_of, only, same}
 use Rattle.wm_tree.specs.Move.{apart, moved, moved_share}
 use Rattle.wm_forest.specs.Place.{named, rect_at}
@@ -70,6 +72,11 @@ titled_window t (Split layout last) = refl
 titled_window t (Window props owner natural) = refl
 titled_window t (Placeholder props swallows) = refl
 
+filled_window : (props : Props) (owner : ℕ) (natural : Size) (kind : ConKind) (b : Bool) → (is_window_kind kind || not b) ≡ true → (is_window_kind (filled props owner natural kind) || not b) ≡ true
+filled_window props owner natural (Split layout last) b h = h
+filled_window props owner natural (Window p o n) b h = refl
+filled_window props owner natural (Placeholder p swallows) b h = refl
+
 right_changed : (edit : KindEdit) (kind : NodeKind) → is_plain edit ≡ true → may_be_flagged kind ≡ true → may_be_flagged (changed edit kind) ≡ true
 right_changed edit (Root c) plain h = by_edit edit
   where
@@ -90,7 +97,7 @@ right_changed edit (Con c) plain h = by_edit edit plain
   where
     by_edit : (e : KindEdit) → is_plain e ≡ true → may_be_flagged (changed e (Con c)) ≡ true
     by_edit (edits.State s) z = cc
-    by_edit (edits.Fill props owner natural) z = cc
+    by_edit (edits.Fill props owner natural) z = filled_window props owner natural c.kind c.state.flagged h
     by_edit (edits.Layout l) z = ap (λ b. b || not c.state.flagged) (laid_window l c.kind) ∙ h
     by_edit (edits.Title t) z = ap (λ b. b || not c.state.flagged) (titled_window t c.kind) ∙ h
     by_edit other z = h
@@ -137,7 +144,7 @@ each_moved {Q} k c p t q =
     each_put Q p (arriving (moved_share c p t.nodes) (rect_at p) (apart t c (named p)) (only c t.nodes)) (without c t.nodes)
     (each_arriving k (moved_share c p t.nodes) (rect_at p) (apart t c (named p)) (only c t.nodes) (each_only Q c t.nodes q)) (each_without Q c t.nodes q)
 
-either_true : (b : Bool) → (b || true) ≡ true
+pub either_true : (b : Bool) → (b || true) ≡ true
 either_true true = refl
 either_true false = refl
 

@@ -43,7 +43,7 @@ module _ {P : TreeValue → Type 0} (k : Lasts P) where
   last_unmark (Some c) None t p = k.marking c [] t p
   last_unmark (Some c) (Some n) t p = k.unmarking c n t p
 
-  last_given : (c : ConId) (n : List ℕ) (add : Bool) (t : TreeValue) → P t → P (given_mark c n add t)
+  pub last_given : (c : ConId) (n : List ℕ) (add : Bool) (t : TreeValue) → P t → P (given_mark c n add t)
   last_given c n add t p =
       let marks : List (List ℕ) = with_mark n (kept_marks n add (marks_in c t.nodes)) in
       k.taking_off (Some c) n (with_marks c marks t) (k.marking c marks t p)

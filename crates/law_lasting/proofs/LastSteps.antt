@@ -14,6 +14,8 @@ use Rattle.wm_shared.specs.Showing.{output_focused}
 use Rattle.wm_spaces.proofs.ComingLemmas.{heir_output, named_output, still_output}
 use Rattle.wm_spaces.specs.Coming.{free_name, left_output, output_added_tree, output_gone, output_gone_some, output_removed_tree}
 use Rattle.wm_spaces.specs.Names.{output_named}
+use Rattle.wm_swallow.specs.Swallowing.{filled_at, swallowed, swallower}
+use Rattle.wm_forest.proofs.EditLemmas.{fits_fill}
 use Rattle.wm_tree.proofs.AttachLemmas.{sound-attached}
 use Rattle.wm_tree.proofs.OutputLemmas.{sound-without_output}
 use Rattle.wm_tree.proofs.PlaceLemmas.{place_fits}
@@ -75,6 +77,21 @@ module _ {P : TreeValue → Type 0} (k : Lasts P) where
   has_mapped who props natural raises c t g fits =
       let there : TreeValue = attached (newcomer_place t) (new.Window props who natural) t in
       has_settled k (cond raises (with_raised c there) there) (has_raised_if raises c there (has_attached who props natural t g fits))
+
+  -- a window that comes to its placeholder
+  has_filled : (o : Option ConId) (props : Props) (owner : ℕ) (natural : Size) (t : TreeValue) → HasLast P t → HasLast P (filled_at o props owner natural t)
+  has_filled None props owner natural t g = g
+  has_filled (Some c) props owner natural t g = record {
+    sound = sound-edited c (edits.Fill props owner natural) t (fits_fill props owner natural (spot_in top c t.nodes) (first_kids (only c t.nodes))) g.sound;
+    held = k.editing c (edits.Fill props owner natural) t refl g.held;
+  }
+
+  -- and is raised or not, and then settling
+  pub has_swallowed : (props : Props) (owner : ℕ) (natural : Size) (raises : Bool) (c : ConId) (t : TreeValue) → HasLast P t
+      → HasLast P (settled (cond raises (with_raised c (swallowed props owner natural t)) (swallowed props owner natural t)))
+  has_swallowed props owner natural raises c t g =
+      let there : TreeValue = swallowed props owner natural t in
+      has_settled k (cond raises (with_raised c there) there) (has_raised_if raises c there (has_filled (swallower props t) props owner natural t g))
 
   pub has_detached : (c : ConId) (t : TreeValue) → HasLast P t → kind_of con_kind c t.nodes ≢ None → HasLast P (detached c t)
   has_detached c t g ok = record { sound = sound-detached c t ok g.sound; held = k.detaching c t g.sound ok g.held }

@@ -15,6 +15,7 @@ use Rattle.wm_criteria.specs.declared.verdict.Verdict.{Verdict}
 use Rattle.wm_language.specs.declared.batch.Group.{Group}
 use Rattle.wm_language.specs.declared.command.Command.{Command}
 use Rattle.wm_language.specs.declared.command.Command.TheVariants as commands
+use Rattle.law_lasting.proofs.LastAppends.{last_append}
 use Rattle.law_lasting.proofs.LastCommands.{last_dir, last_floating, last_focus_dir, last_laid, last_output_some, last_raised_some, last_split, last_swap, last_to_mark, last_to_named, last_to_output}
 use Rattle.law_lasting.proofs.LastFloats.{last_kind, last_placed, last_scratchpad, last_stuck}
 use Rattle.law_lasting.proofs.LastSizes.{last_border, last_cycled, last_format, last_gaps, last_mark, last_rect, last_resized, last_unmark}
@@ -94,9 +95,10 @@ module _ {P : TreeValue → Type 0} (k : Lasts P) where
   last_row env how (commands.TitleFormat format) c t sub h p = last_format k c format t p
   last_row env how other c t sub h p = p
 
-  pub last_whole : (env : Env) (command : Command) (t : TreeValue) → IsSound t → whole_refusal command t ≡ None → P t → P (whole_tree env command t)
+  pub last_whole : (env : Env) (command : Command) (t : TreeValue) → IsSound t → whole_refusal env command t ≡ None → P t → P (whole_tree env command t)
   last_whole env (commands.Workspace target) t s h p = last_goal_shown k (goal_of target t) env.homes t s (goal_by target t (goal_of target t) refl s) h p
   last_whole env (commands.Rename was name) t s h p = last_renamed k (renamed_space was t) name t p
+  last_whole env (commands.AppendLayout name) t s h p = last_append k name env.layouts t s h p
   last_whole env other t s h p = p
 
   -- ---- subjects, commands and groups
@@ -125,9 +127,9 @@ module _ {P : TreeValue → Type 0} (k : Lasts P) where
   has_course : (env : Env) (c : Course) (command : Command) (t : TreeValue) → HasLast P t → HasLast P (course_tree env c command t)
   has_course env (refused e) command t g = g
   has_course env (on how cs) command t g = has_each env how command cs t g
-  has_course env whole command t g = has_unless (whole_refusal command t) t (settled (whole_tree env command t)) g (λ h. done h)
+  has_course env whole command t g = has_unless (whole_refusal env command t) t (settled (whole_tree env command t)) g (λ h. done h)
     where
-      done : whole_refusal command t ≡ None → HasLast P (settled (whole_tree env command t))
+      done : whole_refusal env command t ≡ None → HasLast P (settled (whole_tree env command t))
       done h = has_settled (whole_tree env command t) (record { sound = (sure_whole env command t g.sound h).sound; held = last_whole env command t g.sound h g.held })
 
   has_commands : (env : Env) (found : Targets) (cs : List Command) (o : Outcome) → HasLast P o.tree → HasLast P (commands_done env found cs o).tree

@@ -2,6 +2,7 @@ pub mod BothLast
 pub mod EachLemmas
 pub mod FlagLasts
 pub mod FlagLemmas
+pub mod LastAppends
 pub mod LastCommands
 pub mod LastFloats
 pub mod LastSizes

@@ -13,7 +13,7 @@ use Rattle.wm_focus.specs.Swaps.{is_window_kind}
 use Rattle.law_lasting.proofs.BothLast.{both_last}
 use Rattle.law_lasting.proofs.FlagLasts.{flags_last}
 use Rattle.law_lasting.proofs.FlagLemmas.{Right}
-use Rattle.law_lasting.proofs.LastSteps.{has_added, has_closed, has_detached, has_mapped, has_removed, has_reserved, has_titled, has_urgent}
+use Rattle.law_lasting.proofs.LastSteps.{has_added, has_closed, has_detached, has_mapped, has_removed, has_reserved, has_swallowed, has_titled, has_urgent}
 use Rattle.law_lasting.proofs.LastTexts.{HasLast, has_outcome, has_settled}
 use Rattle.law_lasting.proofs.StowedLasts.{Holds, stowed_lasts}
 use Rattle.law_lasting.proofs.StowedLemmas.{row_of}
@@ -32,6 +32,7 @@ use Rattle.wm_forest.specs.declared.place.NewCon.TheVariants as new
 use Rattle.wm_forest.specs.Forest.{Forest, end, con}
 use Rattle.wm_forest.specs.Look.{con_kind, first_floats, kind_of}
 use Rattle.wm_forest.specs.Place.{passed_limit}
+use Rattle.wm_swallow.specs.Swallowing.{swallowed}
 use Rattle.wm_tree.specs.Sound.{IsSound}
 use Rattle.wm_tree.specs.TreeValue.{TreeValue, newcomer_place, opening}
 use Rattle.wm_tree.specs.Words.{attached, detached, edited, settled, with_raised}
@@ -85,6 +86,11 @@ pub mapping_keeps : (who : ℕ) (props : Props) (natural : Size) (raises : Bool)
     → HasScratchpad (settled (cond raises (with_raised c (attached (newcomer_place t) (new.Window props who natural) t)) (attached (newcomer_place t) (new.Window props who natural) t)))
 mapping_keeps who props natural raises c t s h fits =
     back (settled (cond raises (with_raised c (attached (newcomer_place t) (new.Window props who natural) t)) (attached (newcomer_place t) (new.Window props who natural) t))) (has_mapped both_lasts who props natural raises c t (from t s h) fits)
+
+pub swallowing_keeps : (props : Props) (owner : ℕ) (natural : Size) (raises : Bool) (c : ConId) (t : TreeValue) → IsSound t → HasScratchpad t
+    → HasScratchpad (settled (cond raises (with_raised c (swallowed props owner natural t)) (swallowed props owner natural t)))
+swallowing_keeps props owner natural raises c t s h =
+    back (settled (cond raises (with_raised c (swallowed props owner natural t)) (swallowed props owner natural t))) (has_swallowed both_lasts props owner natural raises c t (from t s h))
 
 pub closing_keeps : (c : ConId) (t : TreeValue) → IsSound t → HasScratchpad t → kind_of con_kind c t.nodes ≢ None → HasScratchpad (settled (detached c t))
 closing_keeps c t s h ok = back (settled (detached c t)) (has_closed both_lasts c t (from t s h) ok)

@@ -9,9 +9,9 @@ use Rattle.wm_base.specs.declared.properties.Props.{Props}
 use Rattle.wm_criteria.specs.declared.verdict.Verdict.{Verdict}
 use Rattle.law_fullscreen.proofs.FloatLemmas.{single_hidden, single_put_away, single_sinking}
 use Rattle.law_fullscreen.proofs.SingleLemmas.{Single, has_of, single_along, single_attached, single_bare, single_detached, single_edited, single_exchanged, single_filled, single_marks, single_moved, single_nodes, single_of, single_opening, single_raised, single_restated, single_settled, single_space_moved, single_taken_off, single_unmarked, single_with_output, single_with_space, single_without_output, single_wrapped}
-use Rattle.law_fullscreen.proofs.WordLemmas.{is_state}
+use Rattle.law_fullscreen.proofs.WordLemmas.{is_state, one_attached}
 use Rattle.law_fullscreen.specs.Fullscreen.{HasOne}
-use Rattle.law_lasting.proofs.LastSteps.{has_added, has_closed, has_mapped, has_removed, has_reserved, has_titled, has_urgent}
+use Rattle.law_lasting.proofs.LastSteps.{has_added, has_closed, has_mapped, has_removed, has_reserved, has_swallowed, has_titled, has_urgent}
 use Rattle.law_lasting.proofs.LastTexts.{HasLast, has_outcome, has_settled}
 use Rattle.law_lasting.specs.Changes.{is_plain}
 use Rattle.law_lasting.specs.Lasting.{Lasts}
@@ -21,7 +21,10 @@ use Rattle.wm_spaces.specs.Coming.{output_added_tree, output_removed_tree}
 use Rattle.wm_forest.specs.declared.kind.KindEdit.{KindEdit}
 use Rattle.wm_forest.specs.declared.kind.KindEdit.TheVariants as edits
 use Rattle.wm_forest.specs.declared.place.NewCon.TheVariants as new
+use Rattle.wm_forest.specs.declared.place.Place.TheVariants.{Last}
 use Rattle.wm_forest.specs.Look.{con_kind, kind_of}
+use Rattle.wm_swallow.specs.Swallowing.{swallowed}
+use Rattle.wm_tree.proofs.AttachLemmas.{sound-attached}
 use Rattle.wm_forest.specs.Place.{passed_limit}
 use Rattle.wm_tree.specs.Sound.{IsSound}
 use Rattle.wm_tree.specs.TreeValue.{TreeValue, newcomer_place}
@@ -29,7 +32,6 @@ use Rattle.wm_tree.specs.Words.{attached, detached, edited, settled, with_raised
 
 plain_state : (edit : KindEdit) → is_plain edit ≡ true → is_state edit ≡ false
 plain_state (edits.State s) h = cc
-plain_state (edits.Fill props owner natural) h = cc
 plain_state other h = refl
 
 pub single_lasts : Lasts Single
@@ -51,6 +53,7 @@ single_lasts = record {
   putting_away = λ w c t s on fits q. single_put_away w c t s on q;
   sinking = λ c t s fits q. single_sinking c t s fits q;
   attaching = λ who props natural t s fits q. single_attached who props natural t s fits q;
+  joining = λ p newcomer t s room q. record { one = one_attached (Last p) newcomer t q.one; low = (sound-attached (Last p) newcomer t room.there room.place room.free s).low };
   wrapping = λ c layout t s own after q. single_wrapped c layout t after q;
   space_coming = λ o name t s out after q. single_with_space o name t after q;
   output_coming = λ plan name t s after q. single_with_output plan name t after q;
@@ -75,6 +78,11 @@ pub mapping_keeps : (who : ℕ) (props : Props) (natural : Size) (raises : Bool)
     → HasOne (settled (cond raises (with_raised c (attached (newcomer_place t) (new.Window props who natural) t)) (attached (newcomer_place t) (new.Window props who natural) t)))
 mapping_keeps who props natural raises c t s h fits =
     back (settled (cond raises (with_raised c (attached (newcomer_place t) (new.Window props who natural) t)) (attached (newcomer_place t) (new.Window props who natural) t))) (has_mapped single_lasts who props natural raises c t (from t s h) fits)
+
+pub swallowing_keeps : (props : Props) (owner : ℕ) (natural : Size) (raises : Bool) (c : ConId) (t : TreeValue) → IsSound t → HasOne t
+    → HasOne (settled (cond raises (with_raised c (swallowed props owner natural t)) (swallowed props owner natural t)))
+swallowing_keeps props owner natural raises c t s h =
+    back (settled (cond raises (with_raised c (swallowed props owner natural t)) (swallowed props owner natural t))) (has_swallowed single_lasts props owner natural raises c t (from t s h))
 
 pub closing_keeps : (c : ConId) (t : TreeValue) → IsSound t → HasOne t → kind_of con_kind c t.nodes ≢ None → HasOne (settled (detached c t))
 closing_keeps c t s h ok = back (settled (detached c t)) (has_closed single_lasts c t (from t s h) ok)

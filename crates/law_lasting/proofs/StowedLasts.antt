@@ -149,6 +149,8 @@ stowed_lasts = record {
   putting_away = λ w c t s on fits q. holds_put_away w c t s on fits q;
   sinking = λ c t s fits q. stowed_sink c t s fits q;
   attaching = λ who props natural t s fits q. holds_attached who props natural t s q;
+  joining = λ p newcomer t s room q.
+      stowed_put (Last p) (con (new_part (id t.next_id) (share_at (Last p) t.nodes) t.border (rect_at (Last p)) newcomer) end end end) t.nodes (place_low (Last p) t s room.there room.place refl) tt q;
   wrapping = λ c layout t s own after q. holds_wrapped c layout t s own q;
   space_coming = λ o name t s out after q. holds_with_space o name t s out q;
   output_coming = λ plan name t s after q. holds_with_output plan name t q;

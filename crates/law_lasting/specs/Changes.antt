@@ -6,10 +6,9 @@ use Rattle.wm_forest.specs.declared.part.ConState.{ConState}
 use Rattle.wm_forest.specs.declared.place.Place.{Place}
 use Rattle.wm_forest.specs.declared.place.Place.TheVariants.{After, Before, First, Last, Float, Scratchpad}
 
--- the change is neither of a container's state nor makes a window of a placeholder
+-- the change is not of a container's state
 abbrev pub is_plain : KindEdit → Bool
 is_plain (edits.State s) = false
-is_plain (edits.Fill props owner natural) = false
 is_plain other = true
 
 -- the new state is fullscreen and flagged as the old one is, and has an outer rectangle where that has one

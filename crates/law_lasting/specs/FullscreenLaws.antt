@@ -14,6 +14,7 @@ use Rattle.wm_forest.specs.declared.kind.KindEdit.TheVariants as edits
 use Rattle.wm_forest.specs.declared.place.NewCon.TheVariants as new
 use Rattle.wm_forest.specs.Look.{con_kind, kind_of}
 use Rattle.wm_forest.specs.Place.{passed_limit}
+use Rattle.wm_swallow.specs.Swallowing.{swallowed}
 use Rattle.wm_tree.specs.Sound.{IsSound}
 use Rattle.wm_tree.specs.TreeValue.{TreeValue, newcomer_place}
 use Rattle.wm_tree.specs.Words.{attached, detached, edited, settled, with_raised}
@@ -27,6 +28,12 @@ abbrev pub MappingKeepsOneFullscreen : Type 0
 MappingKeepsOneFullscreen =
     (who : ℕ) (props : Props) (natural : Size) (raises : Bool) (c : ConId) (t : TreeValue) → IsSound t → HasOne t → passed_limit (newcomer_place t) t.nodes t.next_id ≡ None
     → HasOne (settled (if raises then with_raised c (attached (newcomer_place t) (new.Window props who natural) t) else attached (newcomer_place t) (new.Window props who natural) t))
+
+-- a window that comes to its placeholder, and is then raised or not, and settling after it
+abbrev pub SwallowingKeepsOneFullscreen : Type 0
+SwallowingKeepsOneFullscreen =
+    (props : Props) (owner : ℕ) (natural : Size) (raises : Bool) (c : ConId) (t : TreeValue) → IsSound t → HasOne t
+    → HasOne (settled (if raises then with_raised c (swallowed props owner natural t) else swallowed props owner natural t))
 
 -- a container that is closed, and settling after it
 abbrev pub ClosingKeepsOneFullscreen : Type 0

@@ -16,12 +16,15 @@ use Rattle.wm_focus.specs.Marks.{bare, taken_off}
 use Rattle.wm_focus.specs.Moves.{IsTurn}
 use Rattle.law_lasting.specs.Changes.{KeepsState, is_plain, stows}
 use Rattle.wm_shared.specs.Subject.{is_space}
+use Rattle.wm_swallow.specs.Steps.{IsRoomIn}
 use Rattle.wm_tree.specs.Along.{gone_along}
 use Rattle.wm_forest.specs.declared.kind.KindEdit.{KindEdit}
 use Rattle.wm_forest.specs.declared.kind.KindEdit.TheVariants as edits
 use Rattle.wm_forest.specs.declared.part.ConState.{ConState}
+use Rattle.wm_forest.specs.declared.place.NewCon.{NewCon}
 use Rattle.wm_forest.specs.declared.place.NewCon.TheVariants as new
 use Rattle.wm_forest.specs.declared.place.Place.{Place}
+use Rattle.wm_forest.specs.declared.place.Place.TheVariants.{Last}
 use Rattle.wm_forest.specs.Look.{con_kind, kind_of, same}
 use Rattle.wm_tree.specs.Move.{exchanged, moved, unmarked, with_marks, wrapped}
 use Rattle.wm_tree.specs.Outputs.{IsOutput, space_moved, with_output, with_space, without_output}
@@ -56,6 +59,7 @@ pub record Lasts (P : TreeValue → Type 0) : Type 0 where
   pub sinking : (c : ConId) (t : TreeValue) → IsSound t → sink_refusal c t ≡ None → P t → P (sink_tree c t)
   -- nodes that come and go
   pub attaching : (who : ℕ) (props : Props) (natural : Size) (t : TreeValue) → IsSound t → passed_limit (newcomer_place t) t.nodes t.next_id ≡ None → P t → P (attached (newcomer_place t) (new.Window props who natural) t)
+  pub joining : (p : ConId) (newcomer : NewCon) (t : TreeValue) → IsSound t → IsRoomIn p t → P t → P (attached (Last p) newcomer t)
   pub wrapping : (c : ConId) (layout : Layout) (t : TreeValue) → IsSound t → is_tiled_con t c ≡ true → IsSound (wrapped c layout t) → P t → P (wrapped c layout t)
   pub space_coming : (o : ConId) (name : List ℕ) (t : TreeValue) → IsSound t → IsOutput o t.nodes → IsSound (with_space o name t) → P t → P (with_space o name t)
   pub output_coming : (plan : OutputPlan) (name : List ℕ) (t : TreeValue) → IsSound t → IsSound (with_output plan name t) → P t → P (with_output plan name t)

@@ -16,6 +16,7 @@ use Rattle.wm_forest.specs.declared.place.NewCon.TheVariants as new
 use Rattle.wm_forest.specs.Forest.{end}
 use Rattle.wm_forest.specs.Look.{con_kind, kind_of}
 use Rattle.wm_forest.specs.Place.{passed_limit}
+use Rattle.wm_swallow.specs.Swallowing.{swallowed}
 use Rattle.wm_tree.specs.Sound.{IsSound}
 use Rattle.wm_tree.specs.TreeValue.{TreeValue, newcomer_place, opening}
 use Rattle.wm_tree.specs.Words.{attached, detached, edited, settled, with_raised}
@@ -37,6 +38,12 @@ abbrev pub MappingKeepsTheScratchpad : Type 0
 MappingKeepsTheScratchpad =
     (who : ℕ) (props : Props) (natural : Size) (raises : Bool) (c : ConId) (t : TreeValue) → IsSound t → HasScratchpad t → passed_limit (newcomer_place t) t.nodes t.next_id ≡ None
     → HasScratchpad (settled (if raises then with_raised c (attached (newcomer_place t) (new.Window props who natural) t) else attached (newcomer_place t) (new.Window props who natural) t))
+
+-- a window that comes to its placeholder, and is then raised or not, and settling after it
+abbrev pub SwallowingKeepsTheScratchpad : Type 0
+SwallowingKeepsTheScratchpad =
+    (props : Props) (owner : ℕ) (natural : Size) (raises : Bool) (c : ConId) (t : TreeValue) → IsSound t → HasScratchpad t
+    → HasScratchpad (settled (if raises then with_raised c (swallowed props owner natural t) else swallowed props owner natural t))
 
 -- a container that is closed, and settling after it
 abbrev pub ClosingKeepsTheScratchpad : Type 0

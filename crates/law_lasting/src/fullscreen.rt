@@ -1,5 +1,5 @@
 //! Laws of fullscreen: a workspace has at most one fullscreen container, whatever is done.
-ghost use Rattle.law_lasting.specs.FullscreenLaws.{AddedOutputsKeepOneFullscreen, ClosingKeepsOneFullscreen, MappingKeepsOneFullscreen, RemovedOutputsKeepOneFullscreen, ReservingKeepsOneFullscreen, RetitlingKeepsOneFullscreen, TextsKeepOneFullscreen, UrgencyKeepsOneFullscreen};
+ghost use Rattle.law_lasting.specs.FullscreenLaws.{AddedOutputsKeepOneFullscreen, ClosingKeepsOneFullscreen, MappingKeepsOneFullscreen, RemovedOutputsKeepOneFullscreen, ReservingKeepsOneFullscreen, RetitlingKeepsOneFullscreen, SwallowingKeepsOneFullscreen, TextsKeepOneFullscreen, UrgencyKeepsOneFullscreen};
 
 /// A text keeps at most one fullscreen container in each workspace.
 pub fn texts_keep_one_fullscreen()
@@ -9,6 +9,11 @@ pub fn texts_keep_one_fullscreen()
 /// So does a window that is mapped.
 pub fn mapping_keeps_one_fullscreen()
     ensures { MappingKeepsOneFullscreen }
+{}
+
+/// So does a window that comes to its placeholder.
+pub fn swallowing_keeps_one_fullscreen()
+    ensures { SwallowingKeepsOneFullscreen }
 {}
 
 /// So does a container that is closed.

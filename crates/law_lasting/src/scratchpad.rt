@@ -1,5 +1,5 @@
 //! Laws of the scratchpad: it has only flagged windows with an outer rectangle, whatever is done.
-ghost use Rattle.law_lasting.specs.ScratchpadLaws.{AddedOutputsKeepTheScratchpad, ClosingKeepsTheScratchpad, GoingKeepsTheScratchpad, MappingKeepsTheScratchpad, OpeningsHaveAnEmptyScratchpad, RemovedOutputsKeepTheScratchpad, ReservingKeepsTheScratchpad, RetitlingKeepsTheScratchpad, SettlingKeepsTheScratchpad, TextsKeepTheScratchpad, TheScratchpadHasWindows, UrgencyKeepsTheScratchpad};
+ghost use Rattle.law_lasting.specs.ScratchpadLaws.{AddedOutputsKeepTheScratchpad, ClosingKeepsTheScratchpad, GoingKeepsTheScratchpad, MappingKeepsTheScratchpad, OpeningsHaveAnEmptyScratchpad, RemovedOutputsKeepTheScratchpad, ReservingKeepsTheScratchpad, RetitlingKeepsTheScratchpad, SettlingKeepsTheScratchpad, SwallowingKeepsTheScratchpad, TextsKeepTheScratchpad, TheScratchpadHasWindows, UrgencyKeepsTheScratchpad};
 
 /// The scratchpad has only windows, each flagged and with an outer rectangle.
 #[tactic(auto, using(crate::proofs::ScratchpadLemmas::scratchpad_windows))]
@@ -21,6 +21,11 @@ pub fn openings_have_an_empty_scratchpad()
 #[tactic(auto, using(crate::proofs::ScratchpadLemmas::mapping_keeps))]
 pub fn mapping_keeps_the_scratchpad()
     ensures { MappingKeepsTheScratchpad }
+{}
+
+/// A window that comes to its placeholder keeps it.
+pub fn swallowing_keeps_the_scratchpad()
+    ensures { SwallowingKeepsTheScratchpad }
 {}
 
 /// A container that is closed keeps it.

@@ -38,11 +38,19 @@ use Rattle.wm_spaces.specs.Sending.{sent_some}
 use Rattle.wm_spaces.specs.Renaming.{renamed_space}
 use Rattle.wm_spaces.specs.Targets.{goal_of}
 use Rattle.wm_tree.specs.Ids.{IdsRise}
-use Rattle.wm_forest.specs.declared.place.Place.TheVariants.{After}
+use Rattle.wm_base.specs.declared.plan.Border.{Border}
+use Rattle.wm_forest.specs.declared.kind.KindEdit.TheVariants as edits
+use Rattle.wm_forest.specs.declared.place.NewCon.{NewCon}
+use Rattle.wm_forest.specs.declared.place.Place.TheVariants.{After, Last}
+use Rattle.wm_forest.specs.RootId.{id}
+use Rattle.wm_saved.specs.declared.saved.SavedLayout.{SavedLayout}
+use Rattle.wm_swallow.specs.Appending.{appended, bordered, come_marked, given_marks, state_with}
+use Rattle.wm_swallow.specs.SavedRows.{Saved, none, saved, rows}
+use Rattle.wm_apply.specs.Layouts.{append_tree, layout_named}
 use Rattle.wm_tree.specs.Move.{exchanged, moved, unmarked, with_marks, wrapped}
-use Rattle.wm_tree.specs.TreeValue.{TreeValue, is_tiled_con, leaf, parent, workspace_of}
-use Rattle.wm_tree.specs.Words.{settled}
-use Rattle.wm_tree.proofs.IdLemmas.{ids_raised, ids_refl, ids_settled, ids_trans, ids_wrapped}
+use Rattle.wm_tree.specs.TreeValue.{TreeValue, is_tiled_con, leaf, parent, shown, workspace_of}
+use Rattle.wm_tree.specs.Words.{attached, settled}
+use Rattle.wm_tree.proofs.IdLemmas.{ids_attached, ids_edited, ids_raised, ids_refl, ids_settled, ids_trans, ids_wrapped}
 use Rattle.wm_apply.specs.declared.rows.How.{How}
 use Rattle.wm_apply.specs.declared.targets.Targets.{Targets}
 use Rattle.wm_apply.specs.Batches.{Outcome, command_done, commands_done, group_done, groups_done, groups_of, outcome, targets}
@@ -224,9 +232,35 @@ ids_each : (env : Env) (how : How) (command : Command) (cs : List ConId) (t : Tr
 ids_each env how command [] t = ids_refl t
 ids_each env how command (c ∷ cs) t = ids_trans t (one_tree env how command c t) (each_tree env how command (c ∷ cs) t) (ids_one env how command c t) (ids_each env how command cs (one_tree env how command c t))
 
+ids_marked : (c : ConId) (ms : List (List ℕ)) (t : TreeValue) → IdsRise t (given_marks c ms t)
+ids_marked c [] t = ids_refl t
+ids_marked c (m ∷ ms) t =
+    let given : TreeValue = given_mark c m true t in
+    ids_trans t given (given_marks c ms given) (ids_same t given refl refl) (ids_marked c ms given)
+
+ids_come : (p : ConId) (border : Border) (marks : List (List ℕ)) (newcomer : NewCon) (t : TreeValue) → IdsRise t (come_marked p border marks newcomer t)
+ids_come p border marks newcomer t =
+    let there : TreeValue = attached (Last p) newcomer t in
+    let come : TreeValue = bordered (id t.next_id) border there in
+    ids_trans t there (come_marked p border marks newcomer t) (ids_attached (Last p) newcomer t)
+    (ids_trans there come (come_marked p border marks newcomer t) (ids_edited (id t.next_id) (edits.State (state_with border)) there) (ids_marked (id t.next_id) marks come))
+
+ids_appended : (p : ConId) (row : Saved) (t : TreeValue) → IdsRise t (appended p row t)
+ids_appended p none t = ids_refl t
+ids_appended p (saved border marks newcomer kids rest) t =
+    let come : TreeValue = come_marked p border marks newcomer t in
+    let below : TreeValue = appended (id t.next_id) kids come in
+    ids_trans t come (appended p rest below) (ids_come p border marks newcomer t)
+    (ids_trans come below (appended p rest below) (ids_appended (id t.next_id) kids come) (ids_appended p rest below))
+
+ids_append : (layout : Option SavedLayout) (t : TreeValue) → IdsRise t (append_tree layout t)
+ids_append None t = ids_refl t
+ids_append (Some layout) t = ids_appended (shown t) (rows layout.trees) t
+
 ids_whole : (env : Env) (command : Command) (t : TreeValue) → IdsRise t (whole_tree env command t)
 ids_whole env (commands.Workspace target) t = ids_shown (goal_of target t) env.homes t
 ids_whole env (commands.Rename was name) t = ids_renamed (renamed_space was t) name t
+ids_whole env (commands.AppendLayout name) t = ids_append (layout_named name env.layouts) t
 ids_whole env other t = ids_refl t
 
 ids_course : (env : Env) (c : Course) (command : Command) (t : TreeValue) → IdsRise t (course_tree env c command t)
@@ -234,7 +268,7 @@ ids_course env (refused e) command t = ids_refl t
 ids_course env (on how cs) command t = ids_each env how command cs t
 ids_course env whole command t =
     let new : TreeValue = whole_tree env command t in
-    ids_unless (whole_refusal command t) t (settled new) (ids_trans t new (settled new) (ids_whole env command t) (ids_settled new))
+    ids_unless (whole_refusal env command t) t (settled new) (ids_trans t new (settled new) (ids_whole env command t) (ids_settled new))
 
 ids_commands : (env : Env) (found : Targets) (cs : List Command) (o : Outcome) → IdsRise o.tree (commands_done env found cs o).tree
 ids_commands env found [] o = ids_refl o.tree

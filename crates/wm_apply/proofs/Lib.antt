@@ -1,3 +1,4 @@
+pub mod AppendLemmas
 pub mod GroupLemmas
 pub mod IdLemmas
 pub mod QuietLemmas

@@ -1,5 +1,5 @@
 -- What a command that leaves the tree alone does.
-use Rattle.std.proofs.Common.{◌≡◌, ◌∙◌, refl, ap, Bool, true, false, not, ◌&&◌, ◌||◌, if◌then◌else◌, List, [], ◌∷◌, ◌++◌, Option, None, ℕ}
+use Rattle.std.proofs.Common.{◌≡◌, ◌∙◌, refl, ap, Bool, true, false, ◌&&◌, ◌||◌, if◌then◌else◌, List, [], ◌∷◌, ◌++◌, Option, None, ℕ}
 use Rattle.std.proofs.lemmas.Bool.{false≢true}
 use Rattle.wm_base.specs.declared.errors.ErrorText.TheVariants as errors
 use Rattle.wm_base.specs.declared.ids.ConId.{ConId}
@@ -17,40 +17,38 @@ use Rattle.wm_apply.specs.declared.applied.CommandReply.TheVariants.{Done, Error
 use Rattle.wm_apply.specs.declared.rows.How.TheVariants as how
 use Rattle.wm_apply.specs.declared.targets.Targets.{Targets}
 use Rattle.wm_apply.specs.Batches.{Outcome, command_done, commands_done, group_done, groups_done, outcome, targets}
-use Rattle.wm_apply.specs.Commands.{Course, command_kills, command_reply, command_tree, course_reply, course_tree, is_built, is_exit, is_unknown_mode, is_whole, kills_on, on, refused, runs_once, set_mode, targets_course, whole}
+use Rattle.wm_apply.specs.Commands.{Course, command_kills, command_reply, command_tree, course_reply, course_tree, is_exit, is_unknown_mode, is_whole, kills_on, on, refused, runs_once, set_mode, targets_course, whole}
 use Rattle.wm_apply.specs.Kills.{is_kill}
-use Rattle.wm_apply.specs.Quiet.{idle_reply, is_idle, is_quiet}
+use Rattle.wm_apply.specs.Quiet.{idle_reply, is_quiet}
 
 -- a command that asks windows to close is none
-kill_is_loud : (c : Command) → is_idle c ≡ true → is_kill c ≡ false
+kill_is_loud : (c : Command) → runs_once c ≡ true → is_kill c ≡ false
 kill_is_loud commands.Kill idle = absurd (false≢true idle)
 kill_is_loud other idle = refl
 
-idle_kills : (found : Targets) (c : Command) (t : TreeValue) → is_idle c ≡ true → command_kills found c t ≡ []
+idle_kills : (found : Targets) (c : Command) (t : TreeValue) → runs_once c ≡ true → command_kills found c t ≡ []
 idle_kills found c t idle = ap (λ k. if k then kills_on found t else []) (kill_is_loud c idle)
 
 -- what its course is, by what it is
-abbrev course_by : Bool → Bool → Bool → Course → Course
-course_by built unknown once other = if not built then refused errors.NotBuilt else if unknown then refused errors.NoMode else if once then on how.Focused [] else other
+abbrev course_by : Bool → Bool → Course → Course
+course_by unknown once other = if unknown then refused errors.NoMode else if once then on how.Focused [] else other
 
-tree_by : (env : Env) (c : Command) (t : TreeValue) (built unknown once : Bool) (other : Course) → (not built || once) ≡ true → course_tree env (course_by built unknown once other) c t ≡ t
-tree_by env c t false unknown once other idle = refl
-tree_by env c t true true once other idle = refl
-tree_by env c t true false true other idle = refl
-tree_by env c t true false false other idle = absurd (false≢true idle)
+tree_by : (env : Env) (c : Command) (t : TreeValue) (unknown once : Bool) (other : Course) → once ≡ true → course_tree env (course_by unknown once other) c t ≡ t
+tree_by env c t true once other idle = refl
+tree_by env c t false true other idle = refl
+tree_by env c t false false other idle = absurd (false≢true idle)
 
-reply_by : (env : Env) (c : Command) (t : TreeValue) (built unknown once : Bool) (other : Course) → (not built || once) ≡ true
-    → course_reply env (course_by built unknown once other) c t ≡ (if not built then Error errors.NotBuilt else if unknown then Error errors.NoMode else Done)
-reply_by env c t false unknown once other idle = refl
-reply_by env c t true true once other idle = refl
-reply_by env c t true false true other idle = refl
-reply_by env c t true false false other idle = absurd (false≢true idle)
+reply_by : (env : Env) (c : Command) (t : TreeValue) (unknown once : Bool) (other : Course) → once ≡ true
+    → course_reply env (course_by unknown once other) c t ≡ (if unknown then Error errors.NoMode else Done)
+reply_by env c t true once other idle = refl
+reply_by env c t false true other idle = refl
+reply_by env c t false false other idle = absurd (false≢true idle)
 
-pub idle_tree : (env : Env) (found : Targets) (c : Command) (t : TreeValue) → is_idle c ≡ true → command_tree env found c t ≡ t
-idle_tree env found c t idle = tree_by env c t (is_built c) (is_unknown_mode env c) (runs_once c) (if is_whole c then whole else targets_course found c t) idle
+pub idle_tree : (env : Env) (found : Targets) (c : Command) (t : TreeValue) → runs_once c ≡ true → command_tree env found c t ≡ t
+idle_tree env found c t idle = tree_by env c t (is_unknown_mode env c) (runs_once c) (if is_whole c then whole else targets_course found c t) idle
 
-pub idle_answer : (env : Env) (found : Targets) (c : Command) (t : TreeValue) → is_idle c ≡ true → command_reply env found c t ≡ idle_reply env c
-idle_answer env found c t idle = reply_by env c t (is_built c) (is_unknown_mode env c) (runs_once c) (if is_whole c then whole else targets_course found c t) idle
+pub idle_answer : (env : Env) (found : Targets) (c : Command) (t : TreeValue) → runs_once c ≡ true → command_reply env found c t ≡ idle_reply env c
+idle_answer env found c t idle = reply_by env c t (is_unknown_mode env c) (runs_once c) (if is_whole c then whole else targets_course found c t) idle
 
 -- ---- whole texts
 
@@ -59,16 +57,16 @@ both true true h = (refl, refl)
 both true false h = absurd (false≢true h)
 both false b h = absurd (false≢true h)
 
-commands_tree : (env : Env) (found : Targets) (cs : List Command) (o : Outcome) → list_all is_idle cs ≡ true → (commands_done env found cs o).tree ≡ o.tree
+commands_tree : (env : Env) (found : Targets) (cs : List Command) (o : Outcome) → list_all runs_once cs ≡ true → (commands_done env found cs o).tree ≡ o.tree
 commands_tree env found [] o idle = refl
 commands_tree env found (c ∷ cs) o idle =
-    let each = both (is_idle c) (list_all is_idle cs) idle in
+    let each = both (runs_once c) (list_all runs_once cs) idle in
     commands_tree env found cs (command_done env found c o) each.1 ∙ idle_tree env found c o.tree each.0
 
 groups_tree : (env : Env) (subject : Option ConId) (gs : List Group) (o : Outcome) → is_quiet gs ≡ true → (groups_done env subject gs o).tree ≡ o.tree
 groups_tree env subject [] o quiet = refl
 groups_tree env subject (g ∷ gs) o quiet =
-    let each = both (list_all is_idle g.commands) (is_quiet gs) quiet in
+    let each = both (list_all runs_once g.commands) (is_quiet gs) quiet in
     groups_tree env subject gs (group_done env subject g o) each.1 ∙ commands_tree env (targets g.criteria subject o.tree) g.commands o each.0
 
 -- a text whose commands leave the tree alone leaves it
@@ -77,6 +75,6 @@ quiet_outcome env batch subject t quiet = groups_tree env subject batch.groups (
 
 -- ---- what a command leaves beside the tree
 
-pub idle_done : (env : Env) (found : Targets) (c : Command) (t : TreeValue) (replies : List CommandReply) (mode : Option (List ℕ)) (exit : Bool) → is_idle c ≡ true
+pub idle_done : (env : Env) (found : Targets) (c : Command) (t : TreeValue) (replies : List CommandReply) (mode : Option (List ℕ)) (exit : Bool) → runs_once c ≡ true
     → record { tree = t; replies = replies ++ idle_reply env c ∷ []; mode = option_or (set_mode env c) mode; exit = exit || is_exit c; kills = [] } ≡ command_done env found c (record { tree = t; replies = replies; mode = mode; exit = exit; kills = [] })
 idle_done env found c t replies mode exit idle = rw (idle_tree env found c t idle, idle_answer env found c t idle, idle_kills found c t idle) refl

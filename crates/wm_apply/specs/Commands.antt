@@ -22,47 +22,6 @@ use Rattle.wm_apply.specs.Subjects.{each_error, each_tree, error_of, is_there, r
 
 -- ---- kinds of commands
 
--- the command is one that is built
-abbrev pub is_built : Command → Bool
-is_built (commands.Split arg) = true
-is_built (commands.SetLayout arg) = true
-is_built (commands.CycleLayout cycle) = true
-is_built commands.Focus = true
-is_built (commands.FocusDir d) = true
-is_built commands.FocusParent = true
-is_built commands.FocusChild = true
-is_built (commands.MoveDir d px) = true
-is_built (commands.MoveToMark name) = true
-is_built (commands.Swap arg) = true
-is_built (commands.Mark add toggle name) = true
-is_built (commands.Unmark name) = true
-is_built (commands.FocusOutput arg) = true
-is_built (commands.MoveToOutput arg) = true
-is_built (commands.MoveToWorkspace target) = true
-is_built (commands.MoveWorkspace arg) = true
-is_built (commands.FocusKind kind) = true
-is_built (commands.Floating arg) = true
-is_built (commands.Fullscreen arg) = true
-is_built (commands.Sticky arg) = true
-is_built (commands.MovePosition x y) = true
-is_built commands.MoveCenter = true
-is_built commands.MoveToScratchpad = true
-is_built commands.ScratchpadShow = true
-is_built (commands.Resize grow side px ppt) = true
-is_built (commands.ResizeSet w h) = true
-is_built (commands.SetBorder border) = true
-is_built commands.CycleBorder = true
-is_built (commands.Gaps outer all op px) = true
-is_built (commands.TitleFormat format) = true
-is_built commands.Kill = true
-is_built (commands.Workspace target) = true
-is_built (commands.Rename was name) = true
-is_built commands.Nop = true
-is_built commands.Idle = true
-is_built commands.Exit = true
-is_built (commands.Mode mode) = true
-is_built other = false
-
 -- the command changes no tree, runs once, whatever the criteria, and has no subject
 abbrev pub runs_once : Command → Bool
 runs_once commands.Nop = true
@@ -75,6 +34,7 @@ runs_once other = false
 abbrev pub is_whole : Command → Bool
 is_whole (commands.Workspace target) = true
 is_whole (commands.Rename was name) = true
+is_whole (commands.AppendLayout name) = true
 is_whole other = false
 
 abbrev pub is_mark : Command → Bool
@@ -136,8 +96,7 @@ targets_course Focused command t = on how.Focused (focused t ∷ [])
 -- what the command runs on, or why it does not
 abbrev pub course : Env → Targets → Command → TreeValue → Course
 course env targets command t =
-    if not (is_built command) then refused errors.NotBuilt
-    else if is_unknown_mode env command then refused errors.NoMode
+    if is_unknown_mode env command then refused errors.NoMode
     else if runs_once command then on how.Focused []
     else if is_whole command then whole
     else targets_course targets command t
@@ -145,12 +104,12 @@ course env targets command t =
 abbrev pub course_tree : Env → Course → Command → TreeValue → TreeValue
 course_tree env (refused e) command t = t
 course_tree env (on how cs) command t = each_tree env how command cs t
-course_tree env whole command t = whole_done (whole_refusal command t) t (whole_tree env command t)
+course_tree env whole command t = whole_done (whole_refusal env command t) t (whole_tree env command t)
 
 abbrev pub course_reply : Env → Course → Command → TreeValue → CommandReply
 course_reply env (refused e) command t = Error e
 course_reply env (on how cs) command t = reply_of (each_error env how command cs t)
-course_reply env whole command t = reply_of (option_map error_of (whole_refusal command t))
+course_reply env whole command t = reply_of (option_map error_of (whole_refusal env command t))
 
 -- the tree that the command leaves
 abbrev pub command_tree : Env → Targets → Command → TreeValue → TreeValue

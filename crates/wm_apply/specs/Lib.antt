@@ -2,6 +2,7 @@ pub mod Batches
 pub mod Commands
 pub mod FloatRows
 pub mod Kills
+pub mod Layouts
 pub mod OutputRows
 pub mod Quiet
 pub mod Rows

@@ -1,5 +1,4 @@
--- What each command does to one subject, or to the tree as a whole, and why it is refused: a case for each command that is
--- built.
+-- What each command does to one subject, or to the tree as a whole, and why it is refused: a case for each command.
 use Rattle.std.specs.Prelude.{if◌then◌else◌, Bool, true, false, Option, None, Some}
 use Rattle.wm_base.specs.declared.errors.ErrorText.TheVariants as errors
 use Rattle.wm_base.specs.declared.errors.Refusal.{Refusal}
@@ -18,6 +17,7 @@ use Rattle.wm_focus.specs.Splits.{cycle_layout_refusal, cycle_layout_tree, set_l
 use Rattle.wm_focus.specs.Swaps.{move_to_mark_refusal, move_to_mark_tree, swap_refusal, swap_tree}
 use Rattle.wm_apply.specs.FloatRows.{floating_refusal, floating_tree, focus_of_kind_refusal, focus_of_kind_tree, fullscreen_set, sticky_tree}
 use Rattle.wm_apply.specs.Kills.{kill_refusal}
+use Rattle.wm_apply.specs.Layouts.{append_refusal, append_tree, layout_named}
 use Rattle.wm_apply.specs.OutputRows.{focus_output_refusal, focus_output_tree, move_space_refusal, move_space_tree, move_to_output_refusal, move_to_output_tree}
 use Rattle.wm_layouts.specs.declared.plan.Env.{Env}
 use Rattle.wm_sizes.specs.Borders.{cycle_border_refusal, cycle_border_tree, set_border_refusal, set_border_tree}
@@ -55,15 +55,17 @@ matched_subject Handed c = None
 matched_subject Focused c = None
 
 -- why a command that runs once, on the tree as a whole, is refused
-abbrev pub whole_refusal : Command → TreeValue → Option Refusal
-whole_refusal (commands.Workspace target) t = show_refusal target t
-whole_refusal (commands.Rename was name) t = rename_refusal was name t
-whole_refusal other t = Some (NoTarget errors.NotBuilt)
+abbrev pub whole_refusal : Env → Command → TreeValue → Option Refusal
+whole_refusal env (commands.Workspace target) t = show_refusal target t
+whole_refusal env (commands.Rename was name) t = rename_refusal was name t
+whole_refusal env (commands.AppendLayout name) t = append_refusal (layout_named name env.layouts) t
+whole_refusal env other t = None
 
 -- the tree that such a command leaves, where it is not refused
 abbrev pub whole_tree : Env → Command → TreeValue → TreeValue
 whole_tree env (commands.Workspace target) t = show_tree target env.homes t
 whole_tree env (commands.Rename was name) t = rename_tree was name t
+whole_tree env (commands.AppendLayout name) t = append_tree (layout_named name env.layouts) t
 whole_tree env other t = t
 
 -- the commands of layouts, of focus and moves in the tree, and of marks
@@ -98,7 +100,7 @@ is_placing commands.MoveToScratchpad = true
 is_placing commands.ScratchpadShow = true
 is_placing other = false
 
--- why the command is refused on the subject c
+-- why the command is refused on the subject c; one that has no subject refuses none
 abbrev pub row_refusal : Env → How → Command → ConId → TreeValue → Option Refusal
 row_refusal env how (commands.Split arg) c t = split_refusal c arg t
 row_refusal env how (commands.SetLayout arg) c t = set_layout_refusal c arg t
@@ -131,9 +133,15 @@ row_refusal env how commands.CycleBorder c t = cycle_border_refusal c t
 row_refusal env how (commands.Gaps outer all op px) c t = set_gaps_refusal c t
 row_refusal env how (commands.TitleFormat format) c t = title_format_refusal c t
 row_refusal env how commands.Kill c t = kill_refusal c t
-row_refusal env how other c t = Some (NoTarget errors.NotBuilt)
+row_refusal env how (commands.Workspace target) c t = None
+row_refusal env how (commands.Rename was name) c t = None
+row_refusal env how (commands.AppendLayout name) c t = None
+row_refusal env how (commands.Mode mode) c t = None
+row_refusal env how commands.Nop c t = None
+row_refusal env how commands.Idle c t = None
+row_refusal env how commands.Exit c t = None
 
--- the tree that the command leaves, where it is not refused on the subject c
+-- the tree that the command leaves, where it is not refused on the subject c; one that has no subject leaves it
 abbrev pub row_tree : Env → How → Command → ConId → TreeValue → TreeValue
 row_tree env how (commands.Split arg) c t = split_tree c arg t
 row_tree env how (commands.SetLayout arg) c t = set_layout_tree c arg t
@@ -165,4 +173,11 @@ row_tree env how (commands.SetBorder border) c t = set_border_tree c border t
 row_tree env how commands.CycleBorder c t = cycle_border_tree c t
 row_tree env how (commands.Gaps outer all op px) c t = set_gaps_tree c outer all op px t
 row_tree env how (commands.TitleFormat format) c t = title_format_tree c format t
-row_tree env how other c t = t
+row_tree env how commands.Kill c t = t
+row_tree env how (commands.Workspace target) c t = t
+row_tree env how (commands.Rename was name) c t = t
+row_tree env how (commands.AppendLayout name) c t = t
+row_tree env how (commands.Mode mode) c t = t
+row_tree env how commands.Nop c t = t
+row_tree env how commands.Idle c t = t
+row_tree env how commands.Exit c t = t

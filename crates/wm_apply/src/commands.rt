@@ -1,6 +1,6 @@
 //! One command of a group.
-ghost use Rattle.std.specs.Prelude.{◌≡◌, ◌++◌, length, IfOk, OnOk};
-ghost use Rattle.wm_apply.specs.Commands.{command_kills, command_reply, command_tree, is_built, is_exit, is_whole, course_reply, course_tree, is_mark, matched_course, runs_once, still_there, subject, targets_course, whole};
+ghost use Rattle.std.specs.Prelude.{◌≡◌, true, ◌++◌, length, IfOk, OnOk};
+ghost use Rattle.wm_apply.specs.Commands.{command_kills, command_reply, command_tree, is_exit, is_whole, course_reply, course_tree, is_mark, matched_course, runs_once, still_there, subject, targets_course, whole};
 ghost use Rattle.wm_apply.specs.declared.targets.Targets.TheVariants as targets;
 ghost use Rattle.wm_tree.specs.Sound.{IsSound};
 
@@ -17,28 +17,6 @@ use wm_layouts::Env;
 use wm_shared::is_subject;
 use wm_tree::Tree;
 
-/// Whether the command is built.
-pub fn is_built(command: &Command) -> bool
-    ensures { result ≡ is_built command.now }
-{
-    match command {
-        Command::Split(_) | Command::SetLayout(_) | Command::CycleLayout(_) => true,
-        Command::Focus | Command::FocusDir(_) | Command::FocusParent | Command::FocusChild => true,
-        Command::MoveDir(..) | Command::MoveToMark(_) | Command::Swap(_) => true,
-        Command::Mark { .. } | Command::Unmark(_) => true,
-        Command::FocusOutput(_) | Command::MoveToOutput(_) | Command::MoveToWorkspace(_) => true,
-        Command::MoveWorkspace(_) => true,
-        Command::FocusKind(_) | Command::Floating(_) | Command::Fullscreen(_) => true,
-        Command::Sticky(_) | Command::MovePosition(..) | Command::MoveCenter => true,
-        Command::MoveToScratchpad | Command::ScratchpadShow => true,
-        Command::Resize { .. } | Command::ResizeSet(..) | Command::Gaps { .. } => true,
-        Command::SetBorder(_) | Command::CycleBorder | Command::TitleFormat(_) => true,
-        Command::Workspace(_) | Command::Rename(..) | Command::Kill => true,
-        Command::Nop | Command::Idle | Command::Exit | Command::Mode(_) => true,
-        _ => false,
-    }
-}
-
 /// Whether the command changes no tree, runs once, whatever the criteria, and has no subject.
 pub fn runs_once(command: &Command) -> bool
     ensures { result ≡ runs_once command.now }
@@ -53,7 +31,10 @@ pub fn runs_once(command: &Command) -> bool
 fn is_whole(command: &Command) -> bool
     ensures { result ≡ is_whole command.now }
 {
-    matches!(command, Command::Workspace(_) | Command::Rename(..))
+    matches!(
+        command,
+        Command::Workspace(_) | Command::Rename(..) | Command::AppendLayout(_)
+    )
 }
 
 fn is_mark(command: &Command) -> bool
@@ -104,9 +85,6 @@ pub fn run_command(
     ensures reply { IfOk result (λ r. r ≡ command_reply env.now targets.now command.now t.old) }
     ensures sound { IsSound t.new }
 {
-    if !is_built(command) {
-        return Ok(CommandReply::Error(ErrorText::NotBuilt));
-    }
     if is_unknown_mode(env, command) {
         return Ok(CommandReply::Error(ErrorText::NoMode));
     }
@@ -114,7 +92,7 @@ pub fn run_command(
         return Ok(CommandReply::Done);
     }
     if is_whole(command) {
-        return run_all(t, env, command);
+        return run_all(alloc, t, env, command);
     }
     match targets {
         Targets::Matched(cons) => run_matched(alloc, t, env, command, cons.items()),
@@ -124,13 +102,19 @@ pub fn run_command(
 }
 
 /// Runs a command on the tree as a whole, and settles it.
-fn run_all(t: &mut Tree, env: &Env, command: &Command) -> Result<CommandReply, NoMemory>
-    requires { IsSound t.old }
+fn run_all(
+    alloc: Global,
+    t: &mut Tree,
+    env: &Env,
+    command: &Command,
+) -> Result<CommandReply, NoMemory>
+    requires sound { IsSound t.old }
+    requires whole { is_whole command.now ≡ true }
     ensures tree { OnOk result (t.new ≡ course_tree env.now whole command.now t.old) }
     ensures reply { IfOk result (λ r. r ≡ course_reply env.now whole command.now t.old) }
     ensures sound { IsSound t.new }
 {
-    match run_whole(t, env, command) {
+    match run_whole(alloc, t, env, command) {
         Ok(()) => {
             t.settle();
             Ok(CommandReply::Done)

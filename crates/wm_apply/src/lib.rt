@@ -6,6 +6,7 @@ mod batches;
 mod commands;
 mod floats;
 mod kills;
+mod layouts;
 mod modes;
 mod outputs;
 mod quiet;

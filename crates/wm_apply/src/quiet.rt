@@ -1,15 +1,16 @@
 //! Running texts that leave the tree alone, without a copy of it.
 ghost use Rattle.std.specs.Prelude.{◌≡◌, IsTrue, IfOk, OnOk, Option};
 ghost use Rattle.std.specs.List.{list_all};
+ghost use Rattle.wm_apply.specs.Commands.{runs_once};
 ghost use Rattle.wm_apply.specs.Batches.{command_done, commands_done, groups_done, outcome};
-ghost use Rattle.wm_apply.specs.Quiet.{beside, idle_reply, is_idle, is_quiet};
+ghost use Rattle.wm_apply.specs.Quiet.{beside, idle_reply, is_quiet};
 ghost use Rattle.wm_apply.specs.declared.targets.Targets.{Targets};
 ghost use Rattle.wm_base.specs.declared.ids.ConId.{ConId};
 ghost use Rattle.wm_criteria.specs.declared.verdict.Verdict.TheVariants.{Ready};
 ghost use Rattle.wm_tree.specs.TreeValue.{TreeValue};
 
 use crate::applied::{Applied, CommandReply};
-use crate::commands::{is_built, is_exit, runs_once};
+use crate::commands::{is_exit, runs_once};
 use crate::modes::{is_unknown_mode, mode_set, renew};
 use std::alloc::Global;
 use wm_base::{ErrorText, List, NoMemory, Text};
@@ -26,7 +27,7 @@ struct Quiet {
 
 impl Quiet {
     fn command(&mut self, env: &Env, command: &Command) -> Result<(), NoMemory>
-        requires { IsTrue (is_idle command.now) }
+        requires { IsTrue (runs_once command.now) }
         ensures { (found : Targets) (t : TreeValue) → OnOk result (beside t self.new ≡ command_done env.now found command.now (beside t self.old)) }
     {
         self.replies.push(idle_reply(env, command))?;
@@ -36,7 +37,7 @@ impl Quiet {
     }
 
     fn commands(&mut self, env: &Env, commands: &[Command]) -> Result<(), NoMemory>
-        requires { IsTrue (list_all is_idle commands.now) }
+        requires { IsTrue (list_all runs_once commands.now) }
         ensures { (found : Targets) (t : TreeValue) → OnOk result (beside t self.new ≡ commands_done env.now found commands.now (beside t self.old)) }
     {
         if let [command, rest @ ..] = commands {
@@ -62,28 +63,18 @@ impl Quiet {
 fn idle_reply(env: &Env, command: &Command) -> CommandReply
     ensures { result ≡ idle_reply env.now command.now }
 {
-    if !is_built(command) {
-        return CommandReply::Error(ErrorText::NotBuilt);
-    }
     if is_unknown_mode(env, command) {
         return CommandReply::Error(ErrorText::NoMode);
     }
     CommandReply::Done
 }
 
-/// Whether the command leaves the tree alone, whatever it acts on.
-fn is_idle(command: &Command) -> bool
-    ensures { result ≡ is_idle command.now }
-{
-    !is_built(command) || runs_once(command)
-}
-
 fn are_idle(commands: &[Command]) -> bool
-    ensures { result ≡ list_all is_idle commands.now }
+    ensures { result ≡ list_all runs_once commands.now }
 {
     match commands {
         [] => true,
-        [first, rest @ ..] => is_idle(first) && are_idle(rest),
+        [first, rest @ ..] => runs_once(first) && are_idle(rest),
     }
 }
 
@@ -96,7 +87,7 @@ fn are_quiet(groups: &[Group]) -> bool
     }
 }
 
-/// Whether each command of the text leaves the tree alone: it is not built, does nothing, sets a mode or stops the desk.
+/// Whether each command of the text leaves the tree alone: it does nothing, sets a mode or stops the desk.
 pub fn is_quiet(batch: &Batch) -> bool
     ensures { result ≡ is_quiet batch.now.groups }
 {

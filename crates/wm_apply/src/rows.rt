@@ -1,6 +1,7 @@
-//! One command on one subject, or on the tree as a whole: a case for each command that is built.
-ghost use Rattle.std.specs.Prelude.{◌≡◌, false, None, OnOk, OnErr, IfErr};
+//! One command on one subject, or on the tree as a whole: a case for each command.
+ghost use Rattle.std.specs.Prelude.{◌≡◌, false, true, None, OnOk, OnErr, IfErr};
 ghost use Rattle.wm_layouts.specs.declared.plan.Env.{Env};
+ghost use Rattle.wm_apply.specs.Commands.{is_whole};
 ghost use Rattle.wm_apply.specs.Rows.{come_refusal, focus_refusal, focus_tree, is_inner, is_placing, row_refusal, row_tree, matched_subject, whole_refusal, whole_tree};
 ghost use Rattle.wm_apply.specs.declared.rows.How.{How};
 ghost use Rattle.wm_shared.specs.Refusing.{IsCause};
@@ -9,6 +10,7 @@ ghost use Rattle.wm_tree.specs.Sound.{IsSound};
 
 use crate::floats::{focus_of_kind, set_floating, set_fullscreen, set_sticky};
 use crate::kills::kill;
+use crate::layouts::append_named;
 use crate::outputs::{focus_named, move_space_to_named, send_to_named};
 use std::alloc::Global;
 use wm_base::{ConId, ErrorText, NoMemory, Refusal};
@@ -99,7 +101,8 @@ fn run_placing(
     }
 }
 
-/// Does a command to one subject that is none of outputs, workspaces, floating windows or the scratchpad either.
+/// Does a command to one subject that is none of outputs, workspaces, floating windows or the scratchpad either. Those
+/// that have no subject do nothing to one.
 fn run_sizing(t: &mut Tree, command: &Command, con: ConId) -> Result<(), Refusal>
     requires subject { IsSubject t.old con }
     requires other { is_inner command.now ≡ false }
@@ -123,23 +126,27 @@ fn run_sizing(t: &mut Tree, command: &Command, con: ConId) -> Result<(), Refusal
         Command::Gaps { outer, all, op, px } => set_gaps(t, con, *outer, *all, *op, *px),
         Command::TitleFormat(format) => title_format(t, con, format),
         Command::Kill => kill(t, con),
-        _ => Err(Refusal::NoTarget(ErrorText::NotBuilt)),
+        Command::Workspace(_) | Command::Rename(..) | Command::AppendLayout(_) => Ok(()),
+        Command::Mode(_) | Command::Nop | Command::Idle | Command::Exit => Ok(()),
+        _ => unreachable!(),
     }
 }
 
 /// Does a command to the tree as a whole. The tree is not settled.
-pub fn run_whole(t: &mut Tree, env: &Env, command: &Command) -> Result<(), Refusal>
-    requires { IsSound t.old }
+pub fn run_whole(alloc: Global, t: &mut Tree, env: &Env, command: &Command) -> Result<(), Refusal>
+    requires sound { IsSound t.old }
+    requires whole { is_whole command.now ≡ true }
     ensures tree { OnOk result (t.new ≡ whole_tree env.now command.now t.old) }
-    ensures fine { OnOk result (whole_refusal command.now t.old ≡ None) }
+    ensures fine { OnOk result (whole_refusal env.now command.now t.old ≡ None) }
     ensures err { OnErr result (t.new ≡ t.old) }
-    ensures cause { IfErr result (IsCause (whole_refusal command.now t.old)) }
+    ensures cause { IfErr result (IsCause (whole_refusal env.now command.now t.old)) }
     ensures sound { IsSound t.new }
 {
     match command {
         Command::Workspace(target) => show(t, target, env.homes.items()),
         Command::Rename(was, name) => rename(t, was.as_ref(), name),
-        _ => Err(Refusal::NoTarget(ErrorText::NotBuilt)),
+        Command::AppendLayout(name) => append_named(alloc, t, env, name),
+        _ => unreachable!(),
     }
 }
 

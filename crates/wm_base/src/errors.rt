@@ -81,8 +81,6 @@ pub enum ErrorText {
     FullIds,
     ScratchEmpty,
     NoCriteria,
-    /// The command is read and does nothing yet.
-    NotBuilt,
 }
 
 impl ErrorText {
@@ -118,7 +116,6 @@ impl ErrorText {
             ErrorText::FullIds => "no ids left",
             ErrorText::ScratchEmpty => "the scratchpad is empty",
             ErrorText::NoCriteria => "focus needs criteria",
-            ErrorText::NotBuilt => "not built yet",
         }
     }
 }

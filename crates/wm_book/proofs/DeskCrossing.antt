@@ -9,6 +9,7 @@ use Rattle.wm_base.proofs.ids.ConId.TheSendSync as con
 use Rattle.wm_base.proofs.list.List.TheSendSync as list
 use Rattle.wm_base.proofs.list.Str.TheSendSync as str
 use Rattle.wm_base.proofs.plan.Border.TheSendSync as border
+use Rattle.wm_base.proofs.plan.Layout.TheSendSync as layout
 use Rattle.wm_base.proofs.plan.OutputPlan.TheSendSync as output
 use Rattle.wm_base.proofs.properties.Props.TheSendSync as props
 use Rattle.wm_base.proofs.text.Text.TheSendSync as text
@@ -27,15 +28,20 @@ use Rattle.wm_json.proofs.views.NodeView.TheLaws.TheKnot as node
 use Rattle.wm_json.specs.contracts.views.EventBody as EventBody
 use Rattle.wm_json.specs.contracts.views.EventView as EventView
 use Rattle.wm_json.specs.contracts.views.NodeView as NodeView
-use Rattle.wm_layouts.proofs.plan.Plan.TheSendSync as plan
+use Rattle.wm_layouts.below.wm_saved.proofs.saved.SavedKind.TheLaws.TheKnot as saved
+use Rattle.wm_layouts.below.wm_saved.specs.contracts.saved.SavedLayout as SavedLayout
+use Rattle.wm_layouts.below.wm_saved.specs.contracts.saved.SavedNode as SavedNode
+use Rattle.wm_layouts.specs.contracts.plan.Env as Env
+use Rattle.wm_layouts.specs.contracts.plan.Plan as Plan
 use Rattle.wm_tree.below.wm_forest.proofs.part.Part.TheSendSync as part
+use Rattle.wm_tree.below.wm_forest.proofs.part.Swallow.TheSendSync as swallow
 use Rattle.wm_tree.below.wm_forest.proofs.row.Row.TheLaws.TheKnot as row
 use Rattle.wm_tree.below.wm_forest.specs.contracts.row.Cell as Cell
 use Rattle.wm_tree.below.wm_forest.specs.contracts.row.Row as Row
 use Rattle.wm_tree.specs.contracts.tree.Tree as Tree
 
 -- the types of which it is known
-ruleset known = (option.the_field_send, option.the_field_sync, edges.the_field_send, edges.the_field_sync, buffer.the_field_send, buffer.the_field_sync, con.the_field_send, con.the_field_sync, border.the_field_send, border.the_field_sync, output.the_field_send, output.the_field_sync, props.the_field_send, props.the_field_sync, part.the_field_send, part.the_field_sync, plan.the_field_send, plan.the_field_sync, client.the_field_send, client.the_field_sync, text.the_send, text.the_sync, list.the_send, list.the_sync, str.the_send, str.the_sync, ids.the_send, ids.the_sync, buffers.the_send, buffers.the_sync, txn.the_send, txn.the_sync, maps.crosses, sendable, crosses)
+ruleset known = (option.the_field_send, option.the_field_sync, edges.the_field_send, edges.the_field_sync, buffer.the_field_send, buffer.the_field_sync, con.the_field_send, con.the_field_sync, border.the_field_send, border.the_field_sync, output.the_field_send, output.the_field_sync, props.the_field_send, props.the_field_sync, part.the_field_send, part.the_field_sync, layout.the_field_send, layout.the_field_sync, swallow.the_field_send, swallow.the_field_sync, client.the_field_send, client.the_field_sync, text.the_send, text.the_sync, list.the_send, list.the_sync, str.the_send, str.the_sync, ids.the_send, ids.the_sync, buffers.the_send, buffers.the_sync, txn.the_send, txn.the_sync, maps.crosses, sendable, crosses)
 
 -- a row of nodes, which holds itself
 row_send : IsSend (Row.the_field).row
@@ -55,6 +61,31 @@ tree_send = search (row_send, cell_send, known) depth 20
 
 tree_sync : IsSync Tree.the_row
 tree_sync = search (row_sync, cell_sync, known) depth 20
+
+-- a saved container, which holds others, and the plan with its layouts
+saved_send : IsSend (SavedNode.the_field).row
+saved_send = search (saved.send-SavedNode, known) depth 20
+
+saved_sync : IsSync (SavedNode.the_field).row
+saved_sync = search (saved.sync-SavedNode, known) depth 20
+
+layout_send : IsSend (SavedLayout.the_field).row
+layout_send = search (saved_send, known) depth 20
+
+layout_sync : IsSync (SavedLayout.the_field).row
+layout_sync = search (saved_sync, known) depth 20
+
+env_send : IsSend (Env.the_field).row
+env_send = search (layout_send, known) depth 20
+
+env_sync : IsSync (Env.the_field).row
+env_sync = search (layout_sync, known) depth 20
+
+plan_send : IsSend (Plan.the_field).row
+plan_send = search (env_send, known) depth 20
+
+plan_sync : IsSync (Plan.the_field).row
+plan_sync = search (env_sync, known) depth 20
 
 -- a node that is seen, which holds others
 node_send : IsSend (NodeView.the_field).row
@@ -82,10 +113,10 @@ kept_sync : IsSync Kept.the_row
 kept_sync = search (event_sync, known) depth 20
 
 pub desk_send : IsSend Desk.the_row
-desk_send = search (tree_send, kept_send, known) depth 20
+desk_send = search (tree_send, kept_send, plan_send, known) depth 20
 
 pub desk_sync : IsSync Desk.the_row
-desk_sync = search (tree_sync, kept_sync, known) depth 20
+desk_sync = search (tree_sync, kept_sync, plan_sync, known) depth 20
 
 choice_send : IsSend (Choice.the_field).row
 choice_send = search (prepared_send, known) depth 20

@@ -24,8 +24,12 @@ pub struct Book<V: Kept> {
 impl<V: Kept> Model for Book<V> {
     ghost use Rattle.wm_turn.specs.Pass.{Gate};
     ghost use Rattle.wm_layouts.specs.declared.plan.Plan.{Plan};
+    ghost use Rattle.wm_layouts.specs.contracts.plan.Plan as plan;
+    ghost use Rattle.std.specs.Coded.{codes};
 
     ghost Value = { Gate Plan };
+
+    ghost coded = { Prim.hlevel (codes, plan.the_row.coded) };
 
     ghost view = { λ book. book.turnstile };
 }

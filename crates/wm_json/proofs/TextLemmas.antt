@@ -100,7 +100,6 @@ clean_text errors.FullMarks = refl
 clean_text errors.FullIds = refl
 clean_text errors.ScratchEmpty = refl
 clean_text errors.NoCriteria = refl
-clean_text errors.NotBuilt = refl
 
 -- ---- one reply
 

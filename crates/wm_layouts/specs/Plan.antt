@@ -6,6 +6,8 @@ use Rattle.wm_base.specs.declared.geometry.Edges.{Edges}
 use Rattle.wm_base.specs.declared.plan.Border.{Border}
 use Rattle.wm_base.specs.declared.plan.Border.TheVariants.{Normal, Pixel, Bare}
 use Rattle.wm_base.specs.declared.plan.OutputPlan.{OutputPlan}
+use Rattle.wm_saved.specs.declared.saved.SavedLayout.{SavedLayout}
+use Rattle.wm_saved.specs.Limits.{is_fit}
 use Rattle.wm_layouts.specs.declared.plan.Env.{Env}
 use Rattle.wm_layouts.specs.declared.plan.Plan.{Plan}
 
@@ -50,7 +52,13 @@ abbrev pub NamesDiffer : List OutputPlan → Type 0
 NamesDiffer [] = Unit {0}
 NamesDiffer (o ∷ os) = (is_taken o.name os ≡ false) × NamesDiffer os
 
--- there are 1 to 8 outputs, each within its limits and with a name of its own, and the border and the gaps are within theirs
+-- the borders and marks of each layout are within their limits
+abbrev pub FitLayouts : List (List ℕ × SavedLayout) → Type 0
+FitLayouts [] = Unit {0}
+FitLayouts (l ∷ ls) = IsTrue (is_fit l.1) × FitLayouts ls
+
+-- there are 1 to 8 outputs, each within its limits and with a name of its own, and the border, the gaps and the layouts are
+-- within theirs
 pub record IsSound (p : Plan) : Type 0 where
   pub some : 1 ≤ length p.outputs
   pub few : length p.outputs ≤ 8
@@ -59,6 +67,7 @@ pub record IsSound (p : Plan) : Type 0 where
   pub border : IsFitBorder p.border
   pub inner : p.inner ≤ 1000
   pub outer : p.outer ≤ 1000
+  pub layouts : FitLayouts p.env.layouts
 
 -- the outputs of the standard plan
 abbrev pub default_outputs : List OutputPlan
@@ -70,11 +79,11 @@ default_outputs =
     }
     ∷ []
 
--- no modes but the default one, and no homes
+-- no modes but the default one, no layouts and no homes
 abbrev pub bare_env : Env
-bare_env = record { modes = []; homes = [] }
+bare_env = record { modes = []; layouts = []; homes = [] }
 
--- the standard plan, so far as a desk opens by it: its outputs, no borders, no gaps, no modes and no homes
+-- the standard plan, so far as a desk opens by it: its outputs, no borders, no gaps, no modes, no layouts and no homes
 pub record IsStandard (p : Plan) : Type 0 where
   pub outputs : p.outputs ≡ default_outputs
   pub border : p.border ≡ Bare

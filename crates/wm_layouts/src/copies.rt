@@ -3,7 +3,8 @@ ghost use Rattle.std.specs.Prelude.{◌≡◌, IfOk};
 
 use crate::plan::{Env, Plan};
 use std::alloc::{AllocError, Global};
-use wm_base::{List, OutputPlan, Str, Text};
+use wm_base::{List, NoMemory, OutputPlan, Str, Text};
+use wm_saved::SavedLayout;
 
 /// A copy of the plan of an output.
 pub fn copy_output(output: &OutputPlan) -> Result<OutputPlan, AllocError>
@@ -54,6 +55,32 @@ fn copy_pairs(alloc: Global, pairs: &[(Text, Text)]) -> Result<List<(Text, Text)
     Ok(List::of(copy))
 }
 
+fn copy_layout(
+    alloc: Global,
+    named: &(Text, SavedLayout),
+) -> Result<(Text, SavedLayout), AllocError>
+    ensures { IfOk result (λ copy. copy ≡ named.now) }
+{
+    let name = named.0.clone()?;
+    match named.1.copy(alloc) {
+        Ok(layout) => Ok((name, layout)),
+        Err(NoMemory) => Err(AllocError),
+    }
+}
+
+fn copy_layouts(
+    alloc: Global,
+    layouts: &[(Text, SavedLayout)],
+) -> Result<List<(Text, SavedLayout)>, AllocError>
+    ensures { IfOk result (λ copy. copy ≡ layouts.now) }
+{
+    let mut copy = Vec::with_capacity(alloc, layouts.len())?;
+    for named in layouts {
+        copy.push(copy_layout(alloc, named)?)?;
+    }
+    Ok(List::of(copy))
+}
+
 fn copy_text(alloc: Global, text: &str) -> Result<Str, AllocError>
     ensures { IfOk result (λ copy. copy ≡ text.now) }
 {
@@ -66,13 +93,13 @@ impl Env {
         ensures { IfOk result (λ copy. copy ≡ self.now) }
     {
         let modes = copy_texts(alloc, self.modes.items())?;
-        match copy_pairs(alloc, self.homes.items()) {
-            Ok(homes) => Ok(Env { modes, homes }),
-            Err(error) => {
-                drop(modes);
-                Err(error)
-            }
-        }
+        let homes = copy_pairs(alloc, self.homes.items())?;
+        let layouts = copy_layouts(alloc, self.layouts.items())?;
+        Ok(Env {
+            modes,
+            layouts,
+            homes,
+        })
     }
 }
 

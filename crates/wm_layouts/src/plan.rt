@@ -1,18 +1,20 @@
 //! The plan with which a desk is started.
 ghost use Rattle.std.specs.Prelude.{◌≡◌, ◌↔◌, IsTrue, IfOk};
-ghost use Rattle.wm_layouts.specs.Plan.{FitOutputs, IsSound, IsFitBorder, IsFitEdges, IsFitOutput, IsStandard, NamesDiffer, is_fit_place, is_fit_rect, is_fit_size, is_taken};
+ghost use Rattle.wm_layouts.specs.Plan.{FitLayouts, FitOutputs, IsSound, IsFitBorder, IsFitEdges, IsFitOutput, IsStandard, NamesDiffer, is_fit_place, is_fit_rect, is_fit_size, is_taken};
 
 use std::alloc::Global;
 use wm_base::{Border, Edges, List, NoMemory, OutputPlan, Rect, Str, Text};
+use wm_saved::SavedLayout;
 
 /// How many outputs a plan has at most.
 const MAX_OUTPUTS: usize = 8;
 
-/// What commands find beside the tree: the binding modes other than `default`, and for workspaces by their name the
-/// output on which each is made.
+/// What commands find beside the tree: the binding modes other than `default`, saved layouts by their name, of which the
+/// first of a name counts, and for workspaces by their name the output on which each is made.
 #[derive(Debug, Drop)]
 pub struct Env {
     pub modes: List<Text>,
+    pub layouts: List<(Text, SavedLayout)>,
     pub homes: List<(Text, Text)>,
 }
 
@@ -29,7 +31,7 @@ pub struct Plan {
 }
 
 impl Plan {
-    /// The plan of one output DP-1 of 1000x800 at 0,0, with no borders, no gaps, no modes, no homes and no configuration.
+    /// The plan of one output DP-1 of 1000x800 at 0,0, with no borders, no gaps, no modes, no layouts, no homes and no configuration.
     pub fn standard(alloc: Global) -> Result<Plan, NoMemory>
         ensures standard { IfOk result (λ plan. IsStandard plan) }
         ensures sound { IfOk result (λ plan. IsSound plan) }
@@ -60,6 +62,7 @@ impl Plan {
             outer: 0,
             env: Env {
                 modes: List::of(Vec::new(alloc)),
+                layouts: List::of(Vec::new(alloc)),
                 homes: List::of(Vec::new(alloc)),
             },
             config: Str::of(String::new(alloc)),
@@ -68,7 +71,7 @@ impl Plan {
 
     /// Whether the limits hold: 1 to 8 outputs with names of their own, whose sides are 1 to 16,384 pixels with an
     /// area of at most 33,554,432, places from -131,072 to 131,071, reserved edges of at most 16,384, a border of at
-    /// most 64 and gaps of at most 1,000.
+    /// most 64, gaps of at most 1,000, and layouts whose borders and marks are within their limits.
     pub fn sound(&self) -> bool
         ensures { IsTrue result ↔ IsSound self.now }
     {
@@ -80,6 +83,7 @@ impl Plan {
             && is_fit_border(self.border)
             && self.inner <= 1000
             && self.outer <= 1000
+            && are_fit_layouts(self.env.layouts.items())
     }
 }
 
@@ -90,6 +94,16 @@ fn are_fit(outputs: &[OutputPlan]) -> bool
     match outputs {
         [] => true,
         [first, rest @ ..] => is_fit_output(first) && are_fit(rest),
+    }
+}
+
+/// Whether the borders and marks of each layout are within their limits.
+fn are_fit_layouts(layouts: &[(Text, SavedLayout)]) -> bool
+    ensures { IsTrue result ↔ FitLayouts layouts.now }
+{
+    match layouts {
+        [] => true,
+        [first, rest @ ..] => first.1.is_fit() && are_fit_layouts(rest),
     }
 }
 

@@ -1,10 +1,11 @@
--- The lines that tell answers and what is asked of windows.
+-- The lines that tell answers, what is asked of windows, and how far a desk is.
 use Rattle.std.specs.Prelude.{ℕ, List, ◌++◌, codes}
 use Rattle.std.specs.Fmt.{decimal}
 use Rattle.wm_base.specs.declared.geometry.Size.{Size}
 use Rattle.wm_base.specs.ErrorText.{word_of}
 use Rattle.wm_core.specs.declared.step.Answer.{Answer}
 use Rattle.wm_core.specs.declared.step.Answer.TheVariants as answers
+use Rattle.wm_core.specs.declared.state.State.{State}
 use Rattle.wm_core.specs.declared.state.Want.{Want}
 use Rattle.wm_core.specs.declared.state.Want.TheVariants as want
 use Rattle.wm_json.specs.Replies.{replies_text}
@@ -31,3 +32,9 @@ size_text size = decimal size.w ++ (codes "x" ++ decimal size.h)
 abbrev pub want_text : Want → List ℕ
 want_text (want.Configure con serial size) = codes "configure " ++ (decimal con.0 ++ (codes " " ++ (decimal serial ++ (codes " " ++ (size_text size ++ new_line)))))
 want_text (want.Kill con number) = codes "kill " ++ (decimal con.0 ++ (codes " " ++ (decimal number ++ new_line)))
+
+-- how many steps there are, how many transactions have ended, how many steps had come when the last of them began, and how
+-- many windows are open, a line each
+abbrev pub state_text : State → List ℕ
+state_text s =
+    codes "steps " ++ decimal s.steps ++ codes "\ndone " ++ decimal s.done ++ codes "\nprefix " ++ decimal s.prefix ++ codes "\nwindows " ++ decimal s.windows ++ codes "\n"

@@ -5,6 +5,7 @@ use Rattle.wm_apply.specs.Commands.{Course, course, course_tree, on, refused, wh
 use Rattle.wm_apply.specs.declared.rows.How.{How}
 use Rattle.wm_apply.specs.declared.targets.Targets.{Targets}
 use Rattle.wm_apply.specs.FloatRows.{floating_tree, is_on}
+use Rattle.wm_apply.specs.Layouts.{layout_named}
 use Rattle.wm_apply.specs.OutputRows.{output_some, to_named_tree, to_output_tree}
 use Rattle.wm_apply.specs.Rows.{focus_tree, matched_subject, row_refusal, row_tree, whole_refusal, whole_tree}
 use Rattle.wm_apply.specs.Subjects.{each_tree, is_there, one_tree, unless_refused}
@@ -20,7 +21,7 @@ use Rattle.wm_floats.specs.Rounds.{focus_round_tree, shift_tree}
 use Rattle.wm_focus.specs.declared.direction.Goal.{Goal}
 use Rattle.wm_focus.specs.declared.direction.Goal.TheVariants as goals
 use Rattle.wm_focus.specs.Direction.{focus_dir_tree, focusing_some, goal_of as dir_goal, gone_to}
-use Rattle.wm_focus.specs.Marks.{freed, given_mark, is_marked, kept_marks, mark_tree, unmark_all, unmark_one, unmark_tree, with_mark}
+use Rattle.wm_focus.specs.Marks.{given_mark, is_marked, mark_tree, unmark_all, unmark_one, unmark_tree}
 use Rattle.wm_focus.specs.Moves.{beside, entry, held_out, is_split_con, move_dir_tree, near_end, out_tree, over_tree, side_of, space_over, step_tree, turned}
 use Rattle.wm_focus.specs.Parents.{raised_some}
 use Rattle.wm_focus.specs.Splits.{gives_layout, laid, laid_as, split_as}
@@ -30,8 +31,9 @@ use Rattle.wm_language.specs.declared.batch.Group.{Group}
 use Rattle.wm_language.specs.declared.command.Command.{Command}
 use Rattle.wm_language.specs.declared.command.Command.TheVariants as commands
 use Rattle.wm_layouts.specs.declared.plan.Env.{Env}
+use Rattle.wm_opens.proofs.AppendLemmas.{kept_append}
 use Rattle.wm_opens.proofs.FloatLemmas.{kept_floated, kept_fullscreen, kept_hidden, kept_kind, kept_placed, kept_scratchpad, kept_stuck, kept_sunk}
-use Rattle.wm_opens.proofs.KeptLemmas.{Kept, kept_count, kept_edited, kept_exchanged, kept_moved, kept_raised, kept_refl, kept_settled, kept_trans, kept_unmarked, kept_with_marks, kept_wrapped}
+use Rattle.wm_opens.proofs.KeptLemmas.{Kept, kept_count, kept_edited, kept_exchanged, kept_given, kept_moved, kept_raised, kept_refl, kept_settled, kept_trans, kept_unmarked, kept_with_marks, kept_wrapped}
 use Rattle.wm_opens.proofs.ShowingLemmas.{kept_entered, kept_focusing, kept_output_focused, kept_remembering}
 use Rattle.wm_opens.proofs.SizeLemmas.{kept_border, kept_cycled, kept_gaps, kept_rect, kept_resized, kept_round}
 use Rattle.wm_opens.proofs.SpaceLemmas.{kept_goal_sent, kept_goal_shown, kept_renamed, kept_sent_some, kept_space_goes}
@@ -48,7 +50,7 @@ use Rattle.wm_forest.specs.declared.place.Place.TheVariants.{After}
 use Rattle.wm_forest.proofs.ForestLemmas.{only_absent}
 use Rattle.wm_forest.specs.Forest.{Forest}
 use Rattle.wm_forest.specs.Look.{con_kind, first_part, has, kind_by, space_kind}
-use Rattle.wm_tree.specs.Move.{exchanged, marks_in, moved, share_in, unmarked, with_marks, wrapped}
+use Rattle.wm_tree.specs.Move.{exchanged, moved, share_in, unmarked, wrapped}
 use Rattle.wm_tree.specs.TreeValue.{TreeValue, is_tiled_con, leaf, parent, workspace_of}
 use Rattle.wm_tree.specs.Words.{edited, settled}
 
@@ -142,14 +144,6 @@ kept_unmark_all (Some n) t = kept_count t (unmark_all (Some n) t) refl (λ m k. 
 kept_unmark : (c : Option ConId) (n : Option (List ℕ)) (t : TreeValue) → Kept t (unmark_tree c n t)
 kept_unmark None n t = kept_unmark_all n t
 kept_unmark (Some c) n t = kept_unmark_one c n t
-
-kept_freed : (c : ConId) (n : List ℕ) (t : TreeValue) → Kept t (freed c n t)
-kept_freed c n t = kept_count t (freed c n t) refl (λ m k. omega (arith, count-taken_off m k (Some c) n t.nodes))
-
-kept_given : (c : ConId) (n : List ℕ) (add : Bool) (t : TreeValue) → Kept t (given_mark c n add t)
-kept_given c n add t =
-    let marks : List (List ℕ) = with_mark n (kept_marks n add (marks_in c t.nodes)) in
-    kept_trans t (with_marks c marks t) (given_mark c n add t) (kept_with_marks c marks t) (kept_freed c n (with_marks c marks t))
 
 kept_mark : (c : ConId) (n : List ℕ) (add toggle : Bool) (t : TreeValue) → Kept t (mark_tree c n add toggle t)
 kept_mark c n add toggle t = step (toggle && is_marked c n t)
@@ -260,6 +254,7 @@ kept_each env how command (c ∷ cs) t =
 kept_whole : (env : Env) (command : Command) (t : TreeValue) → Kept t (whole_tree env command t)
 kept_whole env (commands.Workspace target) t = kept_goal_shown (goal_of target t) env.homes t
 kept_whole env (commands.Rename was name) t = kept_renamed (renamed_space was t) name t
+kept_whole env (commands.AppendLayout name) t = kept_append (layout_named name env.layouts) t
 kept_whole env other t = kept_refl t
 
 kept_course : (env : Env) (c : Course) (command : Command) (t : TreeValue) → Kept t (course_tree env c command t)
@@ -267,7 +262,7 @@ kept_course env (refused e) command t = kept_refl t
 kept_course env (on how cs) command t = kept_each env how command cs t
 kept_course env whole command t =
     let new : TreeValue = whole_tree env command t in
-    kept_unless (whole_refusal command t) t (settled new) (then_settled t new (kept_whole env command t))
+    kept_unless (whole_refusal env command t) t (settled new) (then_settled t new (kept_whole env command t))
 
 kept_commands : (env : Env) (found : Targets) (cs : List Command) (o : Outcome) → Kept o.tree (commands_done env found cs o).tree
 kept_commands env found [] o = kept_refl o.tree

@@ -1,21 +1,25 @@
 -- Trees that count no more than others by any measure, word by word.
-use Rattle.std.proofs.Common.{◌≡◌, ℕ, ◌≤◌, true, false, List, refl, arith}
+use Rattle.std.proofs.Common.{◌≡◌, ℕ, ◌≤◌, Bool, true, false, List, Some, refl, arith}
 use Rattle.wm_base.specs.declared.ids.ConId.{ConId}
 use Rattle.wm_base.specs.declared.plan.Layout.{Layout}
 use Rattle.wm_base.specs.declared.plan.OutputPlan.{OutputPlan}
+use Rattle.wm_focus.specs.Marks.{freed, given_mark, kept_marks, with_mark}
+use Rattle.wm_focus.specs.Swaps.{is_window_kind}
 use Rattle.wm_opens.proofs.MeasureLemmas.{Fewer, IsMeasure, fewer_same, fewer_trans}
-use Rattle.wm_opens.proofs.WordLemmas.{fewer_along, fewer_detached, fewer_edited, fewer_exchanged, fewer_moved, fewer_raised, fewer_settled, fewer_space_moved, fewer_unmarked, fewer_with_marks, fewer_with_output, fewer_with_space, fewer_without_output, fewer_wrapped}
+use Rattle.wm_opens.proofs.WordLemmas.{count-taken_off, fewer_along, fewer_attached, fewer_detached, fewer_edited, fewer_exchanged, fewer_moved, fewer_raised, fewer_settled, fewer_space_moved, fewer_unmarked, fewer_with_marks, fewer_with_output, fewer_with_space, fewer_without_output, fewer_wrapped}
 use Rattle.wm_opens.specs.Opens.{is_fill}
 use Rattle.wm_tree.specs.Along.{gone_along}
 use Rattle.wm_forest.specs.Counts.{count}
 use Rattle.wm_forest.specs.declared.kind.KindEdit.{KindEdit}
 use Rattle.wm_forest.specs.declared.part.Part.{Part}
+use Rattle.wm_forest.specs.declared.place.NewCon.{NewCon}
 use Rattle.wm_forest.specs.declared.place.Place.{Place}
 use Rattle.wm_forest.specs.Look.{has}
-use Rattle.wm_tree.specs.Move.{exchanged, moved, unmarked, with_marks, wrapped}
+use Rattle.wm_forest.specs.Place.{new_kind}
+use Rattle.wm_tree.specs.Move.{exchanged, marks_in, moved, unmarked, with_marks, wrapped}
 use Rattle.wm_tree.specs.Outputs.{space_moved, with_output, with_space, without_output}
 use Rattle.wm_tree.specs.TreeValue.{TreeValue}
-use Rattle.wm_tree.specs.Words.{detached, edited, settled, with_raised}
+use Rattle.wm_tree.specs.Words.{attached, detached, edited, settled, with_raised}
 
 -- the new tree counts no more than the old one by each measure
 pub record Kept (t new : TreeValue) : Type 0 where
@@ -90,3 +94,18 @@ kept_without_output o t = record { next = next_of t (fewer_without_output zeros 
 
     next_of : (old : TreeValue) → Fewer zeros old (without_output o t) → old.next_id ≤ (without_output o t).next_id
     next_of old f = f.next
+
+-- ---- marks that are given
+
+pub kept_freed : (c : ConId) (n : List ℕ) (t : TreeValue) → Kept t (freed c n t)
+kept_freed c n t = kept_count t (freed c n t) refl (λ m k. omega (arith, count-taken_off m k (Some c) n t.nodes))
+
+pub kept_given : (c : ConId) (n : List ℕ) (add : Bool) (t : TreeValue) → Kept t (given_mark c n add t)
+kept_given c n add t =
+    let marks : List (List ℕ) = with_mark n (kept_marks n add (marks_in c t.nodes)) in
+    kept_trans t (with_marks c marks t) (given_mark c n add t) (kept_with_marks c marks t) (kept_freed c n (with_marks c marks t))
+
+-- ---- containers that come
+
+pub kept_attached : (p : Place) (newcomer : NewCon) (t : TreeValue) → is_window_kind (new_kind newcomer) ≡ false → Kept t (attached p newcomer t)
+kept_attached p newcomer t none = record { next = omega arith; fewer = λ m k. fewer_attached m k p newcomer t none }

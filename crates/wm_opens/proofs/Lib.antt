@@ -1,3 +1,4 @@
+pub mod AppendLemmas
 pub mod CommandLemmas
 pub mod FloatLemmas
 pub mod KeptLemmas
@@ -5,17 +6,20 @@ pub mod MeasureLemmas
 pub mod OpenLemmas
 pub mod OutputLemmas
 pub mod OwnerLemmas
+pub mod PlaceholderLemmas
 pub mod SettleKeeps
 pub mod ShowingLemmas
 pub mod SizeLemmas
 pub mod SpaceLemmas
 pub mod StepLemmas
+pub mod SureAppends
 pub mod SureCommands
 pub mod SureFloats
 pub mod SureLemmas
 pub mod SureMarks
 pub mod SureSizes
 pub mod SureSpaces
+pub mod SwallowLemmas
 pub mod TextLemmas
 pub mod TidyLemmas
 pub mod WordLemmas

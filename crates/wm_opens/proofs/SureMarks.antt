@@ -199,7 +199,7 @@ some_or_none : (add : Bool) (ms : List (List ℕ)) → length (all_or_none add m
 some_or_none true ms = omega arith
 some_or_none false ms = omega arith
 
-sure_given : (c : ConId) (n : List ℕ) (add : Bool) (t : TreeValue) → IsSound t → has c t.nodes ≡ true → is_container t c ≡ true → give_refusal c n add t ≡ None → Sure t (given_mark c n add t)
+pub sure_given : (c : ConId) (n : List ℕ) (add : Bool) (t : TreeValue) → IsSound t → has c t.nodes ≡ true → is_container t c ≡ true → give_refusal c n add t ≡ None → Sure t (given_mark c n add t)
 sure_given c n add t s there is fits = by (is_marked c n t) refl fits
   where
     given : TreeValue

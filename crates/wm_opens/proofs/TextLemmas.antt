@@ -24,6 +24,7 @@ use Rattle.wm_opens.proofs.KeptLemmas.{kept_settled}
 use Rattle.wm_opens.proofs.OwnerLemmas.{owners_kept}
 use Rattle.wm_opens.proofs.OpenLemmas.{seen_same}
 use Rattle.wm_opens.proofs.SettleKeeps.{settling_keeps}
+use Rattle.wm_opens.proofs.SureAppends.{sure_append}
 use Rattle.wm_opens.proofs.SureCommands.{subject_con, sure_dir, sure_floating, sure_focus_dir, sure_laid, sure_output_some, sure_raised_some, sure_split, sure_swap, sure_to_mark, sure_to_named, sure_to_output, unless}
 use Rattle.wm_opens.proofs.SureFloats.{sure_fullscreen, sure_hidden, sure_kind, sure_placed, sure_scratchpad, sure_stuck}
 use Rattle.wm_opens.proofs.SureLemmas.{Sure, sure_refl, sure_windows}
@@ -116,9 +117,10 @@ sure_row env how (commands.Gaps outer all op px) c t sub h = sure_gaps c outer a
 sure_row env how (commands.TitleFormat format) c t sub h = sure_format c format t sub.sound
 sure_row env how other c t sub h = sure_refl t sub.sound
 
-pub sure_whole : (env : Env) (command : Command) (t : TreeValue) → IsSound t → whole_refusal command t ≡ None → Sure t (whole_tree env command t)
+pub sure_whole : (env : Env) (command : Command) (t : TreeValue) → IsSound t → whole_refusal env command t ≡ None → Sure t (whole_tree env command t)
 sure_whole env (commands.Workspace target) t s h = sure_goal_shown (goal_of target t) env.homes t s (goal_by target t (goal_of target t) refl s) h
 sure_whole env (commands.Rename was name) t s h = sure_renamed (renamed_space was t) name t s
+sure_whole env (commands.AppendLayout name) t s h = sure_append name env.layouts t s h
 sure_whole env other t s h = sure_refl t s
 
 -- ---- settled steps
@@ -176,7 +178,7 @@ holds_course : (env : Env) (c : Course) (command : Command) (t : TreeValue) → 
 holds_course env (refused e) command t g = holds_refl t g
 holds_course env (on how cs) command t g = holds_each env how command cs t g
 holds_course env whole command t g =
-    holds_unless (whole_refusal command t) t (settled (whole_tree env command t)) g (λ h. then_settled t (whole_tree env command t) g (sure_whole env command t g.sound h))
+    holds_unless (whole_refusal env command t) t (settled (whole_tree env command t)) g (λ h. then_settled t (whole_tree env command t) g (sure_whole env command t g.sound h))
 
 holds_commands : (env : Env) (found : Targets) (cs : List Command) (o : Outcome) → IsGood o.tree → Holds o.tree (commands_done env found cs o).tree
 holds_commands env found [] o g = holds_refl o.tree g

@@ -1,10 +1,11 @@
 -- What each word of a tree keeps of a measure, and which let it only fall.
-use Rattle.std.proofs.Common.{◌≡◌, ℕ, ◌+◌, ◌≤◌, Bool, true, false, cond, List, [], Option, None, Some, refl, arith}
+use Rattle.std.proofs.Common.{◌≡◌, ℕ, ◌+◌, ◌≤◌, Bool, true, false, cond, List, [], Option, None, Some, refl, ap, arith}
 use Rattle.wm_base.specs.declared.geometry.Rect.{Rect}
 use Rattle.wm_base.specs.declared.ids.ConId.{ConId}
 use Rattle.wm_base.specs.declared.plan.Layout.{Layout}
 use Rattle.wm_base.specs.declared.plan.OutputPlan.{OutputPlan}
 use Rattle.wm_focus.specs.Marks.{bare, part_off, taken_off}
+use Rattle.wm_focus.specs.Swaps.{is_window_kind}
 use Rattle.wm_opens.proofs.MeasureLemmas.{Fewer, IsFresh, IsMeasure, fewer_refl, fewer_same, fewer_trans}
 use Rattle.wm_opens.specs.Opens.{is_fill}
 use Rattle.wm_forest.proofs.ChangeLemmas.{by_change}
@@ -17,6 +18,7 @@ use Rattle.wm_forest.specs.Counts.{count}
 use Rattle.wm_forest.specs.declared.kind.KindEdit.{KindEdit}
 use Rattle.wm_forest.specs.declared.kind.KindEdit.TheVariants as edits
 use Rattle.wm_forest.specs.declared.part.Part.{Part}
+use Rattle.wm_forest.specs.declared.place.NewCon.{NewCon}
 use Rattle.wm_forest.specs.declared.place.NewCon.TheVariants as new
 use Rattle.wm_forest.specs.declared.place.Place.{Place}
 use Rattle.wm_forest.specs.declared.place.Place.TheVariants.{After, Before, First, Last, Float, Scratchpad}
@@ -28,11 +30,11 @@ use Rattle.wm_forest.specs.Exchange.{exchanged_nodes, holed}
 use Rattle.wm_forest.specs.Marks.{marks_word, other_marks, unmark_word}
 use Rattle.wm_tree.specs.Outputs.{handed_on, left_to, new_output, new_space, space_moved, with_output, with_space, without_output, yielded}
 use Rattle.wm_forest.specs.Taking.{heir, taking_in}
-use Rattle.wm_forest.specs.Place.{named, new_part, put, put_word, rect_at}
+use Rattle.wm_forest.specs.Place.{named, new_kind, new_part, put, put_word, rect_at, share_at}
 use Rattle.wm_forest.specs.SoundRow.{tally}
 use Rattle.wm_tree.specs.TreeValue.{TreeValue, current, output_part, space_part, workspace_of}
 use Rattle.wm_forest.specs.RootId.{id, root}
-use Rattle.wm_tree.specs.Words.{detached, edited, settled, with_raised}
+use Rattle.wm_tree.specs.Words.{attached, detached, edited, settled, with_raised}
 
 -- a forest in which a node is counted is not empty
 filled_by : (c : ConId) (f : Forest) → 1 ≤ tally c f → is_end f ≡ false
@@ -209,6 +211,18 @@ module _ (m : Part → ℕ) (k : IsMeasure m) where
       (omega (arith, put_most m (Float w nowhere) (unfull nobody stuck) (at v loosened end t.nodes), count-unfull nobody m k.unfulled stuck, count-loosened m v t.nodes))
 
   -- ---- words that make nodes
+
+  -- a container that comes, and is no window
+  pub fewer_attached : (p : Place) (newcomer : NewCon) (t : TreeValue) → is_window_kind (new_kind newcomer) ≡ false → Fewer m t (attached p newcomer t)
+  fewer_attached p newcomer t none = record { next = omega arith; fewer = fewer }
+    where
+      part : Part
+      part = new_part (id t.next_id) (share_at p t.nodes) t.border (rect_at p) newcomer
+
+      fewer : IsFresh m t.next_id → count m (attached p newcomer t).nodes ≤ count m t.nodes
+      fewer f =
+          let zero : m part ≡ 0 = f.nothing part (omega arith) (ap (λ b. cond {A = ℕ} b 1 0) none) in
+          omega (arith, zero, put_most m p (con part end end end) t.nodes)
 
   pub fewer_wrapped : (c : ConId) (layout : Layout) (t : TreeValue) → Fewer m t (wrapped c layout t)
   fewer_wrapped c layout t = record { next = omega arith; fewer = fewer }

@@ -1,5 +1,5 @@
--- Laws of windows: which ids stand in a tree as windows before and after a step.
-use Rattle.std.specs.Prelude.{◌≡◌, ◌≢◌, ℕ, ◌+◌, ◌≤◌, true, false, if◌then◌else◌, List, Option, None}
+-- Laws of windows: which ids stand in a tree as windows before and after a step, and which may still open.
+use Rattle.std.specs.Prelude.{◌≡◌, ◌≢◌, ℕ, ◌+◌, ◌≤◌, true, false, if◌then◌else◌, List, Option, None, Some}
 use Rattle.wm_apply.specs.Batches.{outcome}
 use Rattle.wm_base.specs.declared.geometry.Size.{Size}
 use Rattle.wm_base.specs.declared.ids.ConId.{ConId}
@@ -8,13 +8,14 @@ use Rattle.wm_base.specs.declared.plan.OutputPlan.{OutputPlan}
 use Rattle.wm_base.specs.declared.properties.Props.{Props}
 use Rattle.wm_criteria.specs.declared.verdict.Verdict.{Verdict}
 use Rattle.wm_layouts.specs.declared.plan.Env.{Env}
-use Rattle.wm_opens.specs.Opens.{Holds, IsGood, IsTidy, is_fill, is_owned_of, is_window_of, window_at, windows_at}
+use Rattle.wm_opens.specs.Opens.{Fills, Holds, IsGood, IsTidy, OpensNoOther, is_fill, is_owned_of, is_placeholder_of, is_window_of, may_open, placeholders_at, window_at, windows_at}
 use Rattle.wm_spaces.specs.Coming.{output_added_tree, output_removed_tree}
 use Rattle.wm_forest.specs.Counts.{count}
 use Rattle.wm_forest.specs.declared.kind.KindEdit.{KindEdit}
 use Rattle.wm_forest.specs.declared.place.NewCon.TheVariants as new
 use Rattle.wm_forest.specs.Look.{con_kind, kind_of, only, same}
 use Rattle.wm_forest.specs.Place.{passed_limit}
+use Rattle.wm_swallow.specs.Swallowing.{swallowed, swallower}
 use Rattle.wm_tree.specs.Sound.{IsSound}
 use Rattle.wm_tree.specs.TreeValue.{TreeValue, newcomer_place, opening}
 use Rattle.wm_forest.specs.RootId.{id}
@@ -101,3 +102,80 @@ OpeningsAreTidy = (plans : List OutputPlan) (border : Border) (inner outer : ℕ
 -- in a sound tree each window is counted once, and what is no window not at all
 abbrev pub WindowsAreSeen : Type 0
 WindowsAreSeen = (t : TreeValue) (v : ConId) → IsSound t → windows_at v t ≡ (if is_window_of t v then 1 else 0)
+
+-- ---- which ids may open
+
+-- in a sound tree each placeholder is counted once, and what is no placeholder not at all
+abbrev pub PlaceholdersAreSeen : Type 0
+PlaceholdersAreSeen = (t : TreeValue) (v : ConId) → IsSound t → placeholders_at v t ≡ (if is_placeholder_of t v then 1 else 0)
+
+-- after a step that lets no other id open, an id may open only if it might before
+abbrev pub NoOtherMayOpen : Type 0
+NoOtherMayOpen = (t new : TreeValue) (v : ConId) → IsSound t → IsSound new → OpensNoOther t new → may_open new v ≡ true → may_open t v ≡ true
+
+-- so it is after one such step and another
+abbrev pub StepsOpenNoOther : Type 0
+StepsOpenNoOther = (t mid new : TreeValue) → OpensNoOther t mid → OpensNoOther mid new → OpensNoOther t new
+
+-- what is a window opens no second time
+abbrev pub WindowsMayNotOpen : Type 0
+WindowsMayNotOpen = (t : TreeValue) (v : ConId) → IsSound t → is_window_of t v ≡ true → may_open t v ≡ false
+
+-- an id that a window had may never open again
+abbrev pub WindowsNeverOpenAgain : Type 0
+WindowsNeverOpenAgain = (t new : TreeValue) (v : ConId) → IsSound t → IsSound new → is_window_of t v ≡ true → OpensNoOther t new → may_open new v ≡ false
+
+-- after a text no other id may open
+abbrev pub TextsOpenNoOther : Type 0
+TextsOpenNoOther = (env : Env) (verdict : Verdict) (subject : Option ConId) (t : TreeValue) → OpensNoOther t (outcome env verdict subject t).tree
+
+-- nor after settling
+abbrev pub SettlingOpensNoOther : Type 0
+SettlingOpensNoOther = (t : TreeValue) → OpensNoOther t (settled t)
+
+-- nor after a window was mapped under the next id
+abbrev pub MappingOpensNoOther : Type 0
+MappingOpensNoOther = (who : ℕ) (props : Props) (natural : Size) (t : TreeValue) → OpensNoOther t (attached (newcomer_place t) (new.Window props who natural) t)
+
+-- nor after a node was raised
+abbrev pub RaisingOpensNoOther : Type 0
+RaisingOpensNoOther = (c : ConId) (t : TreeValue) → OpensNoOther t (with_raised c t)
+
+-- nor after any change of a node
+abbrev pub EditsOpenNoOther : Type 0
+EditsOpenNoOther = (c : ConId) (edit : KindEdit) (t : TreeValue) → OpensNoOther t (edited c edit t)
+
+-- nor after a node was taken out
+abbrev pub ClosingOpensNoOther : Type 0
+ClosingOpensNoOther = (c : ConId) (t : TreeValue) → OpensNoOther t (detached c t)
+
+-- nor after an output came
+abbrev pub AddedOutputsOpenNoOther : Type 0
+AddedOutputsOpenNoOther = (plan : OutputPlan) (t : TreeValue) → OpensNoOther t (output_added_tree plan t)
+
+-- nor after one went
+abbrev pub RemovedOutputsOpenNoOther : Type 0
+RemovedOutputsOpenNoOther = (name : List ℕ) (t : TreeValue) → OpensNoOther t (output_removed_tree name t)
+
+-- nor after a window came to its placeholder
+abbrev pub SwallowingOpensNoOther : Type 0
+SwallowingOpensNoOther = (props : Props) (owner : ℕ) (natural : Size) (t : TreeValue) → OpensNoOther t (swallowed props owner natural t)
+
+-- ---- a window that comes to its placeholder
+
+-- the placeholder that is found in a sound tree becomes the window, and nothing else comes or goes
+abbrev pub SwallowingFills : Type 0
+SwallowingFills = (props : Props) (owner : ℕ) (natural : Size) (t : TreeValue) (c : ConId) → IsSound t → swallower props t ≡ Some c → Fills c owner t (swallowed props owner natural t)
+
+-- a good tree stays good
+abbrev pub SwallowingStaysGood : Type 0
+SwallowingStaysGood = (props : Props) (owner : ℕ) (natural : Size) (t : TreeValue) → IsGood t → IsGood (swallowed props owner natural t)
+
+-- where none is found, the tree stays
+abbrev pub SwallowingNoneStays : Type 0
+SwallowingNoneStays = (props : Props) (owner : ℕ) (natural : Size) (t : TreeValue) → swallower props t ≡ None → swallowed props owner natural t ≡ t
+
+-- its id might open before, and may not again
+abbrev pub SwallowingSpendsItsId : Type 0
+SwallowingSpendsItsId =
+    (props : Props) (owner : ℕ) (natural : Size) (t : TreeValue) (c : ConId) → IsSound t → swallower props t ≡ Some c → (may_open t c ≡ true) × (may_open (swallowed props owner natural t) c ≡ false)

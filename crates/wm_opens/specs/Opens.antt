@@ -1,5 +1,5 @@
--- Which ids stand in a tree as windows.
-use Rattle.std.specs.Prelude.{◌≡◌, ℕ, ◌==◌, Bool, true, false, if◌then◌else◌, Option, None, Some}
+-- Which ids stand in a tree as windows, and which may still open as windows.
+use Rattle.std.specs.Prelude.{◌≡◌, ℕ, ◌+◌, ◌≤◌, ◌<◌, ◌==◌, Bool, true, false, ◌||◌, ◌&&◌, nat_le, if◌then◌else◌, Option, None, Some}
 use Rattle.wm_base.specs.declared.ids.ConId.{ConId}
 use Rattle.wm_focus.specs.Swaps.{is_window_kind}
 use Rattle.wm_forest.specs.declared.kind.KindEdit.{KindEdit}
@@ -94,3 +94,72 @@ pub record Holds (t new : TreeValue) : Type 0 where
   pub good : IsGood new
   pub keeps : (v : ConId) → windows_at v new ≡ windows_at v t
   pub owners : (who : ℕ) (v : ConId) → is_owned_of new who v ≡ is_owned_of t who v
+
+-- ---- which ids may open
+
+abbrev pub is_placeholder_kind : ConKind → Bool
+is_placeholder_kind (Split layout last) = false
+is_placeholder_kind (Window props owner natural) = false
+is_placeholder_kind (Placeholder props swallows) = true
+
+-- a placeholder counts one, any other node nothing
+abbrev pub placeholders : NodeKind → ℕ
+placeholders (Root c) = 0
+placeholders (Output o) = 0
+placeholders (Space s) = 0
+placeholders (Con c) = if is_placeholder_kind c.kind then 1 else 0
+
+-- one for a placeholder with the id v
+abbrev pub placeholder_at : ConId → Part → ℕ
+placeholder_at v p = if same p.id v then placeholders p.kind else 0
+
+-- how often v stands in the tree as a placeholder, in workspaces or in the scratchpad
+abbrev pub placeholders_at : ConId → TreeValue → ℕ
+placeholders_at v t = count (placeholder_at v) t.nodes
+
+abbrev pub is_placeholder_part : Option ConPart → Bool
+is_placeholder_part None = false
+is_placeholder_part (Some part) = is_placeholder_kind part.kind
+
+-- v stands in the tree as a placeholder
+abbrev pub is_placeholder_of : TreeValue → ConId → Bool
+is_placeholder_of t v = is_placeholder_part (kind_of con_kind v t.nodes)
+
+-- v may open as a window: it is a placeholder's id, or still to be given
+abbrev pub may_open : TreeValue → ConId → Bool
+may_open t v = is_placeholder_of t v || nat_le t.next_id v.0
+
+-- in the new tree no id may open that might not in the old one: the next id is no lower, and no id that was given is a
+-- placeholder's more often
+pub record OpensNoOther (t new : TreeValue) : Type 0 where
+  pub next : t.next_id ≤ new.next_id
+  pub fewer : (v : ConId) → v.0 < t.next_id → placeholders_at v new ≤ placeholders_at v t
+
+-- ---- a placeholder that becomes a window
+
+-- how many windows there are
+abbrev pub all_windows : TreeValue → ℕ
+all_windows t = count (λ p. windows p.kind) t.nodes
+
+-- the new tree is sound, and has in the place of the placeholder c a window of the caller, and else the windows, each its
+-- caller's, and the placeholders of the old one; no id was given, and the order of recency stayed
+pub record Fills (c : ConId) (owner : ℕ) (t new : TreeValue) : Type 0 where
+  pub sound : IsSound new
+  -- where no container had floating windows, none has
+  pub tidy : IsTidy t.nodes → IsTidy new.nodes
+  pub next : new.next_id ≡ t.next_id
+  pub recency : new.recency ≡ t.recency
+  -- c was a placeholder, and no window
+  pub was : is_placeholder_of t c ≡ true
+  pub none : windows_at c t ≡ 0
+  -- it is a window of the caller, and no placeholder
+  pub own : is_owned_of new owner c ≡ true
+  pub gone : placeholders_at c new ≡ 0
+  -- what is counted
+  pub one : (v : ConId) → windows_at v new ≡ windows_at v t + (if same c v then 1 else 0)
+  pub all : all_windows new ≡ all_windows t + 1
+  pub owned : (who : ℕ) (v : ConId) → count (owned_at who v) new.nodes ≡ count (owned_at who v) t.nodes + (if same c v && owner == who then 1 else 0)
+  pub left : (v : ConId) → placeholders_at v new + (if same c v then 1 else 0) ≡ placeholders_at v t
+  -- what is found of others
+  pub windows_stay : (v : ConId) → same c v ≡ false → is_window_of new v ≡ is_window_of t v
+  pub owners_stay : (who : ℕ) (v : ConId) → same c v ≡ false → is_owned_of new who v ≡ is_owned_of t who v

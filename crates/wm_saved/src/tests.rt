@@ -32,48 +32,51 @@ fn told(alloc: Global, text: &str) -> Result<String, Fail> {
     told_value(alloc, &value)
 }
 
+/// An object three deep in a layout, and what the reader says of the layout.
+const FAULTS: [(&str, &str); 16] = [
+    (
+        "{\"type\":\"con\",\"percent\":0.5,\"nodes\":[],\"id\":7}",
+        "ok",
+    ),
+    ("{\"border\":\"thick\"}", "bad 0.nodes.1.nodes.0.border"),
+    (
+        "{\"current_border_width\":65}",
+        "bad 0.nodes.1.nodes.0.current_border_width",
+    ),
+    (
+        "{\"current_border_width\":2.0}",
+        "bad 0.nodes.1.nodes.0.current_border_width",
+    ),
+    ("{\"layout\":\"default\"}", "bad 0.nodes.1.nodes.0.layout"),
+    ("{\"marks\":\"m\"}", "bad 0.nodes.1.nodes.0.marks"),
+    ("{\"marks\":[\"m\",\"\"]}", "bad 0.nodes.1.nodes.0.marks.1"),
+    ("{\"name\":null}", "bad 0.nodes.1.nodes.0.name"),
+    ("{\"nodes\":{}}", "bad 0.nodes.1.nodes.0.nodes"),
+    ("{\"nodes\":[{},[]]}", "bad 0.nodes.1.nodes.0.nodes.1"),
+    ("{\"swallows\":{}}", "bad 0.nodes.1.nodes.0.swallows"),
+    (
+        "{\"swallows\":[{\"id\":7}]}",
+        "bad 0.nodes.1.nodes.0.swallows.0",
+    ),
+    (
+        "{\"swallows\":[{\"class\":7}]}",
+        "bad 0.nodes.1.nodes.0.swallows.0.class",
+    ),
+    (
+        "{\"swallows\":[{\"title\":\"a.*\"}]}",
+        "pattern 0.nodes.1.nodes.0.swallows.0.title",
+    ),
+    ("{\"type\":\"floating_con\"}", "bad 0.nodes.1.nodes.0.type"),
+    (
+        "{\"type\":7,\"nodes\":[7],\"swallows\":7}",
+        "bad 0.nodes.1.nodes.0.nodes.0",
+    ),
+];
+
 #[test]
 fn the_first_fault_is_told_by_its_path(rt: HostRuntime) -> Result<(), Fail> {
     let alloc = rt.alloc();
-    for (object, wanted) in [
-        (
-            "{\"type\":\"con\",\"percent\":0.5,\"nodes\":[],\"id\":7}",
-            "ok",
-        ),
-        ("{\"border\":\"thick\"}", "bad 0.nodes.1.nodes.0.border"),
-        (
-            "{\"current_border_width\":65}",
-            "bad 0.nodes.1.nodes.0.current_border_width",
-        ),
-        (
-            "{\"current_border_width\":2.0}",
-            "bad 0.nodes.1.nodes.0.current_border_width",
-        ),
-        ("{\"layout\":\"default\"}", "bad 0.nodes.1.nodes.0.layout"),
-        ("{\"marks\":\"m\"}", "bad 0.nodes.1.nodes.0.marks"),
-        ("{\"marks\":[\"m\",\"\"]}", "bad 0.nodes.1.nodes.0.marks.1"),
-        ("{\"name\":null}", "bad 0.nodes.1.nodes.0.name"),
-        ("{\"nodes\":{}}", "bad 0.nodes.1.nodes.0.nodes"),
-        ("{\"nodes\":[{},[]]}", "bad 0.nodes.1.nodes.0.nodes.1"),
-        ("{\"swallows\":{}}", "bad 0.nodes.1.nodes.0.swallows"),
-        (
-            "{\"swallows\":[{\"id\":7}]}",
-            "bad 0.nodes.1.nodes.0.swallows.0",
-        ),
-        (
-            "{\"swallows\":[{\"class\":7}]}",
-            "bad 0.nodes.1.nodes.0.swallows.0.class",
-        ),
-        (
-            "{\"swallows\":[{\"title\":\"a.*\"}]}",
-            "pattern 0.nodes.1.nodes.0.swallows.0.title",
-        ),
-        ("{\"type\":\"floating_con\"}", "bad 0.nodes.1.nodes.0.type"),
-        (
-            "{\"type\":7,\"nodes\":[7],\"swallows\":7}",
-            "bad 0.nodes.1.nodes.0.nodes.0",
-        ),
-    ] {
+    for (object, wanted) in FAULTS {
         let text = format!(in alloc; "[{{\"nodes\":[{{}},{{\"nodes\":[{object}]}}]}}]")?;
         assert_eq!(rt; told(alloc, text.as_str())?.as_str(), wanted, "{object}");
     }

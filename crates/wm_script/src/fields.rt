@@ -114,7 +114,7 @@ pub fn buffer(text: &[u8]) -> Option<(Buffer, &[u8])>
 }
 
 /// A width and a height in pixels, `WxH`, and what follows them.
-fn size(text: &[u8]) -> Option<(Size, &[u8])>
+pub fn size(text: &[u8]) -> Option<(Size, &[u8])>
     ensures value { option_map (λ found. (found.0, found.1.now)) result ≡ size_at text.now }
     ensures fit { IfSome result (λ found. IsFitSize found.0) }
 {
@@ -143,7 +143,7 @@ pub fn rect(text: &[u8]) -> Option<(Rect, &[u8])>
 }
 
 /// A number from -131,072 to 131,071, and what follows it.
-fn coordinate(text: &[u8]) -> Option<(i32, &[u8])>
+pub fn coordinate(text: &[u8]) -> Option<(i32, &[u8])>
     ensures { option_map (λ found. (found.0, found.1.now)) result ≡ coordinate_at text.now }
 {
     if let Some(digits) = behind(text, b"-") {

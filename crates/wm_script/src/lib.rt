@@ -14,7 +14,8 @@ mod script;
 mod window_lines;
 
 pub use clients::read_client_line;
-pub use fields::{at_end, behind, number, serial};
+pub use fields::{at_end, behind, coordinate, number, serial, size};
 pub use laws::{bad_line_is_first, script_is_its_lines};
 pub use line::{Deed, Line};
-pub use script::{ScriptRefusal, read_script};
+pub use quoted::{quoted_text, short_text};
+pub use script::{ScriptRefusal, first_line, read_script};

@@ -4,7 +4,7 @@ ghost use Rattle.std.specs.Option.{option_map};
 ghost use Rattle.wm_script.specs.Properties.{field_at, none_given, once, or_text, properties_at, property_at, props_of, with_property};
 
 use crate::fields::behind;
-use crate::quoted::quoted;
+use crate::quoted::quoted_text;
 use std::alloc::{AllocError, Global};
 use wm_base::{NoMemory, Props, Text, TextRefusal};
 
@@ -165,7 +165,7 @@ fn property(alloc: Global, given: Given, text: &[u8]) -> Result<Option<(Given, &
         drop(given);
         return Ok(None);
     };
-    let (said, rest) = match quoted(alloc, text) {
+    let (said, rest) = match quoted_text(alloc, text) {
         Ok(Some(found)) => found,
         Ok(None) => {
             drop(given);

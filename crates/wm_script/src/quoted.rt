@@ -13,7 +13,7 @@ const MOST_TOLD: usize = 4096;
 
 /// A quoted text of at most 1,024 bytes, and what follows it. `\"`, `\\` and `\n` stand for a quotation mark, a
 /// backslash and a line feed.
-pub fn quoted(alloc: Global, text: &[u8]) -> Result<Option<(Text, &[u8])>, NoMemory>
+pub fn quoted_text(alloc: Global, text: &[u8]) -> Result<Option<(Text, &[u8])>, NoMemory>
     ensures { IfOk result (λ said. option_map (λ found. (found.0, found.1.now)) said ≡ quoted_at text.now) }
 {
     let Some(inside) = behind(text, b"\"") else {
@@ -53,7 +53,7 @@ pub fn name(alloc: Global, text: &[u8]) -> Result<Option<(Text, &[u8])>, NoMemor
     ensures { IfOk result (λ said. option_map (λ found. (found.0, found.1.now)) said ≡ name_at text.now) }
 {
     if text.starts_with(b"\"") {
-        quoted(alloc, text)
+        quoted_text(alloc, text)
     } else {
         word(alloc, text)
     }
@@ -142,7 +142,7 @@ fn long_text(alloc: Global, bytes: &[u8]) -> Result<Option<Str>, NoMemory>
 
 /// The text of these bytes. `None` exactly where they are no UTF-8, or more than 1,024.
 #[tactic(auto, using(crate::proofs::TextLemmas::is_short, crate::proofs::TextLemmas::is_no_text))]
-fn short_text(alloc: Global, bytes: &[u8]) -> Result<Option<Text>, NoMemory>
+pub fn short_text(alloc: Global, bytes: &[u8]) -> Result<Option<Text>, NoMemory>
     ensures { IfOk result (λ said. said ≡ short_text bytes.now) }
 {
     let Ok(text) = str::from_utf8(bytes) else {

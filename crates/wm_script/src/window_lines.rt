@@ -7,7 +7,7 @@ ghost use Rattle.wm_script.specs.Script.{IsFitDeed};
 use crate::fields::{at_end, behind, buffer, number};
 use crate::line::Deed;
 use crate::properties::{FIELDS, Given, properties};
-use crate::quoted::quoted;
+use crate::quoted::quoted_text;
 use std::alloc::Global;
 use wm_base::{ConId, NoMemory};
 
@@ -61,7 +61,7 @@ fn title_line(alloc: Global, text: &[u8]) -> Result<Option<Deed>, NoMemory>
         return Ok(None);
     };
     let con = ConId(id);
-    match quoted(alloc, rest)? {
+    match quoted_text(alloc, rest)? {
         Some((title, rest)) => Ok(at_end(rest, Deed::Retitle { con, title })),
         None => Ok(None),
     }

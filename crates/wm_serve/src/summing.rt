@@ -5,15 +5,14 @@ ghost use Rattle.wm_core.specs.Entries.{history_of};
 ghost use Rattle.wm_core.specs.History.{opening_of};
 ghost use Rattle.wm_core.specs.Look.{state};
 ghost use Rattle.wm_core.specs.declared.step.Step as steps;
-ghost use Rattle.wm_serve.specs.Summary.{numbers_text, summary};
+ghost use Rattle.wm_serve.specs.Summary.{summary};
 ghost use Rattle.wm_turn.specs.declared.view.Entry.{Entry};
 
 use std::alloc::Global;
-use std::fmt::Write;
 use wm_base::NoMemory;
 use wm_book::Kept;
-use wm_core::{Query, State};
-use wm_lines::{push_line, push_text};
+use wm_core::Query;
+use wm_lines::{push_line, push_state};
 use wm_talk::view_json;
 
 /// The summary of the history that the value stands for: how many steps there are, how many transactions have ended, how many
@@ -22,26 +21,11 @@ pub fn summary<V: Kept>(alloc: Global, value: &V) -> Result<Vec<u8>, NoMemory>
     ensures { (entries : List (Entry steps.Step)) → V.stands value.now entries →
         IfOk result (λ bytes. bytes.items ≡ summary (opening_of (V.opening value.now)) (history_of entries)) }
 {
-    let mut bytes = numbers(alloc, &value.state())?;
+    let mut bytes = Vec::new(alloc);
+    push_state(alloc, &mut bytes, &value.state())?;
     let tree = value.look(0, &Query::Tree)?;
     let line = view_json(alloc, &tree);
     drop(tree);
     push_line(&mut bytes, &line?)?;
-    Ok(bytes)
-}
-
-/// The lines of numbers.
-fn numbers(alloc: Global, state: &State) -> Result<Vec<u8>, NoMemory>
-    ensures { IfOk result (λ bytes. bytes.items ≡ numbers_text state.now) }
-{
-    let mut text = String::new(alloc);
-    let (steps, done) = (state.steps, state.done);
-    let (prefix, windows) = (state.prefix, state.windows);
-    write!(
-        text,
-        "steps {steps}\ndone {done}\nprefix {prefix}\nwindows {windows}\n"
-    )?;
-    let mut bytes = Vec::new(alloc);
-    push_text(&mut bytes, text.as_str())?;
     Ok(bytes)
 }

@@ -15,7 +15,7 @@ use wm_ports::{Accepted, Listen};
 /// How long an accepting waits for a peer before it is quiet. Whoever accepts looks that often whether it is to stop,
 /// so it is long enough that many who accept cost next to nothing, and short enough that a stop is seen at once. A peer
 /// that comes ends the wait.
-const ACCEPT_WAIT_MS: u64 = 250;
+const ACCEPT_WAIT_MS: u64 = 500;
 
 /// A listener over a Unix socket, or one that has none and fails at each accepting. Several may share one socket, which
 /// is closed where the last of them is dropped; each peer comes to one of them.
@@ -66,7 +66,7 @@ impl UnixListen {
 impl Listen<UnixLink> for UnixListen {
     ghost faults = { λ s. s.faults };
 
-    /// Waits a quarter of a second at most for a peer, and gives the link to it. With no socket it fails.
+    /// Waits half a second at most for a peer, and gives the link to it. With no socket it fails.
     fn accept(&mut self) -> Accepted<UnixLink>
         ensures told { IsAccepted None None result }
         ensures counted { IsTallied result self.old.faults self.new.faults }

@@ -6,7 +6,7 @@ use Rattle.wm_ports.specs.Told.{TakesAll, TakesPart}
 use Rattle.wm_script.specs.declared.line.Line.{Line}
 use Rattle.wm_tool.specs.declared.replay.Stop.{Stop}
 use Rattle.wm_tool.specs.declared.replay.Stop.TheVariants as stops
-use Rattle.wm_tool.specs.declared.run.Command.TheVariants as commands
+use Rattle.wm_tool.specs.declared.words.Command.TheVariants as commands
 use Rattle.wm_script.specs.declared.script.ScriptRefusal.{ScriptRefusal}
 use Rattle.wm_script.specs.declared.script.ScriptRefusal.TheVariants as refusals
 use Rattle.wm_tool.specs.declared.status.Refused.{Refused}

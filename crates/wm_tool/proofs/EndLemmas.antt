@@ -6,7 +6,7 @@ use Rattle.wm_criteria.specs.Building.{Log}
 use Rattle.wm_ports.specs.Told.{TakesPart}
 use Rattle.wm_ports.specs.declared.whole.ReadFault.{ReadFault}
 use Rattle.wm_ports.specs.declared.whole.ReadFault.TheVariants as faults
-use Rattle.wm_tool.specs.declared.run.Command.{Command}
+use Rattle.wm_tool.specs.declared.words.Command.{Command}
 use Rattle.wm_tool.specs.Ending.{HasWritten, ending_of, texts_in}
 use Rattle.wm_tool.specs.Status.{of_read}
 use Rattle.wm_tool.specs.declared.status.Refused.{Refused}

@@ -7,7 +7,7 @@ use Rattle.wm_frames.specs.declared.front.Front.TheVariants.{Whole, Part, Wrong,
 use Rattle.wm_frames.specs.Decoding.{Decoding, Stands, capped, fault_of, rest_of}
 use Rattle.wm_frames.specs.Front.{front_of}
 use Rattle.wm_frames.specs.Reading.{Ending, Reading, rest, magic, too_long, ending, ending_at, messages, place, read_up_to, reading, tail, taken}
-use Rattle.wm_tool.specs.declared.run.Command.TheVariants.{Ipc}
+use Rattle.wm_tool.specs.declared.words.Command.TheVariants.{Ipc}
 use Rattle.wm_tool.specs.declared.run.FramesEnd.{FramesEnd}
 use Rattle.wm_tool.specs.declared.run.FramesEnd.TheVariants as end
 use Rattle.wm_tool.specs.declared.status.Status.{Status}

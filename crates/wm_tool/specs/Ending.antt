@@ -1,14 +1,13 @@
 -- How runs end, and why.
-use Rattle.std.specs.Prelude.{◌≡◌, ℕ, zero, suc, ◌<◌, ◌≤◌, ◌⊎◌, if◌then◌else◌, bytes_eq, List, [], ◌∷◌, Option, None, Some, Result, Ok, Err, length, codes, string_bytes, ⊤, String}
-use Rattle.std.specs.declared.alloc.Global.{Global}
+use Rattle.std.specs.Prelude.{◌≡◌, ℕ, zero, suc, ◌<◌, ◌≤◌, ◌⊎◌, List, [], ◌∷◌, Option, None, Some, Result, Ok, Err, length, ⊤}
 use Rattle.wm_defs.specs.Counts.{Rose}
 use Rattle.wm_criteria.specs.Building.{Log}
 use Rattle.wm_frames.specs.Reading.{Ending, ending, messages, rest, magic, too_long}
 use Rattle.wm_ports.specs.Told.{ReadsCount, ReadsPart, TakesAll, TakesPart}
 use Rattle.wm_tool.specs.declared.replay.Stop.{Stop}
 use Rattle.wm_tool.specs.declared.replay.Stop.TheVariants as stops
-use Rattle.wm_tool.specs.declared.run.Command.{Command}
-use Rattle.wm_tool.specs.declared.run.Command.TheVariants.{Replay, Ipc, Draw}
+use Rattle.wm_tool.specs.declared.words.Command.{Command}
+use Rattle.wm_tool.specs.declared.words.Command.TheVariants.{Replay, Ipc, Draw}
 use Rattle.wm_tool.specs.declared.run.FramesEnd.{FramesEnd}
 use Rattle.wm_tool.specs.declared.run.FramesEnd.TheVariants as end
 use Rattle.wm_script.specs.declared.line.Line.{Line}
@@ -20,16 +19,6 @@ use Rattle.wm_tool.specs.Ipc.{message_texts, out_ipc}
 use Rattle.wm_tool.specs.Output.{line_texts, lines_in, out}
 use Rattle.wm_tool.specs.Refusals.{IsBacked}
 use Rattle.wm_script.specs.Script.{script}
-
-abbrev pub command_named : List ℕ → Option Command
-command_named word =
-    if bytes_eq word (codes "replay") then Some Replay else (if bytes_eq word (codes "ipc") then Some Ipc else (if bytes_eq word (codes "draw") then Some Draw else None))
-
--- the command of the words, which is one word alone
-abbrev pub command : List (String Global) → Option Command
-command [] = None
-command (word ∷ []) = command_named (string_bytes word)
-command (first ∷ second ∷ words) = None
 
 -- a run was stopped by a fault of the sink, whose count of faults rose, or by want of memory
 abbrev pub HasStopped : ℕ → ℕ → Stop → Type 0
@@ -142,11 +131,6 @@ HasWritten c first log status None old new = ⊤
 HasWritten c first log status (Some bytes) old new = WritesOn c bytes first log status old new
 
 -- ---- what stays as it was
-
--- nothing was read
-abbrev pub OnUnread : Status → Type 0 → Type 0
-OnUnread BadWords same = same
-OnUnread status same = ⊤
 
 -- nothing was written
 abbrev pub OnUnwritten : Status → Type 0 → Type 0

@@ -1,8 +1,10 @@
 pub mod Drawing
 pub mod Ending
+pub mod Generating
 pub mod Ipc
 pub mod Output
 pub mod Planning
 pub mod Refusals
 pub mod Running
 pub mod Status
+pub mod Words

@@ -1,8 +1,9 @@
-//! The tool behind the program i3replay: it replays scripts, draws their frames, and answers frames of i3-ipc.
+//! The tool behind the program i3replay: scripts, their frames, frames of i3-ipc, and steps that a number makes.
 #![tactic(auto)]
 
 mod asked;
 mod drawing;
+mod generating;
 mod ipc;
 mod judging;
 mod planning;
@@ -11,6 +12,7 @@ mod run;
 mod status;
 mod telling;
 mod viewing;
+mod words;
 
 pub use run::tool;
 pub use status::{Refused, Status};

@@ -1,16 +1,20 @@
 //! The tool: its words, what it reads, and how its run ends.
-ghost use Rattle.std.specs.Prelude.{◌≡◌, ◌≢◌, ◌≤◌, ◌↔◌, ℕ, [], length, IfOk, IfSome, None, OnOk};
+ghost use Rattle.std.specs.Prelude.{◌≡◌, ◌≢◌, ◌≤◌, ◌↔◌, ℕ, [], length, IfOk, None, OnOk};
 ghost use Rattle.wm_defs.specs.Counts.{Rose};
-ghost use Rattle.wm_tool.specs.Ending.{command, ending_of, ends, EndsAs, EndsOn, frames_status, HasRead, HasRisen, HasWritten, OnUnread, OnUnwritten, rest_ending, WritesOn};
+ghost use Rattle.wm_tool.specs.Ending.{ending_of, ends, EndsAs, EndsOn, frames_status, HasRead, HasRisen, HasWritten, OnUnwritten, rest_ending, WritesOn};
 ghost use Rattle.wm_frames.specs.Decoding.{Stands};
 ghost use Rattle.wm_frames.specs.Reading.{messages};
-ghost use Rattle.wm_tool.specs.declared.run.Command.TheVariants as commands;
+ghost use Rattle.wm_tool.specs.Generating.{Sums};
+ghost use Rattle.wm_tool.specs.Words.{OnGenerate, OnRun, OnUnread, order_of};
+ghost use Rattle.wm_tool.specs.declared.words.Command.TheVariants as commands;
 ghost use Rattle.wm_tool.specs.declared.status.Status.TheVariants as status;
 
 use crate::drawing::draw;
+use crate::generating::sum_up;
 use crate::ipc::answer_all;
 use crate::replay::replay;
 use crate::status::{Refused, Status};
+use crate::words::{Command, Order, order_of};
 use std::alloc::Global;
 use wm_base::{List, NoMemory};
 use wm_criteria::Build;
@@ -21,20 +25,10 @@ use wm_script::read_script;
 /// How long an input is at most, in bytes.
 const MOST: usize = 16_777_216;
 
-/// What the tool can do.
-#[derive(Clone, Copy)]
-pub enum Command {
-    /// Reads a script, and writes the answers of its steps and its frames.
-    Replay,
-    /// Reads frames of i3-ipc, and writes the replies to their messages.
-    Ipc,
-    /// Reads a script, and writes the picture of its last frame.
-    Draw,
-}
-
-/// Runs the tool with these words, `replay`, `ipc` or `draw` alone: the script or the frames that the source gives are
+/// Runs the tool with these words. With `replay`, `ipc` or `draw` alone the script or the frames that the source gives are
 /// read to their end, and what they tell goes to the sink as it is made. The patterns of their texts are built by
-/// `build`, and the steps that it refuses are listed.
+/// `build`, and the steps that it refuses are listed. With `generate`, a number and a count, nothing is read, and how far so
+/// many steps lead that are made from the number goes to the sink.
 pub fn tool<R: Source, W: Sink, B: Build>(
     alloc: Global,
     words: &[String],
@@ -42,38 +36,48 @@ pub fn tool<R: Source, W: Sink, B: Build>(
     sink: &mut W,
     build: &mut B,
 ) -> Status
-    ensures words { result ≡ status.BadWords ↔ command words.now ≡ None }
-    ensures unread { OnUnread result (source.new ≡ source.old) }
+    ensures words { result ≡ status.BadWords ↔ order_of words.now ≡ None }
+    ensures unread { OnUnread (order_of words.now) (source.new ≡ source.old) }
     ensures unwritten { OnUnwritten result (sink.new ≡ sink.old) }
-    ensures read { IfSome (command words.now) (λ c. HasRead c result (R.rest source.old) (R.rest source.new)) }
-    ensures written { IfSome (command words.now) (λ c.
+    ensures read { OnRun (order_of words.now) (λ c. HasRead c result (R.rest source.old) (R.rest source.new)) }
+    ensures written { OnRun (order_of words.now) (λ c.
         HasWritten c (B.log build.old) (B.log build.new) result (R.rest source.old) (W.taken sink.old) (W.taken sink.new)) }
+    ensures summed { OnGenerate (order_of words.now) (λ seed count. Sums seed count result (W.taken sink.old) (W.taken sink.new)) }
     ensures faults { HasRisen result (R.faults source.old) (R.faults source.new) (W.faults sink.old) (W.faults sink.new) }
-    ensures whole { IfSome (command words.now) (λ c.
+    ensures whole { OnRun (order_of words.now) (λ c.
         (Rose (R.faults source.old) (R.faults source.new) → ⊥) →
         (Rose (W.faults sink.old) (W.faults sink.new) → ⊥) → EndsAs c result (R.rest source.old)) }
 {
-    let Some(command) = named(words) else {
-        return Status::BadWords;
-    };
-    match run(alloc, command, source, sink, build) {
+    match order_of(words) {
+        Some(Order::Run(command)) => ending(run(alloc, command, source, sink, build)),
+        Some(Order::Generate { seed, count }) => summed(alloc, seed, count, sink),
+        None => Status::BadWords,
+    }
+}
+
+/// The status of a run.
+fn ending(ended: Result<List<Refused>, Status>) -> Status
+    ensures { result ≡ ending_of ended }
+{
+    match ended {
         Ok(refused) => Status::Done { refused },
         Err(status) => status,
     }
 }
 
-/// The command of the words.
-fn named(words: &[String]) -> Option<Command>
-    ensures { result ≡ command words.now }
+/// Takes so many steps, made from this number, and writes how far they lead.
+fn summed<W: Sink>(alloc: Global, seed: u32, count: u32, sink: &mut W) -> Status
+    requires few { count ≤ 20000 }
+    ensures words { result ≢ status.BadWords }
+    ensures unwritten { OnUnwritten result (sink.new ≡ sink.old) }
+    ensures written { Sums seed count result (W.taken sink.old) (W.taken sink.new) }
+    ensures faults { (old new : ℕ) → HasRisen result old new (W.faults sink.old) (W.faults sink.new) }
 {
-    let [word] = words else {
-        return None;
-    };
-    match word.as_str() {
-        "replay" => Some(Command::Replay),
-        "ipc" => Some(Command::Ipc),
-        "draw" => Some(Command::Draw),
-        _ => None,
+    match sum_up(alloc, seed, count, sink) {
+        Ok(()) => Status::Done {
+            refused: List::of(Vec::new(alloc)),
+        },
+        Err(stop) => Status::from(stop),
     }
 }
 

@@ -1,0 +1,11 @@
+pub mod Binds
+pub mod Blocks
+pub mod Letters
+pub mod LettersCode
+pub mod LettersFall
+pub mod LettersOf
+pub mod LettersReading
+pub mod Lines
+pub mod Naming
+pub mod Reading
+pub mod Words

@@ -1,0 +1,270 @@
+//! What was read so far, and what a line adds to it.
+ghost use Rattle.std.specs.Prelude.{◌≡◌, ◌<◌, ◌++◌, ◌∷◌, [], IfOk, IfSome, OnOk, Ok, length};
+ghost use Rattle.std.specs.List.{list_any};
+ghost use Rattle.std.specs.Str.{bytes_eq};
+ghost use Rattle.wm_binds.specs.Binds.{has_key_of, place_of, put_at, with_bind};
+ghost use Rattle.wm_binds.specs.Blocks.{at_top, blank_draft, bound, default_mode, in_bar, in_mode, opened, with_output, IsStep};
+ghost use Rattle.wm_binds.specs.Reading.{entered};
+ghost use Rattle.wm_binds.specs.declared.draft.LineRefusal.TheVariants as faults;
+ghost use Rattle.wm_layouts.specs.Plan.{is_taken};
+
+use crate::config::Bind;
+use crate::entry::Entry;
+use crate::words::{are_same, past_blanks};
+use std::alloc::{AllocError, AllocFailed, Global};
+use std::mem;
+use wm_base::{Border, List, NoMemory as OutOfMemory, OutputPlan, Str, Text};
+use wm_saved::SavedLayout;
+
+/// How many outputs a plan has at most.
+const MAX_OUTPUTS: usize = 8;
+
+/// Where a line stands: at the top, in the block of a mode, or in that of a bar.
+#[derive(Drop)]
+pub(crate) enum Block {
+    Top,
+    Mode(Text),
+    Bar,
+}
+
+/// What the lines so far give.
+#[derive(Drop)]
+pub(crate) struct Draft {
+    pub outputs: List<OutputPlan>,
+    pub border: Border,
+    pub inner: u32,
+    pub outer: u32,
+    pub modes: List<Text>,
+    pub homes: List<(Text, Text)>,
+    pub layouts: List<(Text, SavedLayout)>,
+    pub binds: List<Bind>,
+    pub block: Block,
+}
+
+/// Why a line was refused.
+#[derive(Clone, Copy)]
+pub(crate) enum LineRefusal {
+    /// It is outside the grammar.
+    Outside,
+    /// It has one output more than a plan may have.
+    Full,
+    NoMemory,
+}
+
+impl From<OutOfMemory> for LineRefusal {
+    ghost from_gives = { λ _ e. e ≡ faults.NoMemory };
+
+    fn from(_error: OutOfMemory) -> LineRefusal {
+        LineRefusal::NoMemory
+    }
+}
+
+impl From<AllocError> for LineRefusal {
+    ghost from_gives = { λ _ e. e ≡ faults.NoMemory };
+
+    fn from(_error: AllocError) -> LineRefusal {
+        LineRefusal::NoMemory
+    }
+}
+
+/// Adds an item at the end.
+fn push<T: Drop>(alloc: Global, list: &mut List<T>, item: T) -> Result<(), OutOfMemory>
+    ensures { OnOk result (list.new ≡ list.old ++ item ∷ []) }
+{
+    let mut items = mem::replace(list, List::of(Vec::new(alloc))).into_vec();
+    items.push(item)?;
+    drop(mem::replace(list, List::of(items)));
+    Ok(())
+}
+
+/// Adds a binding, in the place of one of the same mode and chord.
+#[tactic(auto, using(crate::proofs::BindLemmas::with_bind_at))]
+fn put_bind(alloc: Global, binds: &mut List<Bind>, bind: Bind) -> Result<(), OutOfMemory>
+    ensures { OnOk result (binds.new ≡ with_bind bind binds.old) }
+{
+    let mut items = mem::replace(binds, List::of(Vec::new(alloc))).into_vec();
+    put_at(&mut items, bind)?;
+    drop(mem::replace(binds, List::of(items)));
+    Ok(())
+}
+
+/// Puts a binding in the place of one of the same mode and chord, or behind all.
+fn put_at(binds: &mut Vec<Bind>, bind: Bind) -> Result<(), OutOfMemory>
+    ensures { OnOk result (binds.new.items ≡ put_at (place_of bind binds.old.items) bind binds.old.items) }
+{
+    match place_of(binds, &bind) {
+        Some(place) => {
+            binds[place] = bind;
+            Ok(())
+        }
+        None => {
+            binds.push(bind)?;
+            Ok(())
+        }
+    }
+}
+
+/// The place of the first binding of the same mode and chord.
+#[tactic(auto, using(crate::proofs::BindLemmas::from_first, crate::proofs::BindLemmas::one_more))]
+fn place_of(binds: &[Bind], bind: &Bind) -> Option<usize>
+    ensures value { result ≡ place_of bind.now binds.now }
+    ensures within { IfSome result (λ place. place < length binds.now) }
+{
+    let mut place = 0usize;
+    let mut rest = binds;
+    while let [first, after @ ..] = rest {
+        if has_key_of(bind, first) {
+            return Some(place);
+        }
+        place += 1;
+        rest = after;
+    }
+    None
+}
+
+/// Whether they are of one mode and one chord.
+fn has_key_of(bind: &Bind, other: &Bind) -> bool
+    ensures { result ≡ has_key_of bind.now other.now }
+{
+    other.mode.as_str() == bind.mode.as_str() && other.chord.as_str() == bind.chord.as_str()
+}
+
+/// Whether one of the texts is this one.
+fn is_among(texts: &[Text], text: &Text) -> bool
+    ensures { result ≡ list_any (bytes_eq text.now) texts.now }
+{
+    texts.iter().any(|other| text.as_str() == other.as_str())
+}
+
+/// Whether one of the outputs has the name.
+fn is_taken(outputs: &[OutputPlan], name: &Text) -> bool
+    ensures { result ≡ is_taken name.now outputs.now }
+{
+    match outputs {
+        [] => false,
+        [first, rest @ ..] => first.name.as_str() == name.as_str() || is_taken(rest, name),
+    }
+}
+
+/// The name of the mode that has no block.
+fn default_mode(alloc: Global) -> Result<Text, OutOfMemory>
+    ensures { IfOk result (λ mode. mode ≡ default_mode) }
+{
+    match Text::new(alloc, "default") {
+        Ok(mode) => Ok(mode),
+        Err(_) => Err(OutOfMemory),
+    }
+}
+
+impl Draft {
+    /// Before the first line.
+    pub fn new(alloc: Global) -> Draft
+        ensures { result ≡ blank_draft }
+    {
+        Draft {
+            outputs: List::of(Vec::new(alloc)),
+            border: Border::Normal(2),
+            inner: 0,
+            outer: 0,
+            modes: List::of(Vec::new(alloc)),
+            homes: List::of(Vec::new(alloc)),
+            layouts: List::of(Vec::new(alloc)),
+            binds: List::of(Vec::new(alloc)),
+            block: Block::Top,
+        }
+    }
+
+    /// A line that sets no name, in the block in which it stands.
+    pub fn enter(&mut self, alloc: Global, entry: Entry) -> Result<(), LineRefusal>
+        ensures { IsStep (entered self.old self.old.block entry) self.new result }
+    {
+        match &self.block {
+            Block::Top => self.enter_top(alloc, entry),
+            Block::Mode(name) => match name.clone() {
+                Ok(mode) => self.enter_mode(alloc, mode, entry),
+                Err(_) => Err(LineRefusal::NoMemory),
+            },
+            Block::Bar => Ok(()),
+        }
+    }
+
+    /// A line in the block of a bar: it is passed over, unless it ends the block.
+    pub fn pass(&mut self, text: &[u8])
+        ensures { self.new ≡ in_bar self.old text.now }
+    {
+        if are_same(past_blanks(text), b"}") {
+            self.block = Block::Top;
+        }
+    }
+
+    /// A line in the block of this mode.
+    fn enter_mode(&mut self, alloc: Global, mode: Text, entry: Entry) -> Result<(), LineRefusal>
+        ensures { IsStep (in_mode self.old mode entry) self.new result }
+    {
+        match entry {
+            Entry::Nothing => Ok(()),
+            Entry::Key { chord, text } => self.bind(alloc, mode, chord, text),
+            Entry::Close => {
+                self.block = Block::Top;
+                Ok(())
+            }
+            _ => Err(LineRefusal::Outside),
+        }
+    }
+
+    /// A line at the top.
+    fn enter_top(&mut self, alloc: Global, entry: Entry) -> Result<(), LineRefusal>
+        ensures { IsStep (at_top self.old entry) self.new result }
+    {
+        match entry {
+            Entry::Nothing | Entry::Passed => {}
+            Entry::Bar => self.block = Block::Bar,
+            Entry::Mode(name) => return self.open_mode(alloc, name),
+            Entry::Close => return Err(LineRefusal::Outside),
+            Entry::Key { chord, text } => {
+                let mode = default_mode(alloc)?;
+                return self.bind(alloc, mode, chord, text);
+            }
+            Entry::Border(border) => self.border = border,
+            Entry::Inner(width) => self.inner = width,
+            Entry::Outer(width) => self.outer = width,
+            Entry::Home { name, output } => push(alloc, &mut self.homes, (name, output))?,
+            Entry::Output(output) => return self.add_output(alloc, output),
+            Entry::Layout { name, layout } => push(alloc, &mut self.layouts, (name, layout))?,
+        }
+        Ok(())
+    }
+
+    /// The chord runs the text in the mode.
+    fn bind(&mut self, alloc: Global, mode: Text, chord: Text, text: Str) -> Result<(), LineRefusal>
+        ensures { IsStep (Ok (bound self.old mode chord text)) self.new result }
+    {
+        put_bind(alloc, &mut self.binds, Bind { mode, chord, text })?;
+        Ok(())
+    }
+
+    /// The block of the mode begins.
+    fn open_mode(&mut self, alloc: Global, name: Text) -> Result<(), LineRefusal>
+        ensures { IsStep (Ok (opened self.old name)) self.new result }
+    {
+        if name.as_str() != "default" && !is_among(self.modes.items(), &name) {
+            push(alloc, &mut self.modes, name.clone()?)?;
+        }
+        self.block = Block::Mode(name);
+        Ok(())
+    }
+
+    /// One more output, with a name of its own.
+    fn add_output(&mut self, alloc: Global, output: OutputPlan) -> Result<(), LineRefusal>
+        ensures { IsStep (with_output self.old output) self.new result }
+    {
+        if is_taken(self.outputs.items(), &output.name) {
+            return Err(LineRefusal::Outside);
+        }
+        if self.outputs.items().len() >= MAX_OUTPUTS {
+            return Err(LineRefusal::Full);
+        }
+        push(alloc, &mut self.outputs, output)?;
+        Ok(())
+    }
+}

@@ -1,0 +1,16 @@
+//! Configurations: what a user's i3 configuration says, read to a plan and to bindings.
+#![tactic(auto)]
+
+mod config;
+mod draft;
+mod entry;
+mod layout_lines;
+mod line;
+mod mode_lines;
+mod names;
+mod naming;
+mod plan_lines;
+mod reading;
+mod words;
+
+pub use config::{Bind, Config, ConfigRefusal};

@@ -1,0 +1,2 @@
+mod GenerateLemmas
+mod TextLemmas
