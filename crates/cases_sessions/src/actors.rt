@@ -27,7 +27,7 @@ use wm_turn::Seat;
 const SPACE: usize = 1 << 16;
 
 /// How often a caller looks whether anything waits, before it goes on.
-const MOST_LOOKS: u32 = 100_000;
+const MOST_LOOKS: u32 = 10_000_000;
 
 /// Writes how an actor ended.
 pub fn push_actor_end(end: ActorEnd, out: &mut String) -> Result<(), AllocError> {
