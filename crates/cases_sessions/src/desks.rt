@@ -6,7 +6,7 @@ use crate::gated::{Gate, GatedLink};
 use crate::given::GivenLink;
 use crate::links::{frames_of, quiet_link};
 use crate::telling::{push_lines, push_sent};
-use case_data::{Fault, Words};
+use case_data::{Fault, Words, bytes_of};
 use std::alloc::Global;
 use std::sync::Wait;
 use std::sync::atomic::AtomicU64;
@@ -34,16 +34,37 @@ fn push_back(
 }
 
 /// From `MESSAGES|MESSAGES`, how a server ends and what it tells two clients, the first of which ends its first sending only
-/// after the second one was answered, and then what it wrote.
+/// after the second one was answered, and then what it wrote. Its configuration is empty.
 pub fn tell_serve<R: Threads + Wait + Sync>(
     rt: &R,
+    fields: &mut Words<'_>,
+    out: &mut String,
+) -> Result<(), Fault> {
+    let config = Vec::new(fields.alloc);
+    tell_served(rt, config, fields, out)
+}
+
+/// From `CONFIG|MESSAGES|MESSAGES`, the same with a configuration.
+pub fn tell_serve_by<R: Threads + Wait + Sync>(
+    rt: &R,
+    fields: &mut Words<'_>,
+    out: &mut String,
+) -> Result<(), Fault> {
+    let config = bytes_of(fields.alloc, fields.until("|"))?;
+    tell_served(rt, config, fields, out)
+}
+
+/// Tells the same of two links' messages by a configuration.
+fn tell_served<R: Threads + Wait + Sync>(
+    rt: &R,
+    config: Vec<u8>,
     fields: &mut Words<'_>,
     out: &mut String,
 ) -> Result<(), Fault> {
     let alloc = fields.alloc;
     let first = quiet_link(alloc, frames_of(alloc, fields.until("|"))?, 0)?;
     match last_link(fields) {
-        Ok(second) => serve_both(alloc, rt, first, second, out),
+        Ok(second) => serve_both(alloc, rt, config, first, second, out),
         Err(fault) => {
             drop(first);
             Err(fault)
@@ -55,6 +76,7 @@ pub fn tell_serve<R: Threads + Wait + Sync>(
 fn serve_both<R: Threads + Wait + Sync>(
     alloc: Global,
     rt: &R,
+    config: Vec<u8>,
     first: MemLink,
     second: MemLink,
     out: &mut String,
@@ -63,7 +85,7 @@ fn serve_both<R: Threads + Wait + Sync>(
     let first = GatedLink::new(first, Gate { at: 2, until: 3 }, &begun, &beside);
     let second = GatedLink::new(second, Gate { at: 0, until: 0 }, &beside, &begun);
     let mut doors = two_doors(alloc, first, second, 22)?;
-    let told = serve_doors(alloc, rt, &mut doors, out);
+    let told = serve_doors(alloc, rt, config, &mut doors, out);
     drop(doors);
     told
 }
@@ -72,13 +94,14 @@ fn serve_both<R: Threads + Wait + Sync>(
 fn serve_doors<R: Threads + Wait + Sync>(
     alloc: Global,
     rt: &R,
+    config: Vec<u8>,
     doors: &mut Vec<GivenLink<GatedLink<'_>>>,
     out: &mut String,
 ) -> Result<(), Fault>
     requires { length doors.old.items ≡ 24 }
 {
     let mut frames = MemSink::new(alloc, SPACE, Vec::new(alloc))?;
-    let status = serve_in_memory(alloc, rt, doors, &mut frames);
+    let status = serve_in_memory(alloc, rt, config, doors, &mut frames);
     let told = push_ended(status, out);
     let lines = push_lines(frames.taken(), out);
     drop(frames);
@@ -99,17 +122,18 @@ fn push_backs(
     Ok(())
 }
 
-/// Serves these doors without words, by an empty configuration.
+/// Serves these doors without words, by this configuration.
 fn serve_in_memory<L: Link + Send + Drop, R: Threads + Wait + Sync>(
     alloc: Global,
     rt: &R,
+    config: Vec<u8>,
     doors: &mut Vec<GivenLink<L>>,
     frames: &mut MemSink,
 ) -> Result<ServeStatus, Fault>
     requires { length doors.old.items ≡ 24 }
 {
     let mut builds = builds(alloc, 24)?;
-    let mut source = MemSource::new(Vec::new(alloc), Vec::new(alloc));
+    let mut source = MemSource::new(config, Vec::new(alloc));
     let mut clock = StepClock::new(0, 1);
     let words: [String; 0] = [];
     Ok(serve(

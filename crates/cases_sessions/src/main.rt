@@ -25,7 +25,7 @@ use actors::{tell_acted, tell_painter, tell_timing};
 use awaiting::tell_awaited;
 use beside::{tell_beside, tell_client_beside, tell_together};
 use case_data::{Fault, Words};
-use desks::tell_serve;
+use desks::{tell_serve, tell_serve_by};
 use habits::{tell_habit, tell_timer};
 use rehearsing::tell_rehearse;
 use serving::{tell_client, tell_cuts, tell_many, tell_session};
@@ -112,6 +112,7 @@ fn tell<R: Threads + Wait + Sync>(
         "ipc-worker" => tell_ipc_worker(wait, words, out),
         "client-worker" => tell_client_worker(wait, words, out),
         "serve" => tell_serve(wait, words, out),
+        "serve-by" => tell_serve_by(wait, words, out),
         "awaited" => tell_awaited(wait, words, out),
         "rehearse" => tell_rehearse(wait, words, out),
         _ => Err(Fault::BadLine),

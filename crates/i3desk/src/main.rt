@@ -34,12 +34,13 @@ It listens in the folder in which it was started:
   i3desk.clients  clients that open windows and speak lines, at most 16 at a time, as `nc -U i3desk.clients`
 Only the user who started it may connect. Each further client waits until another one has gone.
 
-The configuration must be empty. The frames are written to standard output, one after another as they are painted. A frame
+The configuration is one of i3, whose outputs, borders, gaps, modes, workspaces and saved layouts count; an empty one means one
+output of 1920x1080 pixels. The frames are written to standard output, one after another as they are painted. A frame
 shows an arrangement only once each window whose size it changes has given a buffer for it or was closed, or 200 milliseconds
 have passed. At the end come the summary of all steps and the tree.
 
-Exit status: 0 done, 2 bad words, 3 bad configuration, 6 input too large, 7 read fault, 8 write fault, 9 no memory, 11 a
-listener failed, 12 history full.";
+Exit status: 0 done, 2 bad words, 3 bad configuration, 6 input too large, 7 read fault, 8 write fault, 9 no memory, 10 too many
+outputs, 11 a listener failed, 12 history full.";
 
 fn main(rt: HostRuntime) -> ExitCode {
     let status = match words(&rt) {

@@ -64,6 +64,14 @@ impl Config {
         ensures read { IsRead (config text.now) result }
         ensures sound { IfOk result (λ config. IsSound config.plan) }
     {
-        read_config(alloc, text)
+        read_config(alloc, text.as_bytes())
+    }
+
+    /// The same of bytes; a line that is no UTF-8 is outside the grammar.
+    pub fn read_bytes(alloc: Global, bytes: &[u8]) -> Result<Config, ConfigRefusal>
+        ensures read { IsRead (config bytes.now) result }
+        ensures sound { IfOk result (λ config. IsSound config.plan) }
+    {
+        read_config(alloc, bytes)
     }
 }

@@ -139,13 +139,16 @@ fn at_end(last: u64, draft: Draft) -> Result<Draft, ConfigRefusal>
     }
 }
 
-/// The configuration that a text is.
+/// The configuration that bytes are. Where each line is UTF-8 all of them are.
 #[tactic(auto, using(crate::proofs::ReadingLemmas::config_read, crate::proofs::ReadingLemmas::config_refused, crate::proofs::SoundLemmas::config_sound))]
-pub fn read_config(alloc: Global, text: &str) -> Result<Config, ConfigRefusal>
-    ensures read { IsRead (config text.now) result }
+pub fn read_config(alloc: Global, bytes: &[u8]) -> Result<Config, ConfigRefusal>
+    ensures read { IsRead (config bytes.now) result }
     ensures sound { IfOk result (λ config. IsSound config.plan) }
 {
-    let draft = read_lines(alloc, text.as_bytes())?;
+    let draft = read_lines(alloc, bytes)?;
+    let Some(text) = text_of(bytes) else {
+        unreachable!()
+    };
     match finished(alloc, text, draft) {
         Ok(config) => Ok(config),
         Err(_) => Err(ConfigRefusal::NoMemory),

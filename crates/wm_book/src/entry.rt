@@ -1,12 +1,11 @@
 //! Steps as a recorded desk stores them.
-ghost use Rattle.std.specs.Prelude.{◌≡◌, None, IfOk};
-ghost use Rattle.wm_core.specs.Entries.{bare, bare_step};
-ghost use Rattle.wm_core.specs.Sizes.{IsFitStep};
+ghost use Rattle.std.specs.Prelude.{◌≡◌, map, IfOk};
+ghost use Rattle.wm_core.specs.Entries.{bare, bare_choice, bare_if_some, bare_step};
 ghost use Rattle.wm_core.specs.declared.step.Step.TheVariants as steps;
 
 use std::alloc::Global;
-use wm_base::{Buffer, ConId, Edges, NoMemory, Props, Str, Text};
-use wm_core::Step;
+use wm_base::{Buffer, ConId, Edges, List, NoMemory, Props, Str, Text};
+use wm_core::{Choice, Step};
 use wm_criteria::Prepared;
 use wm_json::copy_str;
 use wm_layouts::copy_output;
@@ -29,12 +28,15 @@ fn bare_text(alloc: Global, text: &Prepared) -> Result<Prepared, NoMemory>
 
 /// The step without built patterns.
 pub(crate) fn bare_copy(alloc: Global, step: &Step) -> Result<Step, NoMemory>
-    requires fit { IsFitStep step.now }
     ensures { IfOk result (λ copy. copy ≡ bare_step step.now) }
 {
     match step {
         Step::Run(text) => Ok(Step::Run(bare_text(alloc, text)?)),
-        Step::Map { props, buffer, .. } => map_copy(props, *buffer),
+        Step::Map {
+            props,
+            buffer,
+            then,
+        } => map_copy(alloc, props, *buffer, then),
         Step::Retitle { con, title } => retitle_copy(*con, title),
         Step::Urgent { con, on } => Ok(Step::Urgent { con: *con, on: *on }),
         Step::Close { con } => Ok(Step::Close { con: *con }),
@@ -48,18 +50,53 @@ pub(crate) fn bare_copy(alloc: Global, step: &Step) -> Result<Step, NoMemory>
         }),
         Step::Reserve { name, edges } => reserve_copy(name, *edges),
         Step::Tick { payload } => tick_copy(alloc, payload),
-        Step::Key { .. } => unreachable!(),
+        Step::Key { chord, choices } => key_copy(alloc, chord, choices.items()),
     }
 }
 
-fn map_copy(props: &Props, buffer: Buffer) -> Result<Step, NoMemory>
-    ensures { IfOk result (λ copy. copy ≡ steps.Map props.now buffer None) }
+fn map_copy(
+    alloc: Global,
+    props: &Props,
+    buffer: Buffer,
+    then: &Option<Prepared>,
+) -> Result<Step, NoMemory>
+    ensures { IfOk result (λ copy. copy ≡ steps.Map props.now buffer (bare_if_some then.now)) }
 {
+    let then = match then {
+        Some(text) => Some(bare_text(alloc, text)?),
+        None => None,
+    };
     Ok(Step::Map {
         props: copy_props(props)?,
         buffer,
-        then: None,
+        then,
     })
+}
+
+fn choice_copy(alloc: Global, choice: &Choice) -> Result<Choice, NoMemory>
+    ensures { IfOk result (λ copy. copy ≡ bare_choice choice.now) }
+{
+    let mode = choice.mode.clone()?;
+    let prepared = bare_text(alloc, &choice.prepared)?;
+    Ok(Choice { mode, prepared })
+}
+
+fn key_copy(alloc: Global, chord: &Text, choices: &[Choice]) -> Result<Step, NoMemory>
+    ensures { IfOk result (λ copy. copy ≡ steps.Key chord.now (map bare_choice choices.now)) }
+{
+    let chord = chord.clone()?;
+    let choices = List::of(choices_copy(alloc, choices)?);
+    Ok(Step::Key { chord, choices })
+}
+
+fn choices_copy(alloc: Global, choices: &[Choice]) -> Result<Vec<Choice>, NoMemory>
+    ensures { IfOk result (λ copy. copy.items ≡ map bare_choice choices.now) }
+{
+    let mut copy = Vec::with_capacity(alloc, choices.len())?;
+    for choice in choices {
+        copy.push(choice_copy(alloc, choice)?)?;
+    }
+    Ok(copy)
 }
 
 fn retitle_copy(con: ConId, title: &Text) -> Result<Step, NoMemory>

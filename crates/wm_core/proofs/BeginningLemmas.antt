@@ -18,12 +18,14 @@ use Rattle.wm_txn.specs.History.{arrangement, is_open, parts_after}
 use Rattle.wm_txn.specs.Schedule.{Transaction, differs, first_when, last_parts, or_here, past}
 use Rattle.wm_txn.proofs.BeginLemmas.{beginning as begun_by}
 use Rattle.wm_txn.proofs.LastingLemmas.{done_past}
-use Rattle.wm_core.specs.Act.{Act, Run, Map, Close, Retitle, Urgent, Gone, OutputAdd, OutputRemove, Reserve, Key, Tick, Ack, Give, Deadline}
+use Rattle.wm_core.specs.Act.{Act, CommandText, KeyChoice, Run, Map, Close, Retitle, Urgent, Gone, OutputAdd, OutputRemove, Reserve, Key, Tick, Ack, Give, Deadline}
 use Rattle.wm_apply.specs.Batches.{outcome}
 use Rattle.wm_apply.specs.Quiet.{is_quiet}
 use Rattle.wm_apply.proofs.QuietLemmas.{quiet_outcome}
-use Rattle.wm_core.specs.Effect.{Effect, ack_said, done_or_refused, effect, has_no_pixels, idled, limit_of, map_effect, ran, refused, run_effect, telling, window_answer}
-use Rattle.wm_core.specs.History.{Entry, Start, effect_after, first, accepted_of, tree}
+use Rattle.wm_json.specs.declared.views.EventBody.{EventBody}
+use Rattle.wm_core.specs.Keys.{bound, chosen}
+use Rattle.wm_core.specs.Effect.{Effect, ack_said, done_or_refused, effect, has_no_pixels, idled, key_effect, limit_of, map_effect, ran, refused, run_effect, telling, window_answer}
+use Rattle.wm_core.specs.History.{Entry, Start, effect_after, first, accepted_of, mode, tree}
 use Rattle.wm_layouts.specs.declared.plan.Env.{Env}
 use Rattle.wm_core.specs.Outputs.{add_answer, added, remove_answer, removed, reserve_answer, reserved}
 use Rattle.wm_core.specs.Screen.{beginning}
@@ -57,6 +59,7 @@ done_parts : (a : Answer) (new t : TreeValue) → TellsParts t (done_or_refused 
 done_parts answers.Done new t = refl
 done_parts (answers.Mapped c) new t = refl
 done_parts (answers.Replies replies) new t = refl
+done_parts answers.Unbound new t = refl
 done_parts answers.NoView new t = refl
 done_parts answers.Empty new t = refl
 done_parts (answers.BadSerial asked last) new t = refl
@@ -65,54 +68,58 @@ done_parts answers.NameTaken new t = refl
 done_parts answers.NoTarget new t = refl
 done_parts answers.BadRect new t = refl
 
-run_parts : (env : Env) (verdict : Verdict) (t : TreeValue) → TellsParts t (run_effect env verdict t)
-run_parts env (Ready batch) t = by (is_quiet batch.groups) refl
+run_parts : (env : Env) (verdict : Verdict) (event : Option EventBody) (t : TreeValue) → TellsParts t (run_effect env verdict event t)
+run_parts env (Ready batch) event t = by (is_quiet batch.groups) refl
   where
-    by : (b : Bool) → is_quiet batch.groups ≡ b → TellsParts t (cond b (idled (outcome env (Ready batch) None t)) (ran t (outcome env (Ready batch) None t)))
+    by : (b : Bool) → is_quiet batch.groups ≡ b → TellsParts t (cond b (idled event (outcome env (Ready batch) None t)) (ran event t (outcome env (Ready batch) None t)))
     by true quiet = ap arranged (sym (quiet_outcome env batch None t quiet))
     by false quiet = refl
-run_parts env (Bad at) t = refl
-run_parts env (PatternRefused pattern) t = refl
+run_parts env (Bad at) event t = refl
+run_parts env (PatternRefused pattern) event t = refl
 
-map_parts : (t : TreeValue) (who : ℕ) (props : Props) (buffer : Buffer) (limit : Option Limit) → TellsParts t (map_effect t who props buffer limit)
-map_parts t who props buffer None = refl
-map_parts t who props buffer (Some limit) = refl
+key_parts : (env : Env) (chord : List ℕ) (choice : Option KeyChoice) (t : TreeValue) → TellsParts t (key_effect env chord choice t)
+key_parts env chord None t = refl
+key_parts env chord (Some choice) t = run_parts env choice.text.verdict (Some (bound chord choice.text.text)) t
 
-effect_parts : (env : Env) (t : TreeValue) (who : ℕ) (act : Act) → TellsParts t (effect env t who act)
-effect_parts env t who (Run text) = run_parts env text.verdict t
-effect_parts env t who (Map props buffer text) = by (has_no_pixels buffer.size)
+map_parts : (env : Env) (t : TreeValue) (who : ℕ) (props : Props) (buffer : Buffer) (text : Option CommandText) (limit : Option Limit) → TellsParts t (map_effect env t who props buffer text limit)
+map_parts env t who props buffer text None = refl
+map_parts env t who props buffer text (Some limit) = refl
+
+effect_parts : (env : Env) (mode : List ℕ) (t : TreeValue) (who : ℕ) (act : Act) → TellsParts t (effect env mode t who act)
+effect_parts env mode t who (Run text) = run_parts env text.verdict None t
+effect_parts env mode t who (Map props buffer text) = by (has_no_pixels buffer.size)
   where
-    by : (b : Bool) → TellsParts t (cond b (refused answers.Empty t) (map_effect t who props buffer (limit_of t)))
+    by : (b : Bool) → TellsParts t (cond b (refused answers.Empty t) (map_effect env t who props buffer text (limit_of props t)))
     by true = refl
-    by false = map_parts t who props buffer (limit_of t)
-effect_parts env t who (Close v) = done_parts (window_answer t who v) (settled (detached v t)) t
-effect_parts env t who (Retitle v title) = done_parts (window_answer t who v) (retitled v title t) t
-effect_parts env t who (Urgent v on) = done_parts (window_answer t who v) (with_urgency v on t) t
-effect_parts env t who Gone = refl
-effect_parts env t who (OutputAdd plan) = done_parts (add_answer plan t) (added plan t) t
-effect_parts env t who (OutputRemove name) = done_parts (remove_answer name t) (removed name t) t
-effect_parts env t who (Reserve name edges) = done_parts (reserve_answer name t) (reserved name edges t) t
-effect_parts env t who (Key chord choices) = refl
-effect_parts env t who (Tick payload) = refl
-effect_parts env t who (Ack v serial) = by (is_window t who v)
+    by false = map_parts env t who props buffer text (limit_of props t)
+effect_parts env mode t who (Close v) = done_parts (window_answer t who v) (settled (detached v t)) t
+effect_parts env mode t who (Retitle v title) = done_parts (window_answer t who v) (retitled v title t) t
+effect_parts env mode t who (Urgent v on) = done_parts (window_answer t who v) (with_urgency v on t) t
+effect_parts env mode t who Gone = refl
+effect_parts env mode t who (OutputAdd plan) = done_parts (add_answer plan t) (added plan t) t
+effect_parts env mode t who (OutputRemove name) = done_parts (remove_answer name t) (removed name t) t
+effect_parts env mode t who (Reserve name edges) = done_parts (reserve_answer name t) (reserved name edges t) t
+effect_parts env mode t who (Key chord choices) = key_parts env chord (chosen mode choices) t
+effect_parts env mode t who (Tick payload) = refl
+effect_parts env mode t who (Ack v serial) = by (is_window t who v)
   where
     by : (b : Bool) → TellsParts t (cond b (telling (commits.Acked v serial) (λ judge. ack_said (judge v serial)) t) (refused answers.NoView t))
     by true = refl
     by false = refl
-effect_parts env t who (Give v buffer) = by (is_window t who v) (has_no_pixels buffer.size)
+effect_parts env mode t who (Give v buffer) = by (is_window t who v) (has_no_pixels buffer.size)
   where
     by : (b c : Bool) → TellsParts t (cond b (cond c (refused answers.Empty t) (telling (commits.Gave v buffer) (λ judge. answers.Done) t)) (refused answers.NoView t))
     by true true = refl
     by true false = refl
     by false c = refl
-effect_parts env t who (Deadline number) = refl
+effect_parts env mode t who (Deadline number) = refl
 
 pub arrangement_is : (start : Start) (history : List Entry) → arrangement (first start) (accepted_of start history) ≡ arranged (tree start history)
 arrangement_is start [] = refl
 arrangement_is start (entry ∷ history) =
     let told = (effect_after start history entry).told in
     accepted_parts (first start) told (accepted_of start history) (arrangement (first start) (accepted_of start history))
-    ∙ (ap (parts_after told) (arrangement_is start history) ∙ effect_parts start.env (tree start history) entry.who entry.act)
+    ∙ (ap (parts_after told) (arrangement_is start history) ∙ effect_parts start.env (mode start history) (tree start history) entry.who entry.act)
 
 -- ---- what is found is a beginning
 

@@ -1,6 +1,6 @@
 -- A tree that follows another one has its windows, but those that closed, and the fresh one.
-use Rattle.std.proofs.Common.{◌≡◌, ℕ, ◌+◌, ◌≤◌, Bool, true, false, cond, not, ◌&&◌, ◌||◌, List, [], ◌∷◌, ◌++◌, filter, Option, Some, None, refl, ap, ap₂, sym, subst, ◌∙◌, arith}
-use Rattle.std.proofs.lemmas.Bool.{eq-eqb, eqb-true}
+use Rattle.std.proofs.Common.{◌≡◌, ℕ, ◌+◌, ◌≤◌, Bool, true, false, cond, not, leb, ◌==◌, ◌&&◌, ◌||◌, List, [], ◌∷◌, ◌++◌, filter, Option, Some, None, refl, ap, ap₂, sym, subst, ◌∙◌, arith}
+use Rattle.std.proofs.lemmas.Bool.{eq-eqb, eqb-true, le-leb, or_right}
 use Rattle.std.specs.List.{list_any}
 use Rattle.wm_base.specs.declared.geometry.Size.{Size}
 use Rattle.wm_base.specs.declared.ids.Buffer.{Buffer}
@@ -15,12 +15,15 @@ use Rattle.wm_forest.specs.Look.{same}
 use Rattle.wm_forest.specs.Place.{new_part, rect_at, share_at}
 use Rattle.wm_tree.specs.Sound.{IsSound}
 use Rattle.wm_forest.specs.SoundRow.{times}
-use Rattle.wm_tree.specs.TreeValue.{TreeValue}
+use Rattle.wm_tree.specs.TreeValue.{TreeValue, newcomer_place}
 use Rattle.wm_forest.specs.RootId.{id}
 use Rattle.wm_tree.specs.Words.{attached}
 use Rattle.wm_forest.proofs.RecencyLemmas.{same_is}
 use Rattle.wm_txn.specs.History.{is_fresh}
-use Rattle.wm_opens.specs.Opens.{is_window_of, owned_at, window_at, windows, windows_at}
+use Rattle.wm_opens.specs.Opens.{Fills, OpensNoOther, is_placeholder_of, is_window_of, may_open, owned_at, window_at, windows, windows_at}
+use Rattle.wm_opens.proofs.OpenLemmas.{mapping_opens_one}
+use Rattle.wm_opens.proofs.PlaceholderLemmas.{never_opens, opens_kept, opens_mapped, opens_trans, window_may_not_open}
+use Rattle.wm_opens.proofs.SwallowLemmas.{filled_might_open}
 use Rattle.wm_opens.proofs.KeptLemmas.{Kept}
 use Rattle.wm_opens.proofs.MeasureLemmas.{IsFresh, IsMeasure, windows_fresh, windows_measured}
 use Rattle.wm_opens.proofs.OwnerLemmas.{owned_fewer}
@@ -76,7 +79,7 @@ others_fresh v n = record { nothing = λ p below none. nothing_else (same p.id v
 -- one that opens no window
 follows_kept : (old new : TreeValue) → Kept old new → Follows old new None
 follows_kept old new k = record {
-  next = k.next;
+  opens = opens_kept old new k;
   fresh_id = λ v h. cc;
   fewer = λ v h. (k.fewer (window_at v) (windows_measured v)).fewer (windows_fresh v old.next_id);
   owned = λ who v h. owned_fewer who v old new k;
@@ -87,10 +90,10 @@ pub follows_made : (old word new : TreeValue) → new ≡ word → Kept old word
 follows_made old word new made k = subst (λ z. Follows old z None) (sym made) (follows_kept old word k)
 
 -- and one of which no measure rises follows what the first one did
-pub follows_then : (old mid new : TreeValue) (fresh : Option (ConId × Buffer)) → Follows old mid fresh → Kept mid new → Follows old new fresh
-follows_then old mid new fresh f k = record {
-  next = omega (arith, f.next, k.next);
-  fresh_id = λ v h. ((f.fresh_id v h).0, omega (arith, (f.fresh_id v h).1, k.next));
+pub follows_then : (old mid new : TreeValue) (fresh : Option (ConId × Buffer)) → IsSound mid → IsSound new → Follows old mid fresh → Kept mid new → Follows old new fresh
+follows_then old mid new fresh sound_mid sound_new f k = record {
+  opens = opens_trans old mid new f.opens (opens_kept mid new k);
+  fresh_id = λ v h. ((f.fresh_id v h).0, never_opens mid new v sound_mid sound_new (opens_kept mid new k) (f.fresh_id v h).1);
   fewer = λ v h. omega (arith, f.fewer v h, (k.fewer (window_at v) (windows_measured v)).fewer (windows_fresh v mid.next_id));
   owned = λ who v h. omega (arith, f.owned who v h, owned_fewer who v mid new k);
   others = λ v. rise v (cond (is_fresh v fresh) 0 (one_if_some fresh)) (f.others v);
@@ -100,37 +103,59 @@ follows_then old mid new fresh f k = record {
     rise v n h = omega (arith, h, apart v mid, apart v new, (k.fewer (other_at v) (others_measured v)).fewer (others_fresh v mid.next_id))
 
 -- one that opens a window under the next id
-module _ (p : Place) (props : Props) (who : ℕ) (natural : Size) (buffer : Buffer) (t new : TreeValue) (k : Kept (attached p (news.Window props who natural) t) new) where
+module _ (props : Props) (who : ℕ) (natural : Size) (buffer : Buffer) (t : TreeValue) (sound : IsSound t) where
+  abbrev place : Place
+  place = newcomer_place t
+
   abbrev with_window : TreeValue
-  with_window = attached p (news.Window props who natural) t
+  with_window = attached (newcomer_place t) (news.Window props who natural) t
 
   abbrev window : Part
-  window = new_part (id t.next_id) (share_at p t.nodes) t.border (rect_at p) (news.Window props who natural)
+  window = new_part (id t.next_id) (share_at place t.nodes) t.border (rect_at place) (news.Window props who natural)
 
   put_windows : (v : ConId) → windows_at v with_window ≤ windows_at v t + cond (same (id t.next_id) v) 1 0
-  put_windows v = omega (arith, put_most (window_at v) p (con window end end end) t.nodes)
+  put_windows v = omega (arith, put_most (window_at v) place (con window end end end) t.nodes)
 
   put_others : (v : ConId) → others_at v with_window ≤ others_at v t + cond (same (id t.next_id) v) 0 1
-  put_others v = omega (arith, put_most (other_at v) p (con window end end end) t.nodes)
+  put_others v = omega (arith, put_most (other_at v) place (con window end end end) t.nodes)
 
   put_owned : (other : ℕ) (v : ConId) → same (id t.next_id) v ≡ false → count (owned_at other v) with_window.nodes ≤ count (owned_at other v) t.nodes
   put_owned other v apart =
       let none : owned_at other v window ≡ 0 = rw apart refl in
-      omega (arith, none, put_most (owned_at other v) p (con window end end end) t.nodes)
+      omega (arith, none, put_most (owned_at other v) place (con window end end end) t.nodes)
 
-  left_windows : (v : ConId) → windows_at v new ≤ windows_at v with_window
-  left_windows v = (k.fewer (window_at v) (windows_measured v)).fewer (windows_fresh v with_window.next_id)
+  there : (v : ConId) → IsSound with_window → same (id t.next_id) v ≡ true → is_window_of with_window v ≡ true
+  there v now h = counted_is_found v with_window now (omega (arith, mapping_opens_one who props natural t v sound, ap (λ b. cond {A = ℕ} b 1 0) h))
 
-  left_others : (v : ConId) → others_at v new ≤ others_at v with_window
-  left_others v = (k.fewer (other_at v) (others_measured v)).fewer (others_fresh v with_window.next_id)
+  pub follows_attached : IsSound with_window → Follows t with_window (Some (id t.next_id, buffer))
+  follows_attached now = record {
+    opens = opens_mapped place who props natural t;
+    fresh_id = λ v h.
+        let at : t.next_id ≡ v.0 = eqb-true t.next_id v.0 h in
+        (or_right (is_placeholder_of t v) (leb t.next_id v.0) (le-leb t.next_id v.0 (omega (arith, at))), window_may_not_open with_window v now (there v now h));
+    fewer = λ v h. omega (arith, rw h at (put_windows v));
+    owned = λ other v h. put_owned other v h;
+    others = λ v. omega (arith, apart v t, apart v with_window, put_others v);
+  }
 
-  pub follows_mapped : Follows t new (Some (id t.next_id, buffer))
-  follows_mapped = record {
-    next = omega (arith, k.next);
-    fresh_id = λ v h. let at : t.next_id ≡ v.0 = eqb-true t.next_id v.0 h in (omega arith, omega (arith, k.next));
-    fewer = λ v h. omega (arith, rw h at (put_windows v), left_windows v);
-    owned = λ other v h. omega (arith, put_owned other v h, owned_fewer other v with_window new k);
-    others = λ v. omega (arith, apart v t, apart v new, put_others v, left_others v);
+-- one that opens a window in the place of a placeholder
+module _ (c : ConId) (owner : ℕ) (buffer : Buffer) (t new : TreeValue) (k : Fills c owner t new) where
+  own_one : (v : ConId) → same c v ≡ true → windows_at v new ≡ windows_at v t + 1
+  own_one v h = k.one v ∙ ap (λ b. windows_at v t + cond b 1 0) h
+
+  others_by : (v : ConId) (b : Bool) → windows_at v new ≡ windows_at v t + cond b 1 0 → window_count new + windows_at v t ≤ window_count t + windows_at v new + cond b 0 1
+  others_by v true one = omega (arith, k.all, one)
+  others_by v false one = omega (arith, k.all, one)
+
+  pub follows_filled : OpensNoOther t new → Follows t new (Some (c, buffer))
+  follows_filled opens = record {
+    opens = opens;
+    fresh_id = λ v h.
+        let is : c ≡ v = same_is c v h in
+        (subst (λ z. may_open t z ≡ true) is (filled_might_open c owner t new k), window_may_not_open new v k.sound (counted_is_found v new k.sound (omega (arith, own_one v h))));
+    fewer = λ v h. omega (arith, k.one v ∙ ap (λ b. windows_at v t + cond b 1 0) h);
+    owned = λ other v h. omega (arith, k.owned other v ∙ ap (λ b. count (owned_at other v) t.nodes + cond (b && (owner == other)) 1 0) h);
+    others = λ v. others_by v (same c v) (k.one v);
   }
 
 -- ---- lists of ids

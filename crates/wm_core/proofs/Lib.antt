@@ -5,8 +5,10 @@ pub mod EntryLemmas
 pub mod EventLemmas
 pub mod FollowLemmas
 pub mod GoneLemmas
+pub mod KeyLemmas
 pub mod LawLemmas
 pub mod LookLemmas
+pub mod MapLemmas
 pub mod OpenLemmas
 pub mod OpeningLemmas
 pub mod OrderLemmas

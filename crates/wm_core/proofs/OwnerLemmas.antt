@@ -8,8 +8,9 @@ use Rattle.wm_base.specs.declared.ids.ConId.{ConId}
 use Rattle.wm_focus.specs.Swaps.{is_window_kind}
 use Rattle.wm_opens.proofs.OwnerLemmas.{owned_found, owned_seen}
 use Rattle.wm_opens.specs.Opens.{is_owned_kind, is_owned_of, is_owned_part, is_window_of, is_window_part, owned_at}
-use Rattle.wm_tree.proofs.ExchangeSound.{zero_has}
+use Rattle.std.proofs.lemmas.Bool.{false_from_ne_true, false≢true}
 use Rattle.wm_forest.proofs.ForestLemmas.{only_absent}
+use Rattle.wm_opens.proofs.PlaceholderLemmas.{window_may_not_open}
 use Rattle.wm_forest.proofs.RecencyLemmas.{same_is}
 use Rattle.wm_forest.specs.Counts.{count}
 use Rattle.wm_forest.specs.declared.part.ConKind.{ConKind}
@@ -161,8 +162,8 @@ owners_again old new fresh sound f before added after were put took v = took v �
   where
     not_yet : is_fresh v fresh ≡ true → owner_of old v ≡ None
     not_yet e =
-        let absent : has v old.nodes ≡ false = zero_has v old.nodes (sound.fresh v (f.fresh_id v e).0) in
-        ap part_owner (ap (λ g. kind_by con_kind (first_part g)) (only_absent v old.nodes absent))
+        let no_window : is_window_of old v ≡ false = false_from_ne_true (is_window_of old v) (λ window. false≢true (sym (window_may_not_open old v sound window) ∙ (f.fresh_id v e).0)) in
+        none_by (owner_of old v) (sym (part_known (kind_of con_kind v old.nodes)) ∙ no_window)
 
     by : (b : Bool) → is_fresh v fresh ≡ b → cond b None (cond b (option_or (owner_of new v) (value_at before v)) (value_at before v)) ≡ owner_of old v
     by true e = sym (not_yet e)

@@ -1,6 +1,6 @@
 -- A desk that stood for a history stands for it with one more entry.
-use Rattle.std.proofs.Common.{◌≡◌, ℕ, suc, ◌+◌, ◌≤◌, Bool, true, false, cond, not, ◌&&◌, ◌||◌, leb, List, [], ◌∷◌, length, Option, Some, None, is_some, refl, ap, ap₂, sym, subst, ◌++◌, ◌∙◌, arith}
-use Rattle.std.proofs.lemmas.Bool.{false_from_ne_true, le-leb, leb-true, or_right}
+use Rattle.std.proofs.Common.{◌≡◌, ℕ, suc, ◌+◌, ◌≤◌, Bool, true, false, cond, not, ◌&&◌, ◌||◌, List, [], ◌∷◌, length, Option, Some, None, is_some, refl, ap, ap₂, sym, subst, ◌++◌, ◌∙◌, arith}
+use Rattle.std.proofs.lemmas.Bool.{false_from_ne_true, false≢true, or_right}
 use Rattle.std.specs.List.{list_any}
 use Rattle.wm_base.specs.declared.ids.Buffer.{Buffer}
 use Rattle.wm_base.specs.declared.ids.ConId.{ConId}
@@ -18,7 +18,9 @@ use Rattle.wm_txn.specs.Machine.{TxnValue, configured_of}
 use Rattle.wm_txn.specs.Stands as transactions
 use Rattle.wm_txn.proofs.AcceptedLemmas.{open_was}
 use Rattle.wm_txn.proofs.StandingLemmas.{still_stands}
-use Rattle.wm_opens.specs.Opens.{is_window_of, window_at, windows_at}
+use Rattle.wm_opens.specs.Opens.{is_window_of, may_open, window_at, windows_at}
+use Rattle.wm_opens.proofs.PlaceholderLemmas.{no_other_may_open}
+use Rattle.wm_json.specs.declared.views.EventBody.{EventBody}
 use Rattle.wm_core.specs.DeskValue.{DeskValue, Follows, Stands, StandsFrom, judge_of, kill_after, kill_in, may_come}
 use Rattle.wm_core.specs.Frame.{quad_of, quads, what_of}
 use Rattle.wm_changes.specs.Changes.{changes}
@@ -65,18 +67,18 @@ module _ (d : DeskValue) (start : Start) (history : List Entry) (s : StandsFrom 
   place = entries_length start history ∙ sym s.counted
 
   -- what an entry does on the desk it does after the history
-  pub effect_there : (entry : Entry) (e : Effect) → done_by d.plan.env d.tree entry ≡ e → effect_after start history entry ≡ e
-  effect_there entry e is = ap₂ (λ env t. done_by env t entry) (sym s.env_is) (sym s.tree_is) ∙ is
+  pub effect_there : (entry : Entry) (e : Effect) → done_by d.plan.env d.mode d.tree entry ≡ e → effect_after start history entry ≡ e
+  effect_there entry e is = ap (λ m. done_by start.env m (tree start history) entry) (sym s.mode_is) ∙ (ap₂ (λ env t. done_by env d.mode t entry) (sym s.env_is) (sym s.tree_is) ∙ is)
 
   -- and is answered as it is there
-  pub answered : (entry : Entry) (e : Effect) → done_by d.plan.env d.tree entry ≡ e → e.answer (judged start history) ≡ answer start history entry
+  pub answered : (entry : Entry) (e : Effect) → done_by d.plan.env d.mode d.tree entry ≡ e → e.answer (judged start history) ≡ answer start history entry
   answered entry e is = ap (λ (e : Effect). e.answer (judged start history)) (sym (effect_there entry e is))
 
   -- a step with this effect
-  module _ (entry : Entry) (e : Effect) (txn : TxnValue) (log : Log) (kills : List (ℕ × ℕ)) (is : done_by d.plan.env d.tree entry ≡ e) (logged : IsToldOn d.events (told_by d.tree d.mode d.stopped e) log)
+  module _ (entry : Entry) (e : Effect) (txn : TxnValue) (log : Log) (kills : List (ℕ × ℕ)) (is : done_by d.plan.env d.mode d.tree entry ≡ e) (logged : IsToldOn d.events (told_by d.tree d.mode d.stopped e) log)
       (noted : (v : ConId) → may_come e.tree v ≡ true → kill_in kills v ≡ kill_after e.closes (d.steps + 1) v (kill_in d.kills v)) (came : (v : ConId) → may_come e.tree v ≡ true → may_come d.tree v ≡ true)
       (stands : transactions.Stands o (e.told ∷ h) txn) (same_open : (v : ConId) → open_after e.told v (is_window_of d.tree v) ≡ is_window_of e.tree v)
-      (new : (v : ConId) → e.tree.next_id ≤ v.0 → maps v e.told ≡ false) (next : d.tree.next_id ≤ e.tree.next_id) (sound_next : IsSound e.tree)
+      (new : (v : ConId) → may_open e.tree v ≡ true → maps v e.told ≡ false) (later : (v : ConId) → may_open e.tree v ≡ true → may_open d.tree v ≡ true) (sound_next : IsSound e.tree)
     where
       there : e ≡ effect_after start history entry
       there = sym (effect_there entry e is)
@@ -87,8 +89,8 @@ module _ (d : DeskValue) (start : Start) (history : List Entry) (s : StandsFrom 
       tree_there : e.tree ≡ tree start (entry ∷ history)
       tree_there = ap (λ (e : Effect). e.tree) there
 
-      given : (v : ConId) → e.tree.next_id ≤ v.0 → (maps v e.told || was_open o v h) ≡ false
-      given v above = ap₂ (λ a b. a || b) (new v above) (s.given v (omega arith))
+      given : (v : ConId) → may_open e.tree v ≡ true → (maps v e.told || was_open o v h) ≡ false
+      given v above = ap₂ (λ a b. a || b) (new v above) (s.given v (later v above))
 
       kill_there : (v : ConId) → may_come e.tree v ≡ true → kill_in kills v ≡ kill_after (effect_after start history entry).closes (length history + 1) v (kill_of start history v)
       kill_there v may =
@@ -123,25 +125,25 @@ module _ (d : DeskValue) (start : Start) (history : List Entry) (s : StandsFrom 
       }
 
   -- a step that tells the transactions something, and leaves the tree
-  pub stands_told : (entry : Entry) (told : commits.Entry) (said : Judge → Answer) (txn : TxnValue) → done_by d.plan.env d.tree entry ≡ telling told said d.tree
+  pub stands_told : (entry : Entry) (told : commits.Entry) (said : Judge → Answer) (txn : TxnValue) → done_by d.plan.env d.mode d.tree entry ≡ telling told said d.tree
       → ((v : ConId) (b : Bool) → open_after told v b ≡ b) → ((v : ConId) → maps v told ≡ false) → transactions.Stands o (told ∷ h) txn
       → StandsFrom start (record { plan = d.plan; steps = d.steps + 1; tree = d.tree; txn = txn; mode = d.mode; stopped = d.stopped; events = d.events; kills = d.kills }) (entry ∷ history)
   stands_told entry told said txn is same_open new stands =
       subst (λ b. StandsFrom start (record { plan = d.plan; steps = d.steps + 1; tree = d.tree; txn = txn; mode = d.mode; stopped = b; events = d.events; kills = d.kills }) (entry ∷ history)) (or_false d.stopped)
-      (stands_next entry (telling told said d.tree) txn d.events d.kills is (told_nothing d.events (told_by d.tree d.mode d.stopped (telling told said d.tree)) (nothing_by d.tree d.mode d.stopped)) (λ v may. refl) (λ v may. may) stands (λ v. same_open v (is_window_of d.tree v)) (λ v above. new v) (omega arith)
+      (stands_next entry (telling told said d.tree) txn d.events d.kills is (told_nothing d.events (told_by d.tree d.mode d.stopped (telling told said d.tree)) (nothing_by d.tree d.mode d.stopped)) (λ v may. refl) (λ v may. may) stands (λ v. same_open v (is_window_of d.tree v)) (λ v above. new v) (λ v may. may)
       (subst IsSound (sym s.tree_is) (last_sound start history s.in_step)))
 
   -- a step that is refused is counted
-  pub stands_counted : (entry : Entry) (said : Answer) → done_by d.plan.env d.tree entry ≡ refused said d.tree
+  pub stands_counted : (entry : Entry) (said : Answer) → done_by d.plan.env d.mode d.tree entry ≡ refused said d.tree
       → StandsFrom start (record { plan = d.plan; steps = d.steps + 1; tree = d.tree; txn = d.txn; mode = d.mode; stopped = d.stopped; events = d.events; kills = d.kills }) (entry ∷ history)
   stands_counted entry said is = stands_told entry commits.Still (λ judge. said) d.txn is (λ v b. refl) (λ v. refl) (still_stands o h d.txn s.commits)
 
   -- a step that leaves the tree, and tells the transactions nothing, is counted
-  pub stands_passed : (entry : Entry) (said : Answer) (set : Option (List ℕ)) (stops : Bool) (tick : Option (List ℕ)) (log : Log) → done_by d.plan.env d.tree entry ≡ passing said d.tree set stops tick
-      → IsToldOn d.events (later_events d.mode d.stopped set stops tick) log
+  pub stands_passed : (entry : Entry) (said : Answer) (set : Option (List ℕ)) (stops : Bool) (event : Option EventBody) (log : Log) → done_by d.plan.env d.mode d.tree entry ≡ passing said d.tree set stops event
+      → IsToldOn d.events (later_events d.mode d.stopped set stops event) log
       → StandsFrom start (record { plan = d.plan; steps = d.steps + 1; tree = d.tree; txn = d.txn; mode = mode_after set d.mode; stopped = d.stopped || stops; events = log; kills = d.kills }) (entry ∷ history)
-  stands_passed entry said set stops tick log is logged =
-      stands_next entry (passing said d.tree set stops tick) d.txn log d.kills is (subst (λ bodies. IsToldOn d.events bodies log) (sym (later_alone d.tree d.mode d.stopped set stops tick)) logged) (λ v may. refl) (λ v may. may) (still_stands o h d.txn s.commits) (λ v. refl) (λ v above. refl) (omega arith)
+  stands_passed entry said set stops event log is logged =
+      stands_next entry (passing said d.tree set stops event) d.txn log d.kills is (subst (λ bodies. IsToldOn d.events bodies log) (sym (later_alone d.tree d.mode d.stopped set stops event)) logged) (λ v may. refl) (λ v may. may) (still_stands o h d.txn s.commits) (λ v. refl) (λ v above. refl) (λ v may. may)
       (subst IsSound (sym s.tree_is) (last_sound start history s.in_step))
 
   -- ---- a step that leaves a tree
@@ -156,47 +158,47 @@ module _ (d : DeskValue) (start : Start) (history : List Entry) (s : StandsFrom 
           ∙ (opens d.tree t fresh sound sound_new f v ∙ counted_is_found v t sound_new (content_held (λ w. 1 ≤ windows_at w t) v (arranged t) (contents_held t) there));
     }
 
-    not_fresh : (v : ConId) → t.next_id ≤ v.0 → (b : Bool) → is_fresh v fresh ≡ b → b ≡ false
-    not_fresh v above true e = absurd (omega (arith, (f.fresh_id v e).1))
+    not_fresh : (v : ConId) → may_open t v ≡ true → (b : Bool) → is_fresh v fresh ≡ b → b ≡ false
+    not_fresh v above true e = absurd (false≢true (sym (f.fresh_id v e).1 ∙ above))
     not_fresh v above false e = refl
 
-    -- an id of the old tree that is still to be given is none of its windows
-    not_yet : (v : ConId) → d.tree.next_id ≤ v.0 → is_window_of d.tree v ≡ false
+    -- an id that may open before may open after
+    might : (v : ConId) → may_open t v ≡ true → may_open d.tree v ≡ true
+    might v late = no_other_may_open d.tree t v sound sound_new f.opens late
+
+    -- an id of the old tree that may still open is none of its windows
+    not_yet : (v : ConId) → may_open d.tree v ≡ true → is_window_of d.tree v ≡ false
     not_yet v late = sym (s.open_is v) ∙ false_from_ne_true (is_open o v h) (λ opened. let bad : false ≡ true = sym (s.given v late) ∙ open_was o v h opened in cc)
 
-    -- a window of the new tree was one, or its id was still to be given
-    came : (v : ConId) (b c : Bool) → is_window_of t v ≡ b → leb t.next_id v.0 ≡ c → (b || c) ≡ true → may_come d.tree v ≡ true
+    -- a window of the new tree was one, or might open
+    came : (v : ConId) (b c : Bool) → is_window_of t v ≡ b → may_open t v ≡ c → (b || c) ≡ true → may_come d.tree v ≡ true
     came v true c there late may = by (is_fresh v fresh) refl (comes d.tree t fresh sound sound_new f v there)
       where
         by : (b : Bool) → is_fresh v fresh ≡ b → (b || is_window_of d.tree v) ≡ true → may_come d.tree v ≡ true
-        by true e was = or_right (is_window_of d.tree v) (leb d.tree.next_id v.0) (le-leb d.tree.next_id v.0 (f.fresh_id v e).0)
-        by false e was = ap (λ b. b || leb d.tree.next_id v.0) was
-    came v false true there late may =
-        let above = leb-true t.next_id v.0 late in
-        or_right (is_window_of d.tree v) (leb d.tree.next_id v.0) (le-leb d.tree.next_id v.0 (omega (arith, f.next)))
+        by true e was = or_right (is_window_of d.tree v) (may_open d.tree v) (f.fresh_id v e).0
+        by false e was = ap (λ b. b || may_open d.tree v) was
+    came v false true there late may = or_right (is_window_of d.tree v) (may_open d.tree v) (might v late)
     came v false false there late may = cc
 
     -- and is none of those that went
     pub not_gone : (v : ConId) → may_come t v ≡ true → list_any (same v) (closed d.tree t fresh) ≡ false
-    not_gone v may = closed_are d.tree t fresh sound sound_new f v ∙ by (is_window_of t v) (leb t.next_id v.0) refl refl may
+    not_gone v may = closed_are d.tree t fresh sound sound_new f v ∙ by (is_window_of t v) (may_open t v) refl refl may
       where
         none : (a : Bool) → (a && false) ≡ false
         none true = refl
         none false = refl
 
-        by : (b c : Bool) → is_window_of t v ≡ b → leb t.next_id v.0 ≡ c → (b || c) ≡ true → ((is_fresh v fresh || is_window_of d.tree v) && not b) ≡ false
+        by : (b c : Bool) → is_window_of t v ≡ b → may_open t v ≡ c → (b || c) ≡ true → ((is_fresh v fresh || is_window_of d.tree v) && not b) ≡ false
         by true c there late may = none (is_fresh v fresh || is_window_of d.tree v)
-        by false true there late may =
-            let above = leb-true t.next_id v.0 late in
-            rw (not_fresh v above (is_fresh v fresh) refl, not_yet v (omega (arith, f.next))) refl
+        by false true there late may = rw (not_fresh v late (is_fresh v fresh) refl, not_yet v (might v late)) refl
         by false false there late may = cc
 
-    pub stands_left : (entry : Entry) (said : Answer) (txn : TxnValue) (set : Option (List ℕ)) (stops : Bool) (ids : List ConId) (log : Log) (kills : List (ℕ × ℕ)) → done_by d.plan.env d.tree entry ≡ changing said d.tree t fresh set stops ids
-        → IsToldOn d.events (changes d.tree (arranged d.tree) t (arranged t) ++ later_events d.mode d.stopped set stops None) log
+    pub stands_left : (entry : Entry) (said : Answer) (txn : TxnValue) (set : Option (List ℕ)) (stops : Bool) (ids : List ConId) (event : Option EventBody) (log : Log) (kills : List (ℕ × ℕ)) → done_by d.plan.env d.mode d.tree entry ≡ changing said d.tree t fresh set stops ids event
+        → IsToldOn d.events (changes d.tree (arranged d.tree) t (arranged t) ++ later_events d.mode d.stopped set stops event) log
         → ((v : ConId) → may_come t v ≡ true → kill_in kills v ≡ kill_after ids (d.steps + 1) v (kill_in d.kills v)) → transactions.Stands o (rearranged d.tree t fresh ∷ h) txn
         → StandsFrom start (record { plan = d.plan; steps = d.steps + 1; tree = t; txn = txn; mode = mode_after set d.mode; stopped = d.stopped || stops; events = log; kills = kills }) (entry ∷ history)
-    stands_left entry said txn set stops ids log kills is logged noted stands =
-        stands_next entry (changing said d.tree t fresh set stops ids) txn log kills is logged noted (λ v may. came v (is_window_of t v) (leb t.next_id v.0) refl refl may) stands (opens d.tree t fresh sound sound_new f) (λ v above. not_fresh v above (is_fresh v fresh) refl) f.next sound_new
+    stands_left entry said txn set stops ids event log kills is logged noted stands =
+        stands_next entry (changing said d.tree t fresh set stops ids event) txn log kills is logged noted (λ v may. came v (is_window_of t v) (may_open t v) refl refl may) stands (opens d.tree t fresh sound sound_new f) (λ v above. not_fresh v above (is_fresh v fresh) refl) might sound_new
 
   -- ---- what is asked of windows
 
@@ -206,7 +208,7 @@ module _ (d : DeskValue) (start : Start) (history : List Entry) (s : StandsFrom 
       made
       ∙ (ap (wants (λ v. configured_of (find v d.txn.windows)) (kill_in d.kills) serial kill) listed
       ∙ (wants_same (λ v. configured_of (find v d.txn.windows)) (λ v. configured o v (accepted o h)) (kill_in d.kills) (kill_of start history) serial kill (owned_in_order who d.tree)
-      (configured_is o (accepted o h) d.txn s.commits) (λ v there. s.kills_are v (ap (λ b. b || leb d.tree.next_id v.0) (owned_window who d.tree v there)))
+      (configured_is o (accepted o h) d.txn s.commits) (λ v there. s.kills_are v (ap (λ b. b || may_open d.tree v) (owned_window who d.tree v there)))
       ∙ ap (λ z. wants (λ v. configured o v (accepted o h)) (kill_of start history) serial kill (owned_in_order who z)) s.tree_is))
 
 -- ---- the opening
@@ -266,5 +268,5 @@ quads_same f g [] h = refl
 quads_same f g (p ∷ parts) h = ap₂ (λ x y. quad_of p (what_of p.part x) ++ y) (h p.con) (quads_same f g parts h)
 
 -- what an effect is answered, where it is what the entry does
-pub there_by : (d : DeskValue) (entry : Entry) (e : Effect) → done_by d.plan.env d.tree entry ≡ e → e.answer (judge_of d.txn) ≡ (done_by d.plan.env d.tree entry).answer (judge_of d.txn)
+pub there_by : (d : DeskValue) (entry : Entry) (e : Effect) → done_by d.plan.env d.mode d.tree entry ≡ e → e.answer (judge_of d.txn) ≡ (done_by d.plan.env d.mode d.tree entry).answer (judge_of d.txn)
 there_by d entry e is = ap (λ (e : Effect). e.answer (judge_of d.txn)) (sym is)

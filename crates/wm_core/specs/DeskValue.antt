@@ -1,5 +1,5 @@
 -- The value of a desk, and the histories that it stands for.
-use Rattle.std.specs.Prelude.{◌≡◌, ◌<◌, ◌≤◌, ℕ, ◌+◌, nat_le, true, false, ◌||◌, if◌then◌else◌, Bool, List, [], ◌∷◌, length, Option, None, Some, refl}
+use Rattle.std.specs.Prelude.{◌≡◌, ◌≤◌, ℕ, ◌+◌, true, false, ◌||◌, if◌then◌else◌, Bool, List, [], ◌∷◌, length, Option, None, Some, refl}
 use Rattle.std.specs.Coded.{Coded, code_by, coded×, coded_ℕ, coded_bool, coded_list}
 use Rattle.wm_forest.specs.Counts.{count}
 use Rattle.wm_tree.specs.Sound.{IsSound}
@@ -12,7 +12,7 @@ use Rattle.wm_txn.specs.History.{is_fresh, is_open, was_open}
 use Rattle.wm_txn.specs.Machine.{TxnValue, judge_ack, txn_code}
 use Rattle.wm_txn.specs.Stands as transactions
 use Rattle.wm_txn.specs.Windows.{find}
-use Rattle.wm_opens.specs.Opens.{is_window_of, owned_at, windows_at}
+use Rattle.wm_opens.specs.Opens.{OpensNoOther, is_window_of, may_open, owned_at, windows_at}
 use Rattle.wm_core.specs.ByWindow.{put_at, value_at}
 use Rattle.wm_core.specs.Windows.{owner_of, window_count}
 use Rattle.wm_kept.specs.Log.{Log, kept_of, log_code}
@@ -53,9 +53,9 @@ AreOwners owners t = (v : ConId) → value_at owners v ≡ owner_of t v
 abbrev pub in_mode : Option (List ℕ) → Log → DeskValue → DeskValue
 in_mode set log d = record d { mode = mode_after set d.mode; events = log }
 
--- v is a window of the tree, or its id is still to be given
+-- v is a window of the tree, or may become one
 abbrev pub may_come : TreeValue → ConId → Bool
-may_come t v = is_window_of t v || nat_le t.next_id v.0
+may_come t v = is_window_of t v || may_open t v
 
 -- what the transactions answer to an acknowledgement
 abbrev pub judge_of : TxnValue → Judge
@@ -84,9 +84,9 @@ pub record StandsFrom (start : Start) (d : DeskValue) (history : List Entry) : T
   -- of a window that is gone the number may be forgotten
   pub kills_are : (v : ConId) → may_come d.tree v ≡ true → kill_in d.kills v ≡ kill_of start history v
   pub commits : transactions.Stands (first start) (entries start history) d.txn
-  -- the windows of the tree are those that are open, and none had an id that is still to be given
+  -- the windows of the tree are those that are open, and none had an id that may still open
   pub open_is : (v : ConId) → is_open (first start) v (entries start history) ≡ is_window_of d.tree v
-  pub given : (v : ConId) → d.tree.next_id ≤ v.0 → was_open (first start) v (entries start history) ≡ false
+  pub given : (v : ConId) → may_open d.tree v ≡ true → was_open (first start) v (entries start history) ≡ false
 
 -- the desk stands for the history from the opening of its plan
 abbrev pub Stands : DeskValue → List Entry → Type 0
@@ -96,11 +96,12 @@ abbrev pub one_if_some : Option (ConId × Buffer) → ℕ
 one_if_some None = 0
 one_if_some (Some window) = 1
 
--- The new tree has no window that the old one had not but the fresh one, whose id was still to be given: of each id it has
--- no more windows, nor more of any one caller, and of all other ids together no more, but for the fresh one.
+-- The new tree has no window that the old one had not but the fresh one, which might open before and no longer: of each id it
+-- has no more windows, nor more of any one caller, and of all other ids together no more, but for the fresh one. No other id
+-- may open.
 pub record Follows (old new : TreeValue) (fresh : Option (ConId × Buffer)) : Type 0 where
-  pub next : old.next_id ≤ new.next_id
-  pub fresh_id : (v : ConId) → is_fresh v fresh ≡ true → (old.next_id ≤ v.0) × (v.0 < new.next_id)
+  pub opens : OpensNoOther old new
+  pub fresh_id : (v : ConId) → is_fresh v fresh ≡ true → (may_open old v ≡ true) × (may_open new v ≡ false)
   pub fewer : (v : ConId) → is_fresh v fresh ≡ false → windows_at v new ≤ windows_at v old
   pub owned : (who : ℕ) (v : ConId) → is_fresh v fresh ≡ false → count (owned_at who v) new.nodes ≤ count (owned_at who v) old.nodes
   pub others : (v : ConId) → window_count new + windows_at v old ≤ window_count old + windows_at v new + (if is_fresh v fresh then 0 else one_if_some fresh)

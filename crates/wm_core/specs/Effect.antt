@@ -1,22 +1,26 @@
 -- What each step does to a desk: a case for each step.
-use Rattle.std.specs.Prelude.{ℕ, ◌==◌, ◌||◌, not, Bool, false, if◌then◌else◌, List, [], ◌∷◌, ◌++◌, filter, map, Option, None, Some, Result, Ok, Err}
+use Rattle.std.specs.Prelude.{ℕ, ◌==◌, ◌||◌, not, Bool, false, if◌then◌else◌, List, [], ◌∷◌, ◌++◌, filter, map, Option, None, Some, unwrap_or, Result, Ok, Err}
 use Rattle.wm_arrange.specs.Arranged.{arranged}
 use Rattle.wm_base.specs.declared.errors.Limit.{Limit}
 use Rattle.wm_base.specs.declared.geometry.Size.{Size}
 use Rattle.wm_base.specs.declared.ids.Buffer.{Buffer}
 use Rattle.wm_base.specs.declared.ids.ConId.{ConId}
 use Rattle.wm_base.specs.declared.properties.Props.{Props}
+use Rattle.wm_forest.specs.declared.kind.KindEdit.TheVariants as edits
 use Rattle.wm_forest.specs.declared.place.NewCon.TheVariants as new
 use Rattle.wm_forest.specs.Place.{passed_limit}
 use Rattle.wm_floats.specs.Fullscreen.{fills_alone}
 use Rattle.wm_tree.specs.TreeValue.{TreeValue, newcomer_place, workspace_of}
 use Rattle.wm_forest.specs.RootId.{id}
-use Rattle.wm_tree.specs.Words.{attached, detached, settled, with_raised}
+use Rattle.wm_tree.specs.Words.{attached, detached, edited, settled, with_raised}
 use Rattle.wm_core.specs.declared.step.Answer.{Answer}
-use Rattle.wm_core.specs.declared.step.Answer.TheVariants.{Done, Mapped, Replies, NoView, Empty, BadSerial, Full}
+use Rattle.wm_core.specs.declared.step.Answer.TheVariants.{Done, Mapped, Replies, Unbound, NoView, Empty, BadSerial, Full}
+use Rattle.wm_json.specs.declared.views.EventBody.{EventBody}
+use Rattle.wm_json.specs.declared.views.EventBody.TheVariants as body
 use Rattle.wm_json.specs.declared.replies.Reply.{Reply}
 use Rattle.wm_json.specs.declared.replies.Reply.TheVariants as reply
-use Rattle.wm_core.specs.Act.{Act, Run, Map, Close, Retitle, Urgent, Gone, OutputAdd, OutputRemove, Reserve, Key, Tick, Ack, Give, Deadline}
+use Rattle.wm_core.specs.Act.{Act, CommandText, KeyChoice, Run, Map, Close, Retitle, Urgent, Gone, OutputAdd, OutputRemove, Reserve, Key, Tick, Ack, Give, Deadline}
+use Rattle.wm_core.specs.Keys.{bound, chosen}
 use Rattle.wm_core.specs.Outputs.{add_answer, added, remove_answer, removed, reserve_answer, reserved}
 use Rattle.wm_core.specs.Windows.{is_window, without_owned, retitled, with_urgency}
 use Rattle.wm_apply.specs.declared.applied.CommandReply.{CommandReply}
@@ -24,6 +28,7 @@ use Rattle.wm_apply.specs.declared.applied.CommandReply.TheVariants as applied
 use Rattle.wm_apply.specs.Batches.{Outcome, outcome}
 use Rattle.wm_apply.specs.Quiet.{is_quiet}
 use Rattle.wm_opens.specs.Opens.{is_window_of}
+use Rattle.wm_swallow.specs.Swallowing.{swallower}
 use Rattle.wm_txn.specs.History as commits
 use Rattle.wm_txn.specs.declared.answers.AckRefusal.{AckRefusal}
 use Rattle.wm_txn.specs.declared.answers.AckRefusal.TheVariants as ack
@@ -48,8 +53,8 @@ pub record Effect : Type 0 where
   pub stops : Bool
   -- the windows that it asks to close
   pub closes : List ConId
-  -- the tick that it tells, if any
-  pub tick : Option (List ℕ)
+  -- the event that it tells beside the trees, if any: of a tick, or of a key that was bound
+  pub event : Option EventBody
 
 -- the mode after a step that set this one, if any
 abbrev pub mode_after : Option (List ℕ) → List ℕ → List ℕ
@@ -60,13 +65,13 @@ mode_after (Some mode) before = mode
 
 -- a step that tells the transactions something, and leaves the tree
 abbrev pub telling : commits.Entry → (Judge → Answer) → TreeValue → Effect
-telling told answer t = record { answer = answer; tree = t; told = told; mode = None; stops = false; closes = []; tick = None }
+telling told answer t = record { answer = answer; tree = t; told = told; mode = None; stops = false; closes = []; event = None }
 
 -- a step that leaves the tree, and tells the transactions nothing: it sets this mode, if any, stops the desk or not, and
--- tells this tick, if any
-abbrev pub passing : Answer → TreeValue → Option (List ℕ) → Bool → Option (List ℕ) → Effect
-passing answer t set stops tick =
-    record { answer = λ judge. answer; tree = t; told = commits.Still; mode = set; stops = stops; closes = []; tick = tick }
+-- tells this event, if any
+abbrev pub passing : Answer → TreeValue → Option (List ℕ) → Bool → Option EventBody → Effect
+passing answer t set stops event =
+    record { answer = λ judge. answer; tree = t; told = commits.Still; mode = set; stops = stops; closes = []; event = event }
 
 -- a refused step changes nothing, and tells nothing
 abbrev pub refused : Answer → TreeValue → Effect
@@ -85,14 +90,14 @@ abbrev pub rearranged : TreeValue → TreeValue → Option (ConId × Buffer) →
 rearranged old new fresh = commits.Arranged (arranged new) fresh (closed old new fresh)
 
 -- a step that leaves a new tree, opens this window with its buffer, if any, sets this mode, if any, stops the desk or not,
--- and asks these windows to close
-abbrev pub changing : Answer → TreeValue → TreeValue → Option (ConId × Buffer) → Option (List ℕ) → Bool → List ConId → Effect
-changing answer old new fresh set stops closes =
-    record { answer = λ judge. answer; tree = new; told = rearranged old new fresh; mode = set; stops = stops; closes = closes; tick = None }
+-- asks these windows to close, and tells this event, if any
+abbrev pub changing : Answer → TreeValue → TreeValue → Option (ConId × Buffer) → Option (List ℕ) → Bool → List ConId → Option EventBody → Effect
+changing answer old new fresh set stops closes event =
+    record { answer = λ judge. answer; tree = new; told = rearranged old new fresh; mode = set; stops = stops; closes = closes; event = event }
 
 -- a step that leaves a new tree, and opens this window with its buffer, if any
 abbrev pub leaving : Answer → TreeValue → TreeValue → Option (ConId × Buffer) → Effect
-leaving answer old new fresh = changing answer old new fresh None false []
+leaving answer old new fresh = changing answer old new fresh None false [] None
 
 -- a step that is done leaves the new tree; with another answer it is refused
 abbrev pub done_or_refused : Answer → TreeValue → TreeValue → Effect
@@ -105,19 +110,26 @@ abbrev pub reply_to : CommandReply → Reply
 reply_to applied.Done = reply.Ok
 reply_to (applied.Error text) = reply.Error text
 
--- the commands of a text were run
-abbrev pub ran : TreeValue → Outcome → Effect
-ran old o = changing (Replies (map reply_to o.replies)) old o.tree None o.mode o.exit o.kills
+-- the commands of a text were run, and this event is told, if any
+abbrev pub ran : Option EventBody → TreeValue → Outcome → Effect
+ran event old o = changing (Replies (map reply_to o.replies)) old o.tree None o.mode o.exit o.kills event
 
 -- the commands of a text that leaves the tree alone were run: there is nothing to arrange
-abbrev pub idled : Outcome → Effect
-idled o = passing (Replies (map reply_to o.replies)) o.tree o.mode o.exit None
+abbrev pub idled : Option EventBody → Outcome → Effect
+idled event o = passing (Replies (map reply_to o.replies)) o.tree o.mode o.exit event
 
--- a text with this verdict: its commands run, or a reply says why they do not
-abbrev pub run_effect : Env → Verdict → TreeValue → Effect
-run_effect env (Ready batch) t = if is_quiet batch.groups then idled (outcome env (Ready batch) None t) else ran t (outcome env (Ready batch) None t)
-run_effect env (Bad at) t = refused (Replies (reply.Parse at ∷ [])) t
-run_effect env (PatternRefused pattern) t = refused (Replies (reply.Pattern pattern ∷ [])) t
+-- a text with this verdict: its commands run, or a reply says why they do not; this event is told, if any
+abbrev pub run_effect : Env → Verdict → Option EventBody → TreeValue → Effect
+run_effect env (Ready batch) event t = if is_quiet batch.groups then idled event (outcome env (Ready batch) None t) else ran event t (outcome env (Ready batch) None t)
+run_effect env (Bad at) event t = passing (Replies (reply.Parse at ∷ [])) t None false event
+run_effect env (PatternRefused pattern) event t = passing (Replies (reply.Pattern pattern ∷ [])) t None false event
+
+-- ---- keys
+
+-- the text of the key's choice runs, and that it was bound is told; without a choice nothing comes
+abbrev pub key_effect : Env → List ℕ → Option KeyChoice → TreeValue → Effect
+key_effect env chord None t = refused Unbound t
+key_effect env chord (Some choice) t = run_effect env choice.text.verdict (Some (bound chord choice.text.text)) t
 
 -- ---- windows
 
@@ -128,17 +140,39 @@ has_no_pixels size = size.w == 0 || size.h == 0
 abbrev pub raised_unless_full : ConId → TreeValue → TreeValue
 raised_unless_full c t = if fills_alone c (workspace_of t c) t then with_raised c t else t
 
--- the tree with a new window of the caller under the next id
+-- the id of a window that is mapped: that of the placeholder that swallows it, else the next one
+abbrev pub mapped_id : Props → TreeValue → ConId
+mapped_id props t = unwrap_or (swallower props t) (id t.next_id)
+
+-- the window of the caller is in its place: that of the placeholder, or that of a newcomer
+abbrev pub come_to : Option ConId → TreeValue → ℕ → Props → Size → TreeValue
+come_to None t who props natural = attached (newcomer_place t) (new.Window props who natural) t
+come_to (Some c) t who props natural = edited c (edits.Fill props who natural) t
+
+-- the tree with a window of the caller that is mapped: in its place, and raised, unless its workspace has a fullscreen one
 abbrev pub mapped : TreeValue → ℕ → Props → Size → TreeValue
-mapped t who props natural = settled (raised_unless_full (id t.next_id) (attached (newcomer_place t) (new.Window props who natural) t))
+mapped t who props natural = settled (raised_unless_full (mapped_id props t) (come_to (swallower props t) t who props natural))
 
--- the first limit that a new window would pass
-abbrev pub limit_of : TreeValue → Option Limit
-limit_of t = passed_limit (newcomer_place t) t.nodes t.next_id
+-- the first limit that a new window would pass; one that is swallowed passes none
+abbrev pub limit_at : Option ConId → TreeValue → Option Limit
+limit_at None t = passed_limit (newcomer_place t) t.nodes t.next_id
+limit_at (Some c) t = None
 
-abbrev pub map_effect : TreeValue → ℕ → Props → Buffer → Option Limit → Effect
-map_effect t who props buffer (Some limit) = refused (Full limit) t
-map_effect t who props buffer None = leaving (Mapped (id t.next_id)) t (mapped t who props buffer.size) (Some (id t.next_id, buffer))
+abbrev pub limit_of : Props → TreeValue → Option Limit
+limit_of props t = limit_at (swallower props t) t
+
+-- what the text that a map brings does to a tree, where it reads, with the window as its subject
+abbrev pub then_outcome : Env → Option CommandText → ConId → TreeValue → Outcome
+then_outcome env None c t = record { tree = t; replies = []; mode = None; exit = false; kills = [] }
+then_outcome env (Some text) c t = outcome env text.verdict (Some c) t
+
+-- a window was opened with its buffer, and this was done then, of which no replies are told
+abbrev pub opened : TreeValue → ConId × Buffer → Outcome → Effect
+opened old window o = changing (Mapped window.0) old o.tree (Some window) o.mode o.exit o.kills None
+
+abbrev pub map_effect : Env → TreeValue → ℕ → Props → Buffer → Option CommandText → Option Limit → Effect
+map_effect env t who props buffer text (Some limit) = refused (Full limit) t
+map_effect env t who props buffer text None = opened t (mapped_id props t, buffer) (then_outcome env text (mapped_id props t) (mapped t who props buffer.size))
 
 -- what a step on a window of the caller is answered
 abbrev pub window_answer : TreeValue → ℕ → ConId → Answer
@@ -151,21 +185,20 @@ ack_said (Err (ack.BadSerial asked last)) = BadSerial asked last
 
 -- ---- each step
 
--- what a step of this caller does, where commands find this beside the tree. Keys are not taken yet, nor is a text that a
--- map brings
-abbrev pub effect : Env → TreeValue → ℕ → Act → Effect
-effect env t who (Run text) = run_effect env text.verdict t
-effect env t who (Map props buffer text) = if has_no_pixels buffer.size then refused Empty t else map_effect t who props buffer (limit_of t)
-effect env t who (Close v) = done_or_refused (window_answer t who v) t (settled (detached v t))
-effect env t who (Retitle v title) = done_or_refused (window_answer t who v) t (retitled v title t)
-effect env t who (Urgent v on) = done_or_refused (window_answer t who v) t (with_urgency v on t)
-effect env t who Gone = leaving Done t (without_owned who t) None
-effect env t who (OutputAdd plan) = done_or_refused (add_answer plan t) t (added plan t)
-effect env t who (OutputRemove name) = done_or_refused (remove_answer name t) t (removed name t)
-effect env t who (Reserve name edges) = done_or_refused (reserve_answer name t) t (reserved name edges t)
-effect env t who (Key chord choices) = refused Done t
-effect env t who (Tick payload) = passing Done t None false (Some payload)
-effect env t who (Ack v serial) = if is_window t who v then telling (commits.Acked v serial) (λ judge. ack_said (judge v serial)) t else refused NoView t
-effect env t who (Give v buffer) =
+-- what a step of this caller does in this mode, where commands find this beside the tree
+abbrev pub effect : Env → List ℕ → TreeValue → ℕ → Act → Effect
+effect env mode t who (Run text) = run_effect env text.verdict None t
+effect env mode t who (Map props buffer text) = if has_no_pixels buffer.size then refused Empty t else map_effect env t who props buffer text (limit_of props t)
+effect env mode t who (Close v) = done_or_refused (window_answer t who v) t (settled (detached v t))
+effect env mode t who (Retitle v title) = done_or_refused (window_answer t who v) t (retitled v title t)
+effect env mode t who (Urgent v on) = done_or_refused (window_answer t who v) t (with_urgency v on t)
+effect env mode t who Gone = leaving Done t (without_owned who t) None
+effect env mode t who (OutputAdd plan) = done_or_refused (add_answer plan t) t (added plan t)
+effect env mode t who (OutputRemove name) = done_or_refused (remove_answer name t) t (removed name t)
+effect env mode t who (Reserve name edges) = done_or_refused (reserve_answer name t) t (reserved name edges t)
+effect env mode t who (Key chord choices) = key_effect env chord (chosen mode choices) t
+effect env mode t who (Tick payload) = passing Done t None false (Some (body.Tick false payload))
+effect env mode t who (Ack v serial) = if is_window t who v then telling (commits.Acked v serial) (λ judge. ack_said (judge v serial)) t else refused NoView t
+effect env mode t who (Give v buffer) =
     if is_window t who v then (if has_no_pixels buffer.size then refused Empty t else telling (commits.Gave v buffer) (λ judge. Done) t) else refused NoView t
-effect env t who (Deadline number) = telling (commits.Deadline number) (λ judge. Done) t
+effect env mode t who (Deadline number) = telling (commits.Deadline number) (λ judge. Done) t

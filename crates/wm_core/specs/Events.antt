@@ -1,5 +1,5 @@
 -- The events of a history: what each step tells of the trees before and after it, and beside.
-use Rattle.std.specs.Prelude.{◌≡◌, ℕ, Bool, false, not, ◌&&◌, if◌then◌else◌, List, [], ◌∷◌, ◌++◌, Option, None, Some}
+use Rattle.std.specs.Prelude.{◌≡◌, ℕ, Bool, not, ◌&&◌, if◌then◌else◌, List, [], ◌∷◌, ◌++◌, Option, None, Some}
 use Rattle.std.specs.Str.{bytes_eq}
 use Rattle.wm_arrange.specs.Arranged.{arranged}
 use Rattle.wm_changes.specs.Changes.{changes}
@@ -14,22 +14,23 @@ use Rattle.wm_core.specs.History.{Entry, Start, effect_after, mode, stopped, tre
 abbrev pub mode_events : List ℕ → List ℕ → List EventBody
 mode_events before after = if bytes_eq after before then [] else body.Mode after ∷ []
 
-abbrev pub tick_events : Option (List ℕ) → List EventBody
-tick_events None = []
-tick_events (Some payload) = body.Tick false payload ∷ []
+-- a tick came, or a key was bound
+abbrev pub own_events : Option EventBody → List EventBody
+own_events None = []
+own_events (Some event) = event ∷ []
 
 -- the desk became stopped
 abbrev pub stop_events : Bool → Bool → List EventBody
 stop_events before stops = if not before && stops then body.Shutdown ∷ [] else []
 
 -- what is told beside the trees, in this mode, of a desk that is stopped or not: by the mode that is set, if any, whether the
--- desk stops, and the tick, if any
-abbrev pub later_events : List ℕ → Bool → Option (List ℕ) → Bool → Option (List ℕ) → List EventBody
-later_events mode stopped set stops tick = mode_events mode (mode_after set mode) ++ (tick_events tick ++ stop_events stopped stops)
+-- desk stops, and the event of the step itself, if any
+abbrev pub later_events : List ℕ → Bool → Option (List ℕ) → Bool → Option EventBody → List EventBody
+later_events mode stopped set stops event = mode_events mode (mode_after set mode) ++ (own_events event ++ stop_events stopped stops)
 
 -- what is told of an effect on this tree, in this mode, of a desk that is stopped or not
 abbrev pub told_by : TreeValue → List ℕ → Bool → Effect → List EventBody
-told_by t mode stopped e = changes t (arranged t) e.tree (arranged e.tree) ++ later_events mode stopped e.mode e.stops e.tick
+told_by t mode stopped e = changes t (arranged t) e.tree (arranged e.tree) ++ later_events mode stopped e.mode e.stops e.event
 
 -- all events of a history, the oldest first
 abbrev pub events : Start → List Entry → List EventBody

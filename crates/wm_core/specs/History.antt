@@ -35,25 +35,37 @@ pub record Start : Type 0 where
 abbrev pub opening_of : Plan → Start
 opening_of plan = record { opened = opening plan.outputs plan.border plan.inner plan.outer; env = plan.env; mode = codes "default"; config = plan.config; windows = [] }
 
--- what an entry does to a tree
-abbrev pub done_by : Env → TreeValue → Entry → Effect
-done_by env t entry = effect env t entry.who entry.act
+-- what an entry does in this mode to a tree
+abbrev pub done_by : Env → List ℕ → TreeValue → Entry → Effect
+done_by env mode t entry = effect env mode t entry.who entry.act
 
 -- ---- what a history leaves
 
--- the tree after a history, from an opening
-abbrev pub tree : Start → List Entry → TreeValue
-tree start [] = start.opened
-tree start (entry ∷ history) = (done_by start.env (tree start history) entry).tree
+-- a tree, and the mode in which it is
+pub record Scene : Type 0 where
+  pub tree : TreeValue
+  pub mode : List ℕ
 
--- what an entry does after a history
-abbrev pub effect_after : Start → List Entry → Entry → Effect
-effect_after start history entry = done_by start.env (tree start history) entry
+-- the scene after an effect: the tree that it leaves, and the mode that it sets, if any
+abbrev pub scene_after : Effect → Scene → Scene
+scene_after e scene = record { tree = e.tree; mode = mode_after e.mode scene.mode }
+
+-- the scene after a history, from an opening
+abbrev pub scene : Start → List Entry → Scene
+scene start [] = record { tree = start.opened; mode = start.mode }
+scene start (entry ∷ history) = scene_after (done_by start.env (scene start history).mode (scene start history).tree entry) (scene start history)
+
+-- the tree after a history
+abbrev pub tree : Start → List Entry → TreeValue
+tree start history = (scene start history).tree
 
 -- the mode after a history: the last one that was set
 abbrev pub mode : Start → List Entry → List ℕ
-mode start [] = start.mode
-mode start (entry ∷ history) = mode_after (effect_after start history entry).mode (mode start history)
+mode start history = (scene start history).mode
+
+-- what an entry does after a history
+abbrev pub effect_after : Start → List Entry → Entry → Effect
+effect_after start history entry = done_by start.env (mode start history) (tree start history) entry
 
 -- a command said that the desk is to stop
 abbrev pub stopped : Start → List Entry → Bool

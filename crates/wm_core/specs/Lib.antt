@@ -6,6 +6,7 @@ pub mod Entries
 pub mod Events
 pub mod Frame
 pub mod History
+pub mod Keys
 pub mod Laws
 pub mod Look
 pub mod Opening

@@ -29,7 +29,7 @@ IsAnswer old entry said = (start : Start) (history : List Entry) → StandsFrom 
 
 -- this is the answer to the entry by what the desk has, whatever its history
 abbrev pub IsThere : DeskValue → Entry → Answer → Type 0
-IsThere old entry said = said ≡ (done_by old.plan.env old.tree entry).answer (judge_of old.txn)
+IsThere old entry said = said ≡ (done_by old.plan.env old.mode old.tree entry).answer (judge_of old.txn)
 
 -- a step that takes no memory: it is answered as the history says, by what the desk has, and counts in it
 pub record Answers (old new : DeskValue) (said : Answer) (entry : Entry) : Type 0 where

@@ -1,14 +1,14 @@
 //! What a step tells beside the trees.
 ghost use Rattle.std.specs.Prelude.{◌≡◌, ◌≤◌, ◌++◌, length, IfOk, OnOk};
 ghost use Rattle.wm_core.specs.Effect.{mode_after};
-ghost use Rattle.wm_core.specs.Events.{later_events, mode_events, stop_events, tick_events};
+ghost use Rattle.wm_core.specs.Events.{later_events, mode_events, own_events, stop_events};
 
 use std::alloc::{AllocError, Global};
-use wm_base::{NoMemory, Str, Text};
+use wm_base::{NoMemory, Text};
 use wm_json::EventBody;
 
 /// The events of a step beside those of the trees, in this mode, of a desk that is stopped or not: the mode changed, a
-/// tick came, or the desk became stopped. They are three at most.
+/// tick came or a key was bound, or the desk became stopped. They are three at most.
 #[tactic(auto, using(crate::proofs::EventLemmas::few_later))]
 pub fn later_events(
     alloc: Global,
@@ -16,13 +16,16 @@ pub fn later_events(
     stopped: bool,
     set: &Option<Text>,
     stops: bool,
-    tick: Option<Str>,
+    event: Option<EventBody>,
 ) -> Result<Vec<EventBody>, NoMemory>
-    ensures { IfOk result (λ events. events.items ≡ later_events mode.now stopped set.now stops tick) }
+    ensures { IfOk result (λ events. events.items ≡ later_events mode.now stopped set.now stops event) }
 {
     let mut events = Vec::new(alloc);
-    push_mode(&mut events, mode, set)?;
-    push_tick(&mut events, tick)?;
+    if let Err(AllocError) = push_mode(&mut events, mode, set) {
+        drop(event);
+        return Err(NoMemory);
+    }
+    push_own(&mut events, event)?;
     push_stop(&mut events, stopped, stops)?;
     Ok(events)
 }
@@ -41,15 +44,12 @@ fn push_mode(events: &mut Vec<EventBody>, mode: &Text, set: &Option<Text>) -> Re
     Ok(())
 }
 
-/// Adds the event of the tick, if any.
-fn push_tick(events: &mut Vec<EventBody>, tick: Option<Str>) -> Result<(), AllocError>
-    ensures { OnOk result (events.new.items ≡ events.old.items ++ tick_events tick) }
+/// Adds the event of the step itself, if any.
+fn push_own(events: &mut Vec<EventBody>, event: Option<EventBody>) -> Result<(), AllocError>
+    ensures { OnOk result (events.new.items ≡ events.old.items ++ own_events event) }
 {
-    if let Some(payload) = tick {
-        events.push(EventBody::Tick {
-            first: false,
-            payload,
-        })?;
+    if let Some(event) = event {
+        events.push(event)?;
     }
     Ok(())
 }

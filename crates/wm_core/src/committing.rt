@@ -5,6 +5,7 @@ ghost use Rattle.wm_arrange.specs.Arranged.{arranged};
 ghost use Rattle.wm_base.specs.declared.ids.ConId.{ConId};
 ghost use Rattle.wm_core.specs.ByWindow.{left_of, new_or};
 ghost use Rattle.wm_changes.specs.Changes.{changes};
+ghost use Rattle.wm_json.specs.declared.views.EventBody.{EventBody};
 ghost use Rattle.wm_core.specs.DeskValue.{Follows, StandsFrom, kill_after, kill_in};
 ghost use Rattle.wm_core.specs.Effect.{changing, closed, leaving, passing, refused};
 ghost use Rattle.wm_core.specs.Events.{IsToldOn, later_events};
@@ -36,7 +37,7 @@ impl Desk {
     /// Counts a step that changes nothing else, and gives its answer.
     pub(crate) fn stay(&mut self, answer: Answer) -> Answer
         requires few { self.old.steps < 2 ^ 48 }
-        ensures { (entry : Entry) → done_by self.old.plan.env self.old.tree entry ≡ refused answer self.old.tree → Answers self.old self.new result entry }
+        ensures { (entry : Entry) → done_by self.old.plan.env self.old.mode self.old.tree entry ≡ refused answer self.old.tree → Answers self.old self.new result entry }
     {
         self.steps += 1;
         answer
@@ -52,8 +53,8 @@ impl Desk {
     ) -> Answer
         requires few { self.old.steps < 2 ^ 48 }
         requires short { length later.items ≤ 3 }
-        ensures { (entry : Entry) (tick : Option (List ℕ)) → done_by self.old.plan.env self.old.tree entry ≡ passing answer self.old.tree set stops tick
-            → later.items ≡ later_events self.old.mode self.old.stopped set stops tick → Answers self.old self.new result entry }
+        ensures { (entry : Entry) (event : Option EventBody) → done_by self.old.plan.env self.old.mode self.old.tree entry ≡ passing answer self.old.tree set stops event
+            → later.items ≡ later_events self.old.mode self.old.stopped set stops event → Answers self.old self.new result entry }
     {
         self.steps += 1;
         set_mode(&mut self.mode, set);
@@ -67,7 +68,7 @@ impl Desk {
         requires few { self.old.steps < 2 ^ 48 }
         requires sound { trees.IsSound tree }
         requires follows { Follows self.old.tree tree None }
-        ensures { (entry : Entry) → done_by self.old.plan.env self.old.tree entry ≡ leaving Done self.old.tree (settled tree) None → Takes self.old self.new result entry }
+        ensures { (entry : Entry) → done_by self.old.plan.env self.old.mode self.old.tree entry ≡ leaving Done self.old.tree (settled tree) None → Takes self.old self.new result entry }
     {
         let mut tree = tree;
         tree.settle();
@@ -85,7 +86,7 @@ impl Desk {
         closes: &[ConId],
     ) -> Result<(), NoMemory>
         requires { MayCome self.old tree opened }
-        ensures commits { (entry : Entry) (answer : Answer) (set : Option (List ℕ)) → done_by self.old.plan.env self.old.tree entry ≡ changing answer self.old.tree tree opened set stops closes.now → Commits self.old self.new set (later_events self.old.mode self.old.stopped set stops None) result entry }
+        ensures commits { (entry : Entry) (answer : Answer) (set : Option (List ℕ)) (event : Option EventBody) → done_by self.old.plan.env self.old.mode self.old.tree entry ≡ changing answer self.old.tree tree opened set stops closes.now event → Commits self.old self.new set (later_events self.old.mode self.old.stopped set stops event) result entry }
         ensures room { OnOk result ((self.new.events.last + 3 ≤ self.new.steps * 65535) × (self.new.steps ≤ 2 ^ 48)) }
     {
         let mut tree = tree;
@@ -103,7 +104,7 @@ impl Desk {
         closes: &[ConId],
     ) -> Result<(), NoMemory>
         requires { MayCome self.old tree.old opened }
-        ensures commits { (entry : Entry) (answer : Answer) (set : Option (List ℕ)) → done_by self.old.plan.env self.old.tree entry ≡ changing answer self.old.tree tree.old opened set stops closes.now → Commits self.old self.new set (later_events self.old.mode self.old.stopped set stops None) result entry }
+        ensures commits { (entry : Entry) (answer : Answer) (set : Option (List ℕ)) (event : Option EventBody) → done_by self.old.plan.env self.old.mode self.old.tree entry ≡ changing answer self.old.tree tree.old opened set stops closes.now event → Commits self.old self.new set (later_events self.old.mode self.old.stopped set stops event) result entry }
         ensures room { OnOk result ((self.new.events.last + 3 ≤ self.new.steps * 65535) × (self.new.steps ≤ 2 ^ 48)) }
     {
         let change = self.change_to(tree, opened, closes)?;

@@ -63,7 +63,11 @@ impl Desk {
     {
         match step {
             Step::Run(text) => self.run(who, text),
-            Step::Map { props, buffer, .. } => self.map(who, props, *buffer),
+            Step::Map {
+                props,
+                buffer,
+                then,
+            } => self.map(who, props, *buffer, then),
             Step::Close { con } => self.close(who, *con),
             Step::Retitle { con, title } => self.retitle(who, *con, title),
             Step::Urgent { con, on } => self.urgent(who, *con, *on),
@@ -73,7 +77,7 @@ impl Desk {
             Step::OutputRemove { name } => self.remove_output(who, name),
             Step::Reserve { name, edges } => self.reserve(who, name, *edges),
             Step::Tick { payload } => self.tick(who, payload),
-            Step::Key { .. } => unreachable!(),
+            Step::Key { chord, choices } => self.key(who, chord, choices.items()),
         }
     }
 

@@ -12,6 +12,7 @@ mod desk;
 mod door;
 mod frame;
 mod holding;
+mod keys;
 mod kills;
 mod laws;
 mod look;

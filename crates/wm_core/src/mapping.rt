@@ -1,39 +1,51 @@
 //! Opening windows.
 ghost use Rattle.wm_tree.specs.Sound as trees;
-ghost use Rattle.std.specs.Prelude.{◌≡◌, ◌<◌, ◌^◌, Option, None, IfErr, IfOk, OnOk};
-ghost use Rattle.wm_core.specs.Act.{CommandText, Map};
-ghost use Rattle.wm_core.specs.Effect.{has_no_pixels, limit_of, mapped, raised_unless_full};
-ghost use Rattle.wm_core.specs.Opening.{IsCause};
+ghost use Rattle.std.specs.Prelude.{◌≡◌, ◌<◌, ◌^◌, None, Some, IfErr, IfOk, OnOk};
+ghost use Rattle.wm_core.specs.Act.{Map, text_if_some};
+ghost use Rattle.wm_core.specs.Effect.{has_no_pixels, limit_of, mapped, mapped_id, opened, raised_unless_full, then_outcome};
+ghost use Rattle.wm_core.specs.History.{Entry, done_by};
+ghost use Rattle.wm_core.specs.Opening.{IsCause, IsNewCause};
+ghost use Rattle.wm_core.specs.Sizes.{IsFitThen};
+ghost use Rattle.wm_core.specs.Steps.{MayCome, Takes};
+ghost use Rattle.wm_forest.specs.Place.{passed_limit};
 ghost use Rattle.wm_forest.specs.RootId.{id};
-ghost use Rattle.wm_core.specs.Steps.{Takes};
+ghost use Rattle.wm_forest.specs.declared.place.NewCon.TheVariants.{Window};
+ghost use Rattle.wm_layouts.specs.Sizes.{IsFitSize};
+ghost use Rattle.wm_tree.specs.TreeValue.{newcomer_place};
+ghost use Rattle.wm_tree.specs.Words.{attached};
 
 use crate::desk::Desk;
 use crate::step::Answer;
-use std::alloc::AllocError;
-use wm_base::{Buffer, ConId, Limit, NoMemory, Props, Size};
+use std::alloc::{AllocError, Global};
+use wm_apply::{Applied, apply};
+use wm_base::{Buffer, ConId, Limit, List, NoMemory, Props, Size};
+use wm_criteria::Prepared;
 use wm_floats::fills_alone;
+use wm_layouts::Env;
+use wm_swallow::swallow;
 use wm_tree::{NewCon, Tree, TreeRefusal, copy_props};
 
 impl Desk {
-    /// Opens a window of the caller, where there is room for it. It is raised, unless its workspace has a fullscreen one.
+    /// Opens a window of the caller, in the placeholder that swallows it or else where there is room for it. It is raised,
+    /// unless its workspace has a fullscreen one, and then the text that it brings runs, if any.
     pub(crate) fn map(
         &mut self,
         who: u32,
         props: &Props,
         buffer: Buffer,
+        then: &Option<Prepared>,
     ) -> Result<Answer, NoMemory>
         requires few { self.old.steps < 2 ^ 48 }
-        ensures { (then : Option CommandText) → Takes self.old self.new result (record { who = who; act = Map props.now buffer then }) }
+        requires size { IsFitSize buffer.size }
+        requires built { IsFitThen then.now }
+        ensures { Takes self.old self.new result (record { who = who; act = Map props.now buffer (text_if_some then.now) }) }
     {
         if has_no_pixels(buffer.size) {
             return Ok(self.stay(Answer::Empty));
         }
         let mut tree = self.tree.copy()?;
         match open(&mut tree, who, props, buffer.size) {
-            Ok(id) => {
-                self.commit(tree, Some((id, buffer)), false, &[])?;
-                Ok(Answer::Mapped(id))
-            }
+            Ok(id) => self.open_with(tree, id, buffer, then),
             Err(NotOpened::Full(limit)) => {
                 drop(tree);
                 Ok(self.stay(Answer::Full(limit)))
@@ -43,6 +55,60 @@ impl Desk {
                 Err(NoMemory)
             }
         }
+    }
+
+    /// Runs the text that a map brings, if any, on a tree in which its window is in its place, and takes the tree.
+    fn open_with(
+        &mut self,
+        tree: Tree,
+        id: ConId,
+        buffer: Buffer,
+        then: &Option<Prepared>,
+    ) -> Result<Answer, NoMemory>
+        requires come { MayCome self.old tree (Some (id, buffer)) }
+        requires built { IsFitThen then.now }
+        ensures { (entry : Entry) → done_by self.old.plan.env self.old.mode self.old.tree entry ≡ opened self.old.tree (id, buffer) (then_outcome self.old.plan.env (text_if_some then.now) id tree) → Takes self.old self.new result entry }
+    {
+        let mut tree = tree;
+        match run_then(self.alloc, &mut tree, &self.plan.env, then, id) {
+            Ok(mut applied) => {
+                let said = Answer::Mapped(id);
+                let answer = self.take(tree, &mut applied, Some((id, buffer)), said, None);
+                drop(applied);
+                answer
+            }
+            Err(error) => {
+                drop(tree);
+                Err(error)
+            }
+        }
+    }
+}
+
+/// Runs the text that a map brings, if any, with the window as its subject.
+fn run_then(
+    alloc: Global,
+    tree: &mut Tree,
+    env: &Env,
+    then: &Option<Prepared>,
+    window: ConId,
+) -> Result<Applied, NoMemory>
+    requires built { IsFitThen then.now }
+    requires sound { trees.IsSound tree.old }
+    ensures tree { OnOk result (tree.new ≡ (then_outcome env.now (text_if_some then.now) window tree.old).tree) }
+    ensures mode { IfOk result (λ a. a.mode ≡ (then_outcome env.now (text_if_some then.now) window tree.old).mode) }
+    ensures exit { IfOk result (λ a. a.exit ≡ (then_outcome env.now (text_if_some then.now) window tree.old).exit) }
+    ensures kills { IfOk result (λ a. a.kills ≡ (then_outcome env.now (text_if_some then.now) window tree.old).kills) }
+    ensures sound { trees.IsSound tree.new }
+{
+    match then {
+        Some(text) => apply(alloc, tree, env, text, Some(window)),
+        None => Ok(Applied {
+            replies: List::of(Vec::new(alloc)),
+            mode: None,
+            exit: false,
+            kills: List::of(Vec::new(alloc)),
+        }),
     }
 }
 
@@ -69,25 +135,46 @@ impl From<AllocError> for NotOpened {
 fn open(tree: &mut Tree, who: u32, props: &Props, natural: Size) -> Result<ConId, NotOpened>
     requires { trees.IsSound tree.old }
     ensures tree { OnOk result (tree.new ≡ mapped tree.old who props.now natural) }
-    ensures id { IfOk result (λ c. c ≡ id tree.old.next_id) }
-    ensures room { OnOk result (limit_of tree.old ≡ None) }
+    ensures id { IfOk result (λ c. c ≡ mapped_id props.now tree.old) }
+    ensures room { OnOk result (limit_of props.now tree.old ≡ None) }
     ensures sound { OnOk result (trees.IsSound tree.new) }
-    ensures cause { IfErr result (IsCause tree.old) }
+    ensures cause { IfErr result (IsCause props.now tree.old) }
+{
+    let id = match swallow(tree, props, who, natural) {
+        Ok(Some(id)) => id,
+        Ok(None) => attach_window(tree, who, props, natural)?,
+        Err(NoMemory) => return Err(NotOpened::NoMemory),
+    };
+    raise_newcomer(tree, id);
+    tree.settle();
+    Ok(id)
+}
+
+/// Puts a new window of the caller where a newcomer goes.
+fn attach_window(
+    tree: &mut Tree,
+    who: u32,
+    props: &Props,
+    natural: Size,
+) -> Result<ConId, NotOpened>
+    requires { trees.IsSound tree.old }
+    ensures tree { OnOk result (tree.new ≡ attached (newcomer_place tree.old) (Window props.now who natural) tree.old) }
+    ensures id { IfOk result (λ c. c ≡ id tree.old.next_id) }
+    ensures room { OnOk result (passed_limit (newcomer_place tree.old) tree.old.nodes tree.old.next_id ≡ None) }
+    ensures sound { OnOk result (trees.IsSound tree.new) }
+    ensures cause { IfErr result (IsNewCause tree.old) }
 {
     let window = NewCon::Window {
         props: copy_props(props)?,
         owner: who,
         natural,
     };
-    let id = match tree.attach(tree.newcomer_place(), window) {
-        Ok(id) => id,
-        Err(TreeRefusal::Full { limit }) => return Err(NotOpened::Full(limit)),
+    match tree.attach(tree.newcomer_place(), window) {
+        Ok(id) => Ok(id),
+        Err(TreeRefusal::Full { limit }) => Err(NotOpened::Full(limit)),
         Err(TreeRefusal::Missing(_)) => unreachable!(),
-        Err(TreeRefusal::NoMemory) => return Err(NotOpened::NoMemory),
-    };
-    raise_newcomer(tree, id);
-    tree.settle();
-    Ok(id)
+        Err(TreeRefusal::NoMemory) => Err(NotOpened::NoMemory),
+    }
 }
 
 /// Raises a new container, unless another one of its workspace is fullscreen.

@@ -1,13 +1,16 @@
 //! Running texts of commands.
 ghost use Rattle.wm_apply.specs.Batches.{outcome};
 ghost use Rattle.wm_apply.specs.Quiet.{is_quiet};
+ghost use Rattle.wm_base.specs.declared.ids.Buffer.{Buffer};
+ghost use Rattle.wm_base.specs.declared.ids.ConId.{ConId};
 ghost use Rattle.wm_criteria.specs.declared.verdict.Verdict.TheVariants.{Ready};
 ghost use Rattle.wm_core.specs.declared.step.Answer.TheVariants.{Replies};
 ghost use Rattle.wm_criteria.specs.Prepared.{is_built};
-ghost use Rattle.std.specs.Prelude.{◌≡◌, ◌<◌, ◌^◌, [], ◌∷◌, map, None, IfOk, IsTrue};
+ghost use Rattle.std.specs.Prelude.{◌≡◌, ◌≤◌, ◌<◌, ◌^◌, [], ◌∷◌, false, length, map, None, Option, IfOk, IsTrue};
 ghost use Rattle.wm_core.specs.Act.{Run, Tick, text_of};
-ghost use Rattle.wm_core.specs.Effect.{changing, idled, ran, refused, reply_to};
 ghost use Rattle.wm_core.specs.Events.{later_events};
+ghost use Rattle.wm_json.specs.declared.views.EventBody.{EventBody};
+ghost use Rattle.wm_core.specs.Effect.{changing, idled, passing, ran, reply_to, run_effect};
 ghost use Rattle.wm_core.specs.History.{Entry, done_by};
 ghost use Rattle.wm_core.specs.Steps.{MayCome, Takes};
 
@@ -17,7 +20,7 @@ use crate::modes::set_mode;
 use crate::replies::replies_to;
 use crate::step::Answer;
 use wm_apply::{Applied, is_quiet, run, run_quiet};
-use wm_base::{List, NoMemory, Str};
+use wm_base::{Buffer, ConId, List, NoMemory, Str};
 use wm_criteria::{Prepared, Verdict};
 use wm_json::{EventBody, Reply, copy_str};
 use wm_language::Batch;
@@ -30,91 +33,169 @@ impl Desk {
         requires few { self.old.steps < 2 ^ 48 }
         ensures { Takes self.old self.new result (record { who = who; act = Run (text_of text.now) }) }
     {
+        self.run_text(text, None)
+    }
+
+    /// Runs a text, or answers why it is not run, and tells this event, if any.
+    pub(crate) fn run_text(
+        &mut self,
+        text: &Prepared,
+        event: Option<EventBody>,
+    ) -> Result<Answer, NoMemory>
+        requires built { IsTrue (is_built text.now) }
+        requires few { self.old.steps < 2 ^ 48 }
+        ensures { (entry : Entry) → done_by self.old.plan.env self.old.mode self.old.tree entry ≡ run_effect self.old.plan.env text.now.verdict event self.old.tree → Takes self.old self.new result entry }
+    {
         match &text.verdict {
-            Verdict::Ready(batch) if is_quiet(batch) => self.idle(batch),
-            Verdict::Ready(_) => self.apply(text),
-            Verdict::Bad { at } => self.reply(Reply::Parse(*at)),
-            Verdict::PatternRefused { pattern } => self.reply(Reply::Pattern(*pattern)),
+            Verdict::Ready(batch) if is_quiet(batch) => self.idle(batch, event),
+            Verdict::Ready(_) => self.apply(text, event),
+            Verdict::Bad { at } => self.reply(Reply::Parse(*at), event),
+            Verdict::PatternRefused { pattern } => self.reply(Reply::Pattern(*pattern), event),
         }
     }
 
     /// Runs the commands of a text that reads.
-    fn apply(&mut self, text: &Prepared) -> Result<Answer, NoMemory>
+    fn apply(&mut self, text: &Prepared, event: Option<EventBody>) -> Result<Answer, NoMemory>
         requires built { IsTrue (is_built text.now) }
         requires few { self.old.steps < 2 ^ 48 }
-        ensures { (entry : Entry) → done_by self.old.plan.env self.old.tree entry ≡ ran self.old.tree (outcome self.old.plan.env text.now.verdict None self.old.tree) → Takes self.old self.new result entry }
+        ensures { (entry : Entry) → done_by self.old.plan.env self.old.mode self.old.tree entry ≡ ran event self.old.tree (outcome self.old.plan.env text.now.verdict None self.old.tree) → Takes self.old self.new result entry }
     {
-        let (tree, mut applied) = run(self.alloc, &self.tree, &self.plan.env, text, None)?;
-        let answer = self.take(tree, &mut applied);
-        drop(applied);
-        answer
-    }
-
-    /// Takes the tree that the commands of a text left, with what they did beside.
-    fn take(&mut self, tree: Tree, applied: &mut Applied) -> Result<Answer, NoMemory>
-        requires { MayCome self.old tree None }
-        ensures { (entry : Entry) → done_by self.old.plan.env self.old.tree entry ≡ changing (Replies (map reply_to applied.old.replies)) self.old.tree tree None applied.old.mode applied.old.exit applied.old.kills → Takes self.old self.new result entry }
-    {
-        match self.beside(applied) {
-            Ok((replies, later)) => self.take_with(tree, applied, replies, later),
+        match run(self.alloc, &self.tree, &self.plan.env, text, None) {
+            Ok((tree, applied)) => self.applied(tree, applied, event),
             Err(error) => {
-                drop(tree);
+                drop(event);
                 Err(error)
             }
         }
     }
 
-    /// The replies to the commands of a text, and what it tells beside the trees.
-    fn beside(&self, applied: &Applied) -> Result<(Vec<Reply>, Vec<EventBody>), NoMemory>
-        ensures replies { IfOk result (λ r. r.0.items ≡ map reply_to applied.now.replies) }
-        ensures later { IfOk result (λ r. r.1.items ≡ later_events self.now.mode self.now.stopped applied.now.mode applied.now.exit None) }
+    /// Takes the tree that the commands of a text left, with what they did beside, and answers with their replies.
+    fn applied(
+        &mut self,
+        tree: Tree,
+        applied: Applied,
+        event: Option<EventBody>,
+    ) -> Result<Answer, NoMemory>
+        requires { MayCome self.old tree None }
+        ensures { (entry : Entry) → done_by self.old.plan.env self.old.mode self.old.tree entry ≡ changing (Replies (map reply_to applied.replies)) self.old.tree tree None applied.mode applied.exit applied.kills event → Takes self.old self.new result entry }
     {
-        let replies = replies_to(self.alloc, applied.replies.items())?;
-        let later = later_events(
+        let mut applied = applied;
+        match replies_to(self.alloc, applied.replies.items()) {
+            Ok(replies) => {
+                let said = Answer::Replies(List::of(replies));
+                let answer = self.take(tree, &mut applied, None, said, event);
+                drop(applied);
+                answer
+            }
+            Err(_) => {
+                drop(tree);
+                drop(applied);
+                drop(event);
+                Err(NoMemory)
+            }
+        }
+    }
+
+    /// Takes the tree that the commands of a text left, in which this window was opened, if any, with what they did
+    /// beside, tells this event, if any, and gives the answer.
+    pub(crate) fn take(
+        &mut self,
+        tree: Tree,
+        applied: &mut Applied,
+        opened: Option<(ConId, Buffer)>,
+        answer: Answer,
+        event: Option<EventBody>,
+    ) -> Result<Answer, NoMemory>
+        requires { MayCome self.old tree opened }
+        ensures { (entry : Entry) → done_by self.old.plan.env self.old.mode self.old.tree entry ≡ changing answer self.old.tree tree opened applied.old.mode applied.old.exit applied.old.kills event → Takes self.old self.new result entry }
+    {
+        match self.later(applied, event) {
+            Ok(later) => self.take_with(tree, applied, opened, answer, later),
+            Err(error) => {
+                drop(tree);
+                drop(answer);
+                Err(error)
+            }
+        }
+    }
+
+    /// What a text tells beside the trees, with this event, if any.
+    fn later(&self, applied: &Applied, event: Option<EventBody>) -> Result<Vec<EventBody>, NoMemory>
+        ensures { IfOk result (λ later. later.items ≡ later_events self.now.mode self.now.stopped applied.now.mode applied.now.exit event) }
+    {
+        later_events(
             self.alloc,
             &self.mode,
             self.stopped,
             &applied.mode,
             applied.exit,
-            None,
-        )?;
+            event,
+        )
+    }
+
+    /// The replies to the commands of a text, and what it tells beside the trees, with this event, if any.
+    fn beside(
+        &self,
+        applied: &Applied,
+        event: Option<EventBody>,
+    ) -> Result<(Vec<Reply>, Vec<EventBody>), NoMemory>
+        ensures replies { IfOk result (λ r. r.0.items ≡ map reply_to applied.now.replies) }
+        ensures later { IfOk result (λ r. r.1.items ≡ later_events self.now.mode self.now.stopped applied.now.mode applied.now.exit event) }
+    {
+        let later = self.later(applied, event)?;
+        let replies = replies_to(self.alloc, applied.replies.items())?;
         Ok((replies, later))
     }
 
-    /// Takes the tree, and then these replies and events.
+    /// Takes the tree, and then tells these events and gives the answer.
     fn take_with(
         &mut self,
         tree: Tree,
         applied: &mut Applied,
-        replies: Vec<Reply>,
+        opened: Option<(ConId, Buffer)>,
+        answer: Answer,
         later: Vec<EventBody>,
     ) -> Result<Answer, NoMemory>
-        requires come { MayCome self.old tree None }
-        requires replies { replies.items ≡ map reply_to applied.old.replies }
-        requires later { later.items ≡ later_events self.old.mode self.old.stopped applied.old.mode applied.old.exit None }
-        ensures { (entry : Entry) → done_by self.old.plan.env self.old.tree entry ≡ changing (Replies (map reply_to applied.old.replies)) self.old.tree tree None applied.old.mode applied.old.exit applied.old.kills → Takes self.old self.new result entry }
+        requires come { MayCome self.old tree opened }
+        requires short { length later.items ≤ 3 }
+        ensures { (entry : Entry) (event : Option EventBody) → later.items ≡ later_events self.old.mode self.old.stopped applied.old.mode applied.old.exit event
+            → done_by self.old.plan.env self.old.mode self.old.tree entry ≡ changing answer self.old.tree tree opened applied.old.mode applied.old.exit applied.old.kills event → Takes self.old self.new result entry }
     {
-        match self.commit(tree, None, applied.exit, applied.kills.items()) {
+        match self.commit(tree, opened, applied.exit, applied.kills.items()) {
             Ok(()) => {
                 set_mode(&mut self.mode, applied.mode.take());
                 self.events.push_all(later);
-                Ok(Answer::Replies(List::of(replies)))
+                Ok(answer)
             }
             Err(error) => {
                 drop(later);
+                drop(answer);
                 Err(error)
             }
         }
     }
 
     /// Runs the commands of a text that leaves the tree alone. Nothing is copied or arranged.
-    fn idle(&mut self, batch: &Batch) -> Result<Answer, NoMemory>
+    fn idle(&mut self, batch: &Batch, event: Option<EventBody>) -> Result<Answer, NoMemory>
         requires quiet { IsTrue (is_quiet batch.now.groups) }
         requires few { self.old.steps < 2 ^ 48 }
-        ensures { (entry : Entry) → done_by self.old.plan.env self.old.tree entry ≡ idled (outcome self.old.plan.env (Ready batch.now) None self.old.tree) → Takes self.old self.new result entry }
+        ensures { (entry : Entry) → done_by self.old.plan.env self.old.mode self.old.tree entry ≡ idled event (outcome self.old.plan.env (Ready batch.now) None self.old.tree) → Takes self.old self.new result entry }
     {
-        let applied = run_quiet(self.alloc, &self.plan.env, batch)?;
-        let (replies, later) = self.beside(&applied)?;
+        match run_quiet(self.alloc, &self.plan.env, batch) {
+            Ok(applied) => self.idled(applied, event),
+            Err(error) => {
+                drop(event);
+                Err(error)
+            }
+        }
+    }
+
+    /// Answers a text that left the tree alone, with what its commands did beside.
+    fn idled(&mut self, applied: Applied, event: Option<EventBody>) -> Result<Answer, NoMemory>
+        requires few { self.old.steps < 2 ^ 48 }
+        ensures { (entry : Entry) → done_by self.old.plan.env self.old.mode self.old.tree entry ≡ passing (Replies (map reply_to applied.replies)) self.old.tree applied.mode applied.exit event → Takes self.old self.new result entry }
+    {
+        let (replies, later) = self.beside(&applied, event)?;
         let answer = Answer::Replies(List::of(replies));
         Ok(self.pass(answer, applied.mode, applied.exit, later))
     }
@@ -124,24 +205,38 @@ impl Desk {
         requires few { self.old.steps < 2 ^ 48 }
         ensures { Takes self.old self.new result (record { who = who; act = Tick payload.now }) }
     {
-        let tick = copy_str(self.alloc, payload)?;
-        let later = later_events(
-            self.alloc,
-            &self.mode,
-            self.stopped,
-            &None,
-            false,
-            Some(tick),
-        )?;
-        Ok(self.pass(Answer::Done, None, false, later))
+        let tick = EventBody::Tick {
+            first: false,
+            payload: copy_str(self.alloc, payload)?,
+        };
+        self.tell(Answer::Done, Some(tick))
     }
 
-    /// Answers a text that is not run with this reply, and changes nothing.
-    fn reply(&mut self, reply: Reply) -> Result<Answer, NoMemory>
+    /// Answers a text that is not run with this reply, and tells this event, if any.
+    fn reply(&mut self, reply: Reply, event: Option<EventBody>) -> Result<Answer, NoMemory>
         requires few { self.old.steps < 2 ^ 48 }
-        ensures { (entry : Entry) → done_by self.old.plan.env self.old.tree entry ≡ refused (Replies (reply ∷ [])) self.old.tree → Takes self.old self.new result entry }
+        ensures { (entry : Entry) → done_by self.old.plan.env self.old.mode self.old.tree entry ≡ passing (Replies (reply ∷ [])) self.old.tree None false event → Takes self.old self.new result entry }
     {
-        let replies = vec![in self.alloc; reply]?;
-        Ok(self.stay(Answer::Replies(List::of(replies))))
+        match vec![in self.alloc; reply] {
+            Ok(replies) => self.tell(Answer::Replies(List::of(replies)), event),
+            Err(_) => {
+                drop(event);
+                Err(NoMemory)
+            }
+        }
+    }
+
+    /// Tells this event, if any, and changes nothing else.
+    fn tell(&mut self, answer: Answer, event: Option<EventBody>) -> Result<Answer, NoMemory>
+        requires few { self.old.steps < 2 ^ 48 }
+        ensures { (entry : Entry) → done_by self.old.plan.env self.old.mode self.old.tree entry ≡ passing answer self.old.tree None false event → Takes self.old self.new result entry }
+    {
+        match later_events(self.alloc, &self.mode, self.stopped, &None, false, event) {
+            Ok(later) => Ok(self.pass(answer, None, false, later)),
+            Err(error) => {
+                drop(answer);
+                Err(error)
+            }
+        }
     }
 }

@@ -9,7 +9,8 @@ use wm_json::Reply;
 pub enum Step {
     /// Runs the commands of a text.
     Run(Prepared),
-    /// Opens a window with these properties and this buffer, and then runs a text with the window as its subject.
+    /// Opens a window with these properties and this buffer, in a placeholder that takes it or else beside the focused
+    /// container, and then runs a text with the window as its subject, of which no replies are told.
     Map {
         props: Props,
         buffer: Buffer,
@@ -33,7 +34,7 @@ pub enum Step {
     Gone,
     /// Acknowledges a configure or gives a buffer, or says that a time is over.
     Client(ClientStep),
-    /// Presses a chord, which runs the text of the current mode among these.
+    /// Presses a chord, which runs the text of the first choice for the mode.
     Key {
         chord: Text,
         choices: List<Choice>,
@@ -72,6 +73,8 @@ pub enum Answer {
     Mapped(ConId),
     /// One reply for each command, or one for a text that does not read or has a pattern that is refused.
     Replies(List<Reply>),
+    /// No choice of the key is for the mode.
+    Unbound,
     /// No open window of that id belongs to the caller.
     NoView,
     /// A side of the buffer is 0.

@@ -1,6 +1,7 @@
 -- Statuses: their numbers and their texts, and which faults they are.
 use Rattle.std.specs.Prelude.{ℕ, List, [], ◌++◌, codes, Option, None, Some}
 use Rattle.std.specs.Fmt.{decimal}
+use Rattle.wm_base.specs.ErrorText.{word_of}
 use Rattle.wm_crew.specs.declared.fault.Fault.{Fault}
 use Rattle.wm_crew.specs.declared.fault.Fault.TheVariants as fault
 use Rattle.wm_crew.specs.declared.status.ServeStatus.{ServeStatus}
@@ -13,6 +14,7 @@ status_number status.BadWords = 2
 status_number status.ReadFault = 7
 status_number (status.TooLarge read) = 6
 status_number (status.BadConfig line) = 3
+status_number (status.Full line limit) = 10
 status_number (status.ListenFault door) = 11
 status_number status.WriteFault = 8
 status_number status.Exhausted = 12
@@ -25,6 +27,7 @@ status_text status.BadWords = codes "bad words"
 status_text status.ReadFault = codes "read fault"
 status_text (status.TooLarge read) = codes "input too large"
 status_text (status.BadConfig line) = codes "bad configuration, line " ++ decimal line
+status_text (status.Full line limit) = codes "full " ++ (word_of limit ++ (codes ", line " ++ decimal line))
 status_text (status.ListenFault door) = codes "listener " ++ (decimal door ++ codes " failed")
 status_text status.WriteFault = codes "write fault"
 status_text status.Exhausted = codes "history full"

@@ -4,6 +4,7 @@ ghost use Rattle.wm_crew.specs.Status.{status_number, status_of, status_text};
 
 use crate::fault::Fault;
 use std::fmt;
+use wm_base::Limit;
 
 /// How a server ended. Its number is the exit status of the program.
 #[derive(Clone, Copy, Debug, PartialEq, Eq)]
@@ -18,6 +19,9 @@ pub enum ServeStatus {
     TooLarge { read: u64 },
     /// This line, counted from 1, is the first one that is none of a configuration. Nothing was written, and no door was used.
     BadConfig { line: u64 },
+    /// This line of the configuration, counted from 1, is the first one that passes this limit. Nothing was written, and no door
+    /// was used.
+    Full { line: u64, limit: Limit },
     /// The listener of this door, counted from 0, failed; it is the first of those that did.
     ListenFault { door: usize },
     /// The sink of the frames failed.
@@ -40,6 +44,7 @@ impl ServeStatus {
             ServeStatus::ReadFault => 7,
             ServeStatus::WriteFault => 8,
             ServeStatus::NoMemory => 9,
+            ServeStatus::Full { line: _, limit: _ } => 10,
             ServeStatus::ListenFault { door: _ } => 11,
             ServeStatus::Exhausted => 12,
         }
@@ -70,6 +75,7 @@ impl fmt::Display for ServeStatus {
             ServeStatus::Done => Ok(()),
             ServeStatus::BadWords => f.write_str("bad words"),
             ServeStatus::BadConfig { line } => write!(f, "bad configuration, line {line}"),
+            ServeStatus::Full { line, limit } => write!(f, "full {}, line {line}", limit.word()),
             ServeStatus::TooLarge { read: _ } => f.write_str("input too large"),
             ServeStatus::ReadFault => f.write_str("read fault"),
             ServeStatus::WriteFault => f.write_str("write fault"),

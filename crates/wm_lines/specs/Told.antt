@@ -16,6 +16,7 @@ abbrev pub answer_text : Answer → List ℕ
 answer_text answers.Done = codes "ok" ++ new_line
 answer_text (answers.Mapped id) = codes "ok " ++ (decimal id.0 ++ new_line)
 answer_text (answers.Replies replies) = replies_text replies ++ new_line
+answer_text answers.Unbound = codes "unbound" ++ new_line
 answer_text answers.NoView = codes "no-view" ++ new_line
 answer_text answers.Empty = codes "empty" ++ new_line
 answer_text (answers.BadSerial asked last) = codes "bad-serial " ++ (decimal asked ++ (codes " " ++ (decimal last ++ new_line)))

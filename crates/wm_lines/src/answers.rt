@@ -17,6 +17,7 @@ pub fn push_answer(alloc: Global, piece: &mut Vec<u8>, answer: &Answer) -> Resul
         Answer::Done => push_text(piece, "ok\n"),
         Answer::Mapped(id) => push_mapped(alloc, piece, *id),
         Answer::Replies(replies) => push_replies(alloc, piece, replies.items()),
+        Answer::Unbound => push_text(piece, "unbound\n"),
         Answer::NoView => push_text(piece, "no-view\n"),
         Answer::Empty => push_text(piece, "empty\n"),
         Answer::BadSerial { asked, last } => push_bad_serial(alloc, piece, *asked, *last),

@@ -1,6 +1,5 @@
 pub mod Callers
 pub mod Once
-pub mod Plans
 pub mod Rehearsals
 pub mod Rehearsed
 pub mod Running

@@ -6,9 +6,7 @@ use Rattle.wm_core.specs.Entries.{history_of}
 use Rattle.wm_core.specs.History.{opening_of}
 use Rattle.wm_core.specs.declared.step.Step.{Step}
 use Rattle.wm_crew.specs.declared.status.ServeStatus.TheVariants as ended
-use Rattle.wm_ports.specs.Told.{ReadsAll}
-use Rattle.wm_serve.specs.Plans.{IsEmptyPlan}
-use Rattle.wm_serve.specs.Serving.{IsRefused, IsSummed}
+use Rattle.wm_serve.specs.Serving.{IsPlanRead, IsRefused, IsSummed}
 use Rattle.wm_serve.specs.Summary.{summary}
 use Rattle.wm_turn.specs.declared.view.Entry.{Entry}
 use Rattle.wm_criteria.specs.Building.{Log}
@@ -34,11 +32,9 @@ pub record Rehearsed {B : Type 0} (log : B → Log) (plan : Plan) (n hold : ℕ)
   pub said : status ≡ ended.Done → (caller : ℕ) → caller < n → Said (texts caller) caller ran.history
   pub all_said : status ≡ ended.Done → texts_of 0 (history_of ran.history) ≡ texts 0
 
--- The actors of a rehearsal ran on a recorded desk at the opening of the plan of an empty configuration, and wrote their frames.
+-- The actors of a rehearsal ran on a recorded desk at the opening of a plan, and wrote their frames.
 -- Where all of them were told to stop, the summary of the history for which the desk stands came then, elsewhere nothing.
-pub record RanRehearsal {B : Type 0} (log : B → Log) (n hold : ℕ) (builds builds' : List B) (from to : Screen) (clock clock' : Option (List ℕ)) (result : ServeStatus) : Type 0 where
-  pub plan : Plan
-  pub empty : IsEmptyPlan plan
+pub record RanRehearsal {B : Type 0} (log : B → Log) (plan : Plan) (n hold : ℕ) (builds builds' : List B) (from to : Screen) (clock clock' : Option (List ℕ)) (result : ServeStatus) : Type 0 where
   pub used : List B
   pub left : Screen
   pub desk : Option RecordedValue
@@ -52,10 +48,10 @@ pub record RanRehearsal {B : Type 0} (log : B → Log) (n hold : ℕ) (builds bu
 abbrev pub IsUnused : {B : Type 0} → List B → List B → Screen → Screen → Option (List ℕ) → Option (List ℕ) → Type 0
 IsUnused builds builds' from to clock clock' = (builds' ≡ builds) × (to ≡ from) × (clock' ≡ clock)
 
--- Either the configuration was refused, and nothing was done; or it was read to its end and is empty, and then there was no
--- memory for a desk, and nothing was done, or actors rehearsed on it.
+-- Either the configuration was refused, and nothing was done; or it was read to its end and gives a plan, and then there was
+-- no memory for a desk, and nothing was done, or actors rehearsed on one at the opening of the plan.
 pub data IsRehearsed {B : Type 0} (log : B → Log) (n : ℕ) (read read' : Option (List ℕ)) (read_faults read_faults' : ℕ) (builds builds' : List B) (from to : Screen)
     (clock clock' : Option (List ℕ)) (result : ServeStatus) : Type 0 where
   Refused : IsRefused result read read' read_faults read_faults' → IsUnused builds builds' from to clock clock' → IsRehearsed log n read read' read_faults read_faults' builds builds' from to clock clock' result
-  Not_started : ReadsAll read read' [] → result ≡ ended.NoMemory → IsUnused builds builds' from to clock clock' → IsRehearsed log n read read' read_faults read_faults' builds builds' from to clock clock' result
-  Has_run : ReadsAll read read' [] → RanRehearsal log n 200 builds builds' from to clock clock' result → IsRehearsed log n read read' read_faults read_faults' builds builds' from to clock clock' result
+  Not_started : (plan : Plan) → IsPlanRead read read' plan → result ≡ ended.NoMemory → IsUnused builds builds' from to clock clock' → IsRehearsed log n read read' read_faults read_faults' builds builds' from to clock clock' result
+  Has_run : (plan : Plan) → IsPlanRead read read' plan → RanRehearsal log plan n 200 builds builds' from to clock clock' result → IsRehearsed log n read read' read_faults read_faults' builds builds' from to clock clock' result

@@ -1,6 +1,6 @@
 -- What a caller said, by its entries in a history.
-use Rattle.std.specs.Prelude.{◌≡◌, ℕ, ◌==◌, if◌then◌else◌, List, [], ◌∷◌, ◌++◌, length, take}
-use Rattle.wm_core.specs.Act.{Act}
+use Rattle.std.specs.Prelude.{◌≡◌, ℕ, ◌==◌, if◌then◌else◌, List, [], ◌∷◌, ◌++◌, length, map, take, Option, None, Some}
+use Rattle.wm_core.specs.Act.{Act, CommandText, KeyChoice}
 use Rattle.wm_core.specs.Act as act
 use Rattle.wm_core.specs.Entries.{history_of}
 use Rattle.wm_core.specs.History.{History}
@@ -8,9 +8,16 @@ use Rattle.wm_core.specs.declared.step.Step.{Step}
 use Rattle.wm_turn.specs.History.{places}
 use Rattle.wm_turn.specs.declared.view.Entry.{Entry}
 
--- the text that a step runs
+-- the text that a map brings
+abbrev pub text_then : Option CommandText → List (List ℕ)
+text_then None = []
+text_then (Some text) = text.text ∷ []
+
+-- the texts that a step runs, or may run
 abbrev pub text_in : Act → List (List ℕ)
 text_in (act.Run text) = text.text ∷ []
+text_in (act.Map props buffer brought) = text_then brought
+text_in (act.Key chord choices) = map (λ (choice : KeyChoice). choice.text.text) choices
 text_in other = []
 
 -- the texts that a caller's entries run, in order; the newest entry comes first

@@ -1,6 +1,10 @@
 -- How a run of the server ends, and why.
-use Rattle.std.specs.Prelude.{◌≡◌, ◌<◌, ◌+◌, ℕ, List, [], length, Option, ⊤}
+use Rattle.std.specs.Prelude.{◌≡◌, ◌<◌, ◌+◌, ℕ, List, length, Option, Ok, Err, ⊤}
 use Rattle.wm_actors.specs.Pictured.{Screen, screen}
+use Rattle.wm_binds.specs.Reading.{config}
+use Rattle.wm_binds.specs.declared.config.Bind.{Bind}
+use Rattle.wm_binds.specs.declared.config.ConfigRefusal.{ConfigRefusal}
+use Rattle.wm_binds.specs.declared.config.ConfigRefusal.TheVariants as refusals
 use Rattle.wm_core.specs.DeskValue.{DeskValue, Stands}
 use Rattle.wm_core.specs.Entries.{history_of}
 use Rattle.wm_core.specs.History.{opening_of}
@@ -14,7 +18,6 @@ use Rattle.wm_layouts.specs.declared.plan.Plan.{Plan}
 use Rattle.wm_ports.specs.Linking.{LinkTold}
 use Rattle.wm_ports.specs.Listening.{ListenTold}
 use Rattle.wm_ports.specs.Told.{ReadsAll, ReadsCount, TakesAll, TakesPart}
-use Rattle.wm_serve.specs.Plans.{IsEmptyPlan}
 use Rattle.wm_serve.specs.Running.{RanDesk}
 use Rattle.wm_serve.specs.Summary.{summary}
 use Rattle.wm_turn.specs.declared.view.Entry.{Entry}
@@ -23,19 +26,26 @@ use Rattle.wm_turn.specs.declared.view.Entry.{Entry}
 abbrev pub most_bytes : ℕ
 most_bytes = 1048576
 
--- bytes were read that are none of a configuration, which has no lines
-pub record IsFilled (old new : Option (List ℕ)) (line : ℕ) : Type 0 where
+-- the configuration was read to its end, and gives this plan
+pub record IsPlanRead (old new : Option (List ℕ)) (plan : Plan) : Type 0 where
   pub bytes : List ℕ
-  pub some : bytes ≡ [] → ⊥
+  pub binds : List Bind
   pub read : ReadsAll old new bytes
-  pub first : line ≡ 1
+  pub gives : config bytes ≡ Ok (record { plan = plan; binds = binds })
 
--- why a configuration was refused: its source failed, and its count of faults rose; it is too long; it is not empty; or there
--- was no memory
+-- bytes were read to their end that are no configuration, for this reason
+pub record IsNone (old new : Option (List ℕ)) (why : ConfigRefusal) : Type 0 where
+  pub bytes : List ℕ
+  pub read : ReadsAll old new bytes
+  pub refused : config bytes ≡ Err why
+
+-- why a configuration was refused: its source failed, and its count of faults rose; it is too long; one of its lines is the
+-- first that is outside the grammar, or that passes a limit; or there was no memory
 abbrev pub IsRefused : ServeStatus → Option (List ℕ) → Option (List ℕ) → ℕ → ℕ → Type 0
 IsRefused status.ReadFault old new faults faults' = Rose faults faults'
 IsRefused (status.TooLarge read) old new faults faults' = (most_bytes < read) × ReadsCount old new read
-IsRefused (status.BadConfig line) old new faults faults' = IsFilled old new line
+IsRefused (status.BadConfig line) old new faults faults' = IsNone old new (refusals.BadLine line)
+IsRefused (status.Full line limit) old new faults faults' = IsNone old new (refusals.Full line limit)
 IsRefused status.NoMemory old new faults faults' = ⊤
 IsRefused other old new faults faults' = ⊥
 
@@ -56,12 +66,10 @@ IsEnded ended result text from to = (result ≡ ended) × (to ≡ from)
 abbrev pub screen_of : {A B : Type 0} → Outside A B → Screen
 screen_of out = screen out.taken out.sink_faults
 
--- Actors ran on a desk at the opening of the plan of an empty configuration, and left what is outside like this. Then came the
--- summary of the history for which the desk stands.
+-- Actors ran on a desk at the opening of a plan, and left what is outside like this. Then came the summary of the history for
+-- which the desk stands.
 pub record Ran {L A B : Type 0} (link_told : L → Option LinkTold) (link_faults : L → ℕ) (told : A → Option (ListenTold L)) (faults : A → ℕ) (log : B → Log)
-    (ipc hold : ℕ) (from to : Outside A B) (result : ServeStatus) : Type 0 where
-  pub plan : Plan
-  pub empty : IsEmptyPlan plan
+    (plan : Plan) (ipc hold : ℕ) (from to : Outside A B) (result : ServeStatus) : Type 0 where
   pub left : Outside A B
   pub ended : ServeStatus
   pub desk : DeskValue
@@ -71,11 +79,11 @@ pub record Ran {L A B : Type 0} (link_told : L → Option LinkTold) (link_faults
   pub clock : to.clock ≡ left.clock
   pub summed : (history : List (Entry Step)) → Stands desk (history_of history) → IsEnded ended result (summary (opening_of plan) (history_of history)) (screen_of left) (screen_of to)
 
--- Either the configuration was refused, and nothing was done; or it was read to its end and is empty, and then there was no
--- memory for a desk, and nothing was done, or actors ran on it with 8 doors for clients that speak i3-ipc, and deadlines
--- after 200 milliseconds.
+-- Either the configuration was refused, and nothing was done; or it was read to its end and gives a plan, and then there was
+-- no memory for a desk, and nothing was done, or actors ran on one at the opening of the plan, with 8 doors for clients that
+-- speak i3-ipc, and deadlines after 200 milliseconds.
 pub data IsServed {L A B : Type 0} (link_told : L → Option LinkTold) (link_faults : L → ℕ) (told : A → Option (ListenTold L)) (faults : A → ℕ) (log : B → Log)
     (read read' : Option (List ℕ)) (read_faults read_faults' : ℕ) (from to : Outside A B) (result : ServeStatus) : Type 0 where
   Refused : IsRefused result read read' read_faults read_faults' → to ≡ from → IsServed link_told link_faults told faults log read read' read_faults read_faults' from to result
-  Not_started : ReadsAll read read' [] → result ≡ status.NoMemory → to ≡ from → IsServed link_told link_faults told faults log read read' read_faults read_faults' from to result
-  Has_run : ReadsAll read read' [] → Ran link_told link_faults told faults log 8 200 from to result → IsServed link_told link_faults told faults log read read' read_faults read_faults' from to result
+  Not_started : (plan : Plan) → IsPlanRead read read' plan → result ≡ status.NoMemory → to ≡ from → IsServed link_told link_faults told faults log read read' read_faults read_faults' from to result
+  Has_run : (plan : Plan) → IsPlanRead read read' plan → Ran link_told link_faults told faults log plan 8 200 from to result → IsServed link_told link_faults told faults log read read' read_faults read_faults' from to result

@@ -4,7 +4,6 @@
 mod callers;
 mod desk;
 mod once;
-mod plans;
 mod rehearsed;
 mod rehearsing;
 mod serving;

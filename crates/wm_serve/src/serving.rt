@@ -7,23 +7,21 @@ ghost use Rattle.wm_core.specs.declared.step.Step as steps;
 ghost use Rattle.wm_crew.specs.Running.{outside};
 ghost use Rattle.wm_crew.specs.declared.status.ServeStatus.TheVariants as status;
 ghost use Rattle.wm_layouts.specs.Plan.{IsSound};
-ghost use Rattle.wm_ports.specs.Told.{ReadsAll};
-ghost use Rattle.wm_serve.specs.Plans.{IsEmptyPlan};
 ghost use Rattle.wm_serve.specs.Rehearsals.{IsRehearsed, RanRehearsal};
-ghost use Rattle.wm_serve.specs.Serving.{IsEnded, IsRefused, IsServed, IsSummed, Ran};
+ghost use Rattle.wm_serve.specs.Serving.{IsEnded, IsPlanRead, IsRefused, IsServed, IsSummed, Ran};
 ghost use Rattle.wm_serve.specs.Summary.{summary};
 ghost use Rattle.wm_serve.specs.Words.{order_of};
 ghost use Rattle.wm_serve.specs.declared.words.Order.TheVariants as orders;
 ghost use Rattle.wm_turn.specs.declared.view.Entry.{Entry};
 
 use crate::desk::run_desk;
-use crate::plans::empty_plan;
 use crate::rehearsing::rehearse;
 use crate::summing::summary;
 use crate::words::{Order, order_of};
 use std::alloc::Global;
 use std::sync::Wait;
 use std::thread::Threads;
+use wm_binds::{Config, ConfigRefusal};
 use wm_book::Kept;
 use wm_core::Desk;
 use wm_crew::ServeStatus;
@@ -41,7 +39,7 @@ const IPC: usize = 8;
 const HOLD: u64 = 200;
 
 /// Serves clients by these words: none, or `--rehearse` and a digit from 1 to 8. The configuration that the source gives is
-/// read to its end, and must be empty. Without words the first 8 doors give clients that speak i3-ipc, and the other 16 clients
+/// read to its end, and the desk opens with its plan. Without words the first 8 doors give clients that speak i3-ipc, and the other 16 clients
 /// that speak lines; with `--rehearse` no door is used. Frames are written as they come, and a summary at the end. It may
 /// wait, and need not return.
 pub fn serve<
@@ -90,9 +88,8 @@ pub fn serve<
 
 /// The plan of the configuration that the source gives.
 fn configured<I: Source>(alloc: Global, source: &mut I) -> Result<Plan, ServeStatus>
-    ensures plan { IfOk result (λ plan. IsEmptyPlan plan) }
+    ensures plan { IfOk result (λ plan. IsPlanRead (I.rest source.old) (I.rest source.new) plan) }
     ensures sound { IfOk result (λ plan. IsSound plan) }
-    ensures read { IfOk result (λ plan. ReadsAll (I.rest source.old) (I.rest source.new) []) }
     ensures refused { IfErr result (λ s. IsRefused s (I.rest source.old) (I.rest source.new) (I.faults source.old) (I.faults source.new)) }
 {
     let bytes = match read_to_limit(alloc, source, MOST) {
@@ -101,12 +98,14 @@ fn configured<I: Source>(alloc: Global, source: &mut I) -> Result<Plan, ServeSta
         Err(ReadFault::TooLarge { read }) => return Err(ServeStatus::TooLarge { read }),
         Err(ReadFault::NoMemory) => return Err(ServeStatus::NoMemory),
     };
-    if !bytes.is_empty() {
-        return Err(ServeStatus::BadConfig { line: 1 });
-    }
-    match empty_plan(alloc) {
-        Ok(plan) => Ok(plan),
-        Err(_) => Err(ServeStatus::NoMemory),
+    match Config::read_bytes(alloc, &bytes) {
+        Ok(Config { plan, binds }) => {
+            drop(binds);
+            Ok(plan)
+        }
+        Err(ConfigRefusal::BadLine { line }) => Err(ServeStatus::BadConfig { line }),
+        Err(ConfigRefusal::Full { line, limit }) => Err(ServeStatus::Full { line, limit }),
+        Err(ConfigRefusal::NoMemory) => Err(ServeStatus::NoMemory),
     }
 }
 
@@ -129,9 +128,8 @@ fn serve_doors<
 ) -> ServeStatus
     requires doors { length doors.old.items ≤ 4094 }
     requires builds { length builds.old ≡ length doors.old.items }
-    requires plan { IsEmptyPlan plan }
     requires sound { IsSound plan }
-    ensures { ((result ≡ status.NoMemory) × (doors.new ≡ doors.old) × (builds.new ≡ builds.old) × (frames.new ≡ frames.old) × (clock.new ≡ clock.old)) ⊎ Ran L.told L.faults A.told A.faults B.log 8 200
+    ensures { ((result ≡ status.NoMemory) × (doors.new ≡ doors.old) × (builds.new ≡ builds.old) × (frames.new ≡ frames.old) × (clock.new ≡ clock.old)) ⊎ Ran L.told L.faults A.told A.faults B.log plan 8 200
         (outside doors.old.items builds.old (S.taken frames.old) (S.faults frames.old) (C.told clock.old))
         (outside doors.new.items builds.new (S.taken frames.new) (S.faults frames.new) (C.told clock.new)) result }
 {
@@ -177,10 +175,9 @@ fn rehearse_whole<R: Threads + Wait + Sync, S: Sink + Send, C: Clock + Send, B: 
 ) -> ServeStatus
     requires few { (1 ≤ n) × (n ≤ 8) }
     requires builds { 2 * n ≤ length builds.old }
-    requires plan { IsEmptyPlan plan }
     requires sound { IsSound plan }
     ensures words { result ≡ status.BadWords → ⊥ }
-    ensures ran { ((result ≡ status.NoMemory) × (builds.new ≡ builds.old) × (frames.new ≡ frames.old) × (clock.new ≡ clock.old)) ⊎ RanRehearsal B.log n 200 builds.old builds.new
+    ensures ran { ((result ≡ status.NoMemory) × (builds.new ≡ builds.old) × (frames.new ≡ frames.old) × (clock.new ≡ clock.old)) ⊎ RanRehearsal B.log plan n 200 builds.old builds.new
         (screen (S.taken frames.old) (S.faults frames.old)) (screen (S.taken frames.new) (S.faults frames.new)) (C.told clock.old) (C.told clock.new) result }
 {
     let (builds, _) = builds.split_at_mut(2 * n as usize);

@@ -13,8 +13,6 @@ pub returns-in-Some-clause-ran : goal.returns-in-Some-clause-ran
 returns-in-Some-clause-ran g c =
     ⊎_elim (λ none. absurd (not_both c.rehearse-desk.result.1 (c.rehearse-desk.ensures.desk.0 (subst (λ o. IsTrue (is_some o)) (sym c.in-Some.is) refl)) none.0))
     (λ r. inr (record {
-      plan = c.args.plan;
-      empty = c.requires.plan;
       used = c.rehearse-desk.new.builds;
       left = screen (g.S.Sink.taken c.rehearse-desk.new.frames) (g.S.Sink.faults c.rehearse-desk.new.frames);
       desk = Some c.in-Some.desk;
@@ -32,8 +30,6 @@ pub returns-in-None-clause-ran : goal.returns-in-None-clause-ran
 returns-in-None-clause-ran g c =
     ⊎_elim (λ none. inl (none.0, ap₂ (λ front back. front ++ back) (none.1 ∙ c.split_at_mut-builds.ensures.front) c.split_at_mut-builds.ensures.back ∙ take-append-drop _ _, none.2, none.3))
     (λ r. inr (record {
-      plan = c.args.plan;
-      empty = c.requires.plan;
       used = c.rehearse-desk.new.builds;
       left = screen (g.S.Sink.taken c.rehearse-desk.new.frames) (g.S.Sink.faults c.rehearse-desk.new.frames);
       desk = None;

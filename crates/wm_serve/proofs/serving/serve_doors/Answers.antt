@@ -15,8 +15,6 @@ run_desk-requires-send-V g c κs within = search (desk_send, sendable)
 
 pub returns-in-Ok-run_desk : goal.returns-in-Ok-run_desk
 returns-in-Ok-run_desk g c = inr (record {
-  plan = c.args.plan;
-  empty = c.requires.plan;
   left = outside c.run_desk.new.doors.items c.run_desk.new.builds (g.S.Sink.taken c.run_desk.new.frames) (g.S.Sink.faults c.run_desk.new.frames) (g.C.Clock.told c.run_desk.new.clock);
   ended = c.in-Ok-run_desk.status;
   desk = c.in-Ok-run_desk.desk;

@@ -23,7 +23,7 @@ returns c =
     let entry : Entry = record { who = c.args.who; act = Ack c.args.con c.args.serial } in
     let said : Judge → Answer = λ judge. ack_said (judge c.args.con c.args.serial) in
     let its : is_window d.tree c.args.who c.args.con ≡ true = rw (← c.self.view_is) at (sym c.is_window.ensures.value ∙ c.if-not-is_window.false) in
-    let here : done_by d.plan.env d.tree entry ≡ telling (commits.Acked c.args.con c.args.serial) said d.tree = rw its refl in
+    let here : done_by d.plan.env d.mode d.tree entry ≡ telling (commits.Acked c.args.con c.args.serial) said d.tree = rw its refl in
     record {
       there = rw (← c.self.view_is) (c.ack_said.ensures ∙ (ap ack_said c.ack-acked.ensures.there ∙ there_by d entry (telling (commits.Acked c.args.con c.args.serial) said d.tree) here));
       answer = λ start history s.

@@ -23,12 +23,12 @@ kept_by false number gone = refl
 
 -- the arrangement of the tree is admitted
 pub returns-clause-commits : goal.returns-clause-commits
-returns-clause-commits c = λ entry said set is.
+returns-clause-commits c = λ entry said set event is.
     let i = c.self.inside in
     let d : DeskValue = record { plan = i.plan; steps = i.steps; tree = i.tree; txn = i.txn; mode = i.mode; stopped = i.stopped; events = i.events; kills = i.kills.entries } in
     let t = c.args.tree.now in
     let fresh = c.args.opened in
-    let here : done_by d.plan.env d.tree entry ≡ changing said d.tree t fresh set c.args.stops c.args.closes.now = rw (← c.self.view_is) at is in
+    let here : done_by d.plan.env d.mode d.tree entry ≡ changing said d.tree t fresh set c.args.stops c.args.closes.now event = rw (← c.self.view_is) at is in
     let f : Follows d.tree t fresh = rw (← c.self.view_is) at c.requires.follows in
     let newest : c.in_ok-change.change.newest.parts ≡ arranged t = c.in_ok-change.ensures.newest in
     let gone : c.deref.result.now ≡ closed d.tree t fresh = c.deref.ensures.value ∙ (rw (← c.self.view_is) at (c.in_ok-change.ensures.gone c.requires.follows)) in
@@ -50,9 +50,9 @@ returns-clause-commits c = λ entry said set is.
           let changed = changes d.tree (arranged d.tree) t (arranged t) in
           let seen : c.in_ok-change.change.told.events.items ≡ changed = rw (← c.self.view_is) at (c.in_ok-change.ensures.events start history s) in
           let first_told : IsToldOn d.events changed c.tell.new.events = λ all was. c.tell.ensures.events all was ∙ ap (λ bodies. kept_of (all ++ bodies)) seen in
-          let logged : IsToldOn d.events (changed ++ later_events d.mode d.stopped set c.args.stops None) log = told_both d.events c.tell.new.events log changed (later_events d.mode d.stopped set c.args.stops None) first_told (rw (← c.self.view_is) at told) in
+          let logged : IsToldOn d.events (changed ++ later_events d.mode d.stopped set c.args.stops event) log = told_both d.events c.tell.new.events log changed (later_events d.mode d.stopped set c.args.stops event) first_told (rw (← c.self.view_is) at told) in
           rw c.swap.ensures.x_after (subst Stops (sym c.either-self-inside.ensures)
-          (stands_left d start history stood t fresh c.self.invariant.1 c.requires.sound f entry said c.admit.new.self set c.args.stops c.args.closes.now log c.tell.new.kills.entries here logged kept came));
+          (stands_left d start history stood t fresh c.self.invariant.1 c.requires.sound f entry said c.admit.new.self set c.args.stops c.args.closes.now event log c.tell.new.kills.entries here logged kept came));
       plan = rw (← c.self.view_is) refl;
       count = rw (← c.self.view_is) refl;
       err = tt;

@@ -31,7 +31,7 @@ returns c =
     let told = commits.Gave c.args.con c.args.buffer in
     let its : is_window d.tree c.args.who c.args.con ≡ true = rw (← c.self.view_is) at (sym c.is_window.ensures.value ∙ c.if-not-is_window.false) in
     let pixels : has_no_pixels c.args.buffer.size ≡ false = sym c.has_no_pixels.ensures ∙ c.if-has_no_pixels.false in
-    let here : done_by d.plan.env d.tree entry ≡ telling told (λ judge. Done) d.tree = rw (its, pixels) refl in
+    let here : done_by d.plan.env d.mode d.tree entry ≡ telling told (λ judge. Done) d.tree = rw (its, pixels) refl in
     record {
       there = rw (← c.self.view_is) (there_by d entry (telling told (λ judge. Done) d.tree) here);
       answer = λ start history s. answered d start history (rw (← c.self.view_is) at s) entry (telling told (λ judge. Done) d.tree) here;

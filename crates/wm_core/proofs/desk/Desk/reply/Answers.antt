@@ -1,8 +1,7 @@
-use Rattle.std.proofs.Common.{ap, sym, ◌∙◌}
-use Rattle.wm_core.specs.Effect.{refused}
+use Rattle.std.proofs.Common.{None, false, ap, sym, ◌∙◌}
+use Rattle.wm_core.specs.Effect.{passing}
 use Rattle.wm_core.specs.declared.step.Answer.TheVariants.{Replies}
-use Rattle.wm_core.proofs.StepLemmas.{taken}
 use Rattle.wm_core.proofs.desk.Desk.reply.Goals as goal
 
-pub returns : goal.returns
-returns c = λ entry is. taken _ _ _ _ (c.stay.ensures entry (is ∙ ap (λ replies. refused (Replies replies) c.args.self.now.tree) (sym (c.of.ensures ∙ c.in_ok-replies.ensures.items))))
+pub returns-in-Ok : goal.returns-in-Ok
+returns-in-Ok c = λ entry is. c.tell.ensures entry (is ∙ ap (λ replies. passing (Replies replies) c.args.self.now.tree None false c.args.event) (sym (c.of.ensures ∙ c.in-Ok.ensures.items)))

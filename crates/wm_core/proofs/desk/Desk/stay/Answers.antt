@@ -10,7 +10,7 @@ pub returns : goal.returns
 returns c = λ entry is.
     let i = c.self.inside in
     let d : DeskValue = record { plan = i.plan; steps = i.steps; tree = i.tree; txn = i.txn; mode = i.mode; stopped = i.stopped; events = i.events; kills = i.kills.entries } in
-    let here : done_by d.plan.env d.tree entry ≡ refused c.args.answer d.tree = rw (← c.self.view_is) at is in
+    let here : done_by d.plan.env d.mode d.tree entry ≡ refused c.args.answer d.tree = rw (← c.self.view_is) at is in
     record {
       there = rw (← c.self.view_is) (there_by d entry (refused c.args.answer d.tree) here);
       answer = λ start history s. answered d start history (rw (← c.self.view_is) at s) entry (refused c.args.answer d.tree) here;
