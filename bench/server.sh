@@ -1,8 +1,8 @@
 #!/bin/sh
 # Takes what i3desk does over its sockets: with 2, 16 and 128 open windows how many messages of each kind it answers in a second
-# over one and over four connections; how `nop` stands to a fixed reply over a socket; the processor time of an idle server,
-# with no link and with 24; the time from a tick to its event, and from a client's buffer to the frame that shows it; and
-# whether each reply is its message's own with 8 links at once.
+# over one and over four connections, the most of three runs; how `nop` stands to a fixed reply over a socket; the processor
+# time of an idle server, with no link and with 24; the time from a tick to its event, and from a client's buffer to the frame
+# that shows it; and whether each reply is its message's own with 8 links at once.
 # usage: bench/server.sh [I3DESK [BENCH_SERVER]]
 set -eu
 . "$(dirname "$0")/serving.sh"
@@ -58,7 +58,7 @@ for at, count in enumerate([2, 16, 128]):
     server = Server(program, folder)
     windows = Windows(server.clients, count)
     for name, kind, texts, wanted in KINDS:
-        (one, cost), (four, cost_four) = [rate(server, connections, kind, texts) for connections in [1, 4]]
+        (one, cost), (four, cost_four) = [max(rate(server, connections, kind, texts) for _ in range(3)) for connections in [1, 4]]
         told = "" if wanted is None else "; %d over one is wanted, %.2f times that" % (wanted[at], one / wanted[at])
         print("%d windows, %s: %d a second over one connection, %d over four (%.0f and %.0f us of the server's processor time each)%s"
               % (count, name, one, four, cost, cost_four, told), flush=True)
@@ -87,7 +87,31 @@ for link in held:
 time.sleep(0.5)
 
 half, most, greatest = said("event", server.ipc, 5000).split()
-print("event: %s microseconds for half, %s for 99 of 100 (10000 are wanted), %s at most" % (half, most, greatest), flush=True)
+print("event, each tick sent when the one before has come: %s microseconds for half, %s for 99 of 100, %s at most"
+      % (half, most, greatest), flush=True)
+
+
+def ticks(count):
+    """Times from a tick to its event at another link, with pauses between them that keep to no round of the server."""
+    sender, watcher = Link(server.ipc), Link(server.ipc)
+    watcher.ask(SUBSCRIBE, b'["tick"]')
+    watcher.receive()
+    times = []
+    for number in range(count):
+        start = time.monotonic()
+        sender.send(SEND_TICK, b"t")
+        watcher.receive()
+        times.append((time.monotonic() - start) * 1e6)
+        sender.receive()
+        time.sleep(0.003 * (number % 7))
+    sender.close()
+    watcher.close()
+    return times
+
+
+times = ticks(2000)
+print("event, with pauses between the ticks: %.0f microseconds for half, %.0f for 99 of 100 (10000 are wanted), %.0f at most"
+      % (part(times, 50), part(times, 99), max(times)), flush=True)
 server.end()
 
 
