@@ -11,5 +11,5 @@ pub returns-clause-stands : goal.returns-clause-stands
 returns-clause-stands c = λ entries s.
     on_ok_weaker c.step.result
     (λ goes. subst (λ act. Stands c.step.new.self (record { who = c.args.who; act = act } ∷ history_of entries)) (sym (says_form c.args.step.now))
-      (goes_on _ _ _ goes c.step.ensures.plan (history_of entries) s))
+    (goes_on _ _ _ goes c.step.ensures.plan (history_of entries) s))
     c.step.ensures.stands
