@@ -8,6 +8,7 @@ use case_data::{Fault, Words, string_of};
 use std::alloc::Global;
 use wm_binds::{Bind, Config};
 use wm_core::{Desk, Step};
+use wm_layouts::Plan;
 
 /// How many steps are taken at most.
 const MOST: u64 = 65_536;
@@ -36,7 +37,7 @@ fn open(alloc: Global, config: Config, lines: &str, out: &mut String) -> Result<
 /// Opens the desk of a plan, and takes the lines.
 fn open_plan(
     alloc: Global,
-    plan: wm_layouts::Plan,
+    plan: Plan,
     binds: &[Bind],
     lines: &str,
     out: &mut String,

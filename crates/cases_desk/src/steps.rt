@@ -12,7 +12,7 @@ use wm_binds::Bind;
 use wm_core::{Choice, Step};
 use wm_criteria::{Prepared, RegexBuild, prepare};
 use wm_lines::step_of;
-use wm_script::{Deed, read_client_line};
+use wm_script::read_client_line;
 
 /// How long a line of a client is at most.
 const LONGEST: usize = 16_777_216;
