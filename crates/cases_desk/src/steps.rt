@@ -11,8 +11,6 @@ use wm_base::{List, Text};
 use wm_binds::Bind;
 use wm_core::{Choice, Step};
 use wm_criteria::{Prepared, RegexBuild, prepare};
-use wm_lines::step_of;
-use wm_script::read_client_line;
 
 /// How long a line of a client is at most.
 const LONGEST: usize = 16_777_216;
@@ -47,12 +45,7 @@ fn client_step(alloc: Global, line: &str) -> Result<Step, Fault>
     if line.len() > LONGEST {
         return Err(Fault::BadLine);
     }
-    let Some(deed) = read_client_line(alloc, line.as_bytes())? else {
-        return Err(Fault::BadLine);
-    };
-    let step = step_of(alloc, &deed);
-    drop(deed);
-    match step? {
+    match wm_lines::client_step(alloc, line.as_bytes())? {
         Some(step) => Ok(step),
         None => Err(Fault::BadLine),
     }

@@ -17,22 +17,14 @@ use Rattle.wm_saved.specs.declared.refusal.LayoutRefusal.{LayoutRefusal}
 use Rattle.wm_saved.specs.declared.saved.SavedLayout.{SavedLayout}
 use Rattle.wm_saved.specs.declared.saved.SavedNode.{SavedNode}
 use Rattle.wm_saved.proofs.FitLemmas.{trees_fit}
-use Rattle.wm_script.specs.Fields.{behind, decimal_value, if_end, number_at, or_else, or_none}
-use Rattle.wm_script.specs.Lines.{output_of}
-use Rattle.wm_script.specs.Quoted.{quoted_at}
+use Rattle.wm_fields.specs.Fields.{behind, decimal_value, if_end, number_at, or_else, or_none}
+use Rattle.wm_fields.specs.Fields.{output_of}
+use Rattle.wm_fields.specs.Quoted.{quoted_at}
 use Rattle.wm_binds.specs.Lines.{bind_at, border_at, command_of, entry_of, first_word, gaps_at, home_at, if_read, is_bar, is_passed, last_number, layout_at, layout_of, mode_at, on_output, other_of, output_at, plan_of, rect_at, said_of, says_nothing, width_at}
+use Rattle.wm_binds.specs.Fit.{IsFitEntry, IsFitLayout}
 use Rattle.wm_binds.specs.Words.{command_word_at, gap_at, name_at, passed_word, past_blanks, text_of, word_then}
 use Rattle.wm_binds.specs.declared.entry.Entry.{Entry}
 use Rattle.wm_binds.specs.declared.entry.Entry.TheVariants.{Nothing, Passed, Bar, Mode, Close, Border, Inner, Outer, Home, Output, Layout}
-
--- what a line says is within the limits
-abbrev pub IsFitEntry : Entry → Type 0
-IsFitEntry (Border b) = IsFitBorder b
-IsFitEntry (Inner n) = n ≤ 1000
-IsFitEntry (Outer n) = n ≤ 1000
-IsFitEntry (Output o) = IsFitOutput o
-IsFitEntry (Layout name layout) = IsTrue (saved.is_fit layout)
-IsFitEntry other = Unit {0}
 
 abbrev pub If : {A : Type 0} → (A → Type 0) → Option A → Type 0
 If P None = Unit {0}
@@ -128,9 +120,6 @@ placed_if name rest rect = by (is_fit_rect rect) refl
 output_if : (text : List ℕ) → If IsFitEntry (output_at text)
 output_if text =
     any_if IsFitEntry (name_at text) _ (λ name. any_if IsFitEntry (gap_at name.1) _ (λ place. any_if IsFitEntry (rect_at place) _ (λ rect. placed_if name.0 rect.1 rect.0)))
-
-abbrev pub IsFitLayout : SavedLayout → Type 0
-IsFitLayout layout = IsTrue (saved.is_fit layout)
 
 limited_if : (trees : List SavedNode) (limit : Option Limit) → IsFitLayout (record { trees = trees }) → If IsFitLayout (if_read (saved.limited trees limit))
 limited_if trees None fit = fit

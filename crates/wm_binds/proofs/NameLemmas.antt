@@ -3,7 +3,7 @@ use Rattle.std.proofs.Common.{◌≡◌, ◌∙◌, refl, ap, sym, subst, Bool, 
 use Rattle.std.specs.Prelude.{nat_eq, nat_le, if◌then◌else◌, codes}
 use Rattle.std.specs.List.{starts_with}
 use Rattle.std.proofs.lemmas.Bool.{eqb-true, eqb-false, le-leb, lt-leb, leb-true, leb-false}
-use Rattle.wm_script.specs.Fields.{behind, or_none}
+use Rattle.wm_fields.specs.Fields.{behind, or_none}
 use Rattle.wm_binds.specs.Letters.{Letters, end, letter, found, or_here, put, put_name, spelled}
 use Rattle.wm_binds.specs.Naming.{longer, longest, name_length, put_in, replaced_behind, set_at, value_of}
 use Rattle.wm_binds.specs.LettersReading.{Finds}

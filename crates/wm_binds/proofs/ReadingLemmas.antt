@@ -1,7 +1,7 @@
 -- A configuration whose names are kept by their letters is read as one whose names are kept in a list.
 use Rattle.std.proofs.Common.{◌≡◌, ◌∙◌, refl, ap, sym, subst, Bool, true, false, cond, ℕ, ◌+◌, List, [], ◌∷◌, Option, None, Some, Result, Ok, Err}
 use Rattle.std.specs.Str.{is_utf8}
-use Rattle.wm_script.specs.Script.{lines_of}
+use Rattle.wm_fields.specs.Split.{lines_of}
 use Rattle.wm_binds.specs.Blocks.{blank_draft}
 use Rattle.wm_binds.specs.Letters.{Letters, end, put_name}
 use Rattle.wm_binds.specs.LettersReading.{Finds, letters_after, line_by, read_by, set_or_entered_by, text_by}

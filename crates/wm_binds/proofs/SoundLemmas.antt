@@ -7,12 +7,13 @@ use Rattle.std.proofs.lemmas.Slice.Eq.{bytes_eq-Decides}
 use Rattle.wm_base.specs.declared.plan.OutputPlan.{OutputPlan}
 use Rattle.wm_layouts.specs.Plan.{FitLayouts, FitOutputs, IsFitBorder, IsFitEdges, IsFitOutput, IsSound, NamesDiffer, is_taken}
 use Rattle.wm_saved.specs.declared.saved.SavedLayout.{SavedLayout}
-use Rattle.wm_script.specs.Script.{lines_of}
+use Rattle.wm_fields.specs.Split.{lines_of}
 use Rattle.wm_binds.specs.Letters.{end}
 use Rattle.wm_binds.specs.LettersReading.{read_by}
 use Rattle.wm_binds.specs.declared.config.Config.{Config}
 use Rattle.wm_binds.proofs.ReadingLemmas.{read_is}
 use Rattle.wm_binds.specs.Blocks.{at_block, at_top, blank_draft, in_bar, in_mode, with_output}
+use Rattle.wm_binds.specs.Fit.{IsFitDraft, IsFitEntry, IsFitLayout}
 use Rattle.wm_binds.specs.Lines.{entry_of}
 use Rattle.wm_binds.specs.Naming.{longest, replaced, set_line}
 use Rattle.wm_binds.specs.Reading as reading
@@ -25,20 +26,11 @@ use Rattle.wm_binds.specs.declared.draft.LineRefusal.TheVariants as faults
 use Rattle.wm_binds.specs.declared.entry.Entry.{Entry}
 use Rattle.wm_binds.specs.declared.entry.Entry.TheVariants.{Nothing, Passed, Bar, Mode, Close, Key, Border, Inner, Outer, Home, Output, Layout}
 use Rattle.wm_binds.specs.declared.naming.Name.{Name}
-use Rattle.wm_binds.proofs.EntryLemmas.{IsFitEntry, If, IsFitLayout, entry_if}
+use Rattle.wm_binds.proofs.EntryLemmas.{If, entry_if}
 
 -- ---- what was read so far
 
-record IsFitDraft (d : Draft) : Type 0 where
-  pub few : length d.outputs ≤ 8
-  pub fit : FitOutputs d.outputs
-  pub names : NamesDiffer d.outputs
-  pub border : IsFitBorder d.border
-  pub inner : d.inner ≤ 1000
-  pub outer : d.outer ≤ 1000
-  pub layouts : FitLayouts d.layouts
-
-abbrev IfRead : {A E : Type 0} → (A → Type 0) → Result A E → Type 0
+abbrev pub IfRead : {A E : Type 0} → (A → Type 0) → Result A E → Type 0
 IfRead P (Ok x) = P x
 IfRead P (Err e) = Unit {0}
 
@@ -75,11 +67,11 @@ fit_more : (os : List OutputPlan) (o : OutputPlan) → FitOutputs os → IsFitOu
 fit_more [] o fit one = (one, tt)
 fit_more (p ∷ os) o fit one = (fit.0, fit_more os o fit.1 one)
 
-layouts_more : (ls : List (List ℕ × SavedLayout)) (l : List ℕ × SavedLayout) → FitLayouts ls → IsFitLayout l.1 → FitLayouts (ls ++ l ∷ [])
+pub layouts_more : (ls : List (List ℕ × SavedLayout)) (l : List ℕ × SavedLayout) → FitLayouts ls → IsFitLayout l.1 → FitLayouts (ls ++ l ∷ [])
 layouts_more [] l fit one = (one, tt)
 layouts_more (x ∷ ls) l fit one = (fit.0, layouts_more ls l fit.1 one)
 
-output_keeps : (d : Draft) (o : OutputPlan) → IsFitDraft d → IsFitOutput o → IfRead IsFitDraft (with_output d o)
+pub output_keeps : (d : Draft) (o : OutputPlan) → IsFitDraft d → IsFitOutput o → IfRead IsFitDraft (with_output d o)
 output_keeps d o fit one = by (is_taken o.name d.outputs) (nat_lt (length d.outputs) 8) refl refl
   where
     by : (a b : Bool) → is_taken o.name d.outputs ≡ a → nat_lt (length d.outputs) 8 ≡ b
@@ -182,15 +174,15 @@ read_keeps : (texts : List (List ℕ)) (count : ℕ) (names : List Name) (d : Dr
 read_keeps [] count names d fit = end_keeps count d d.block fit
 read_keeps (text ∷ texts) count names d fit = on_kept (count + 1) texts (reading.after_line names d text) (line_keeps names d text fit) (read_keeps texts (count + 1))
 
-blank_fit : IsFitDraft blank_draft
+pub blank_fit : IsFitDraft blank_draft
 blank_fit = record { few = omega arith; fit = tt; names = tt; border = omega arith; inner = omega arith; outer = omega arith; layouts = tt }
 
 -- ---- the plan
 
-no_edges : IsFitEdges (record { top = 0; right = 0; bottom = 0; left = 0 })
+pub no_edges : IsFitEdges (record { top = 0; right = 0; bottom = 0; left = 0 })
 no_edges = record { top = omega arith; right = omega arith; bottom = omega arith; left = omega arith }
 
-record IsFitOutputs (os : List OutputPlan) : Type 0 where
+pub record IsFitOutputs (os : List OutputPlan) : Type 0 where
   pub some : 1 ≤ length os
   pub few : length os ≤ 8
   pub fit : FitOutputs os

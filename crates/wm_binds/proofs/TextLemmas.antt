@@ -2,7 +2,7 @@
 use Rattle.std.proofs.Common.{◌≡◌, refl, ℕ, List, None, Some}
 use Rattle.std.specs.Str.{IsUtf8}
 use Rattle.std.proofs.lemmas.Str.{is_utf8-from_IsUtf8}
-use Rattle.wm_script.proofs.TextLemmas.{not_utf8}
+use Rattle.wm_fields.proofs.TextLemmas.{not_utf8}
 use Rattle.wm_binds.specs.Words.{text_of}
 
 pub is_text : (bytes : List ℕ) → IsUtf8 bytes → text_of bytes ≡ Some bytes

@@ -4,7 +4,7 @@ use Rattle.std.specs.Str.{IsUtf8, is_utf8}
 use Rattle.std.proofs.lemmas.Bool.{eqb-true}
 use Rattle.std.proofs.lemmas.Str.{IsUtf8-append, IsUtf8-from_ascii, IsUtf8-from_is_utf8, IsUtf8-nil, is_utf8-from_IsUtf8}
 use Rattle.std.proofs.lemmas.Str.Ascii.{IsAscii-cons, IsAscii-nil}
-use Rattle.wm_script.specs.Script.{lines_of, onto_first}
+use Rattle.wm_fields.specs.Split.{lines_of, onto_first}
 use Rattle.wm_binds.specs.Letters.{Letters, end}
 use Rattle.wm_binds.specs.LettersReading.{read_by, text_by}
 use Rattle.wm_binds.specs.Reading.{go_on}

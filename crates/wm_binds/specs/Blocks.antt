@@ -42,9 +42,13 @@ at_block draft b = record draft { block = b }
 abbrev pub bound : Draft → List ℕ → List ℕ → List ℕ → Draft
 bound draft mode chord text = record draft { binds = with_bind (bind_of mode chord text) draft.binds }
 
+-- there is this mode
+abbrev pub listed : Draft → List ℕ → Draft
+listed draft name = record draft { modes = with_mode name draft.modes }
+
 -- the block of a mode begins
 abbrev pub opened : Draft → List ℕ → Draft
-opened draft name = at_block (record draft { modes = with_mode name draft.modes }) (block.Mode name)
+opened draft name = at_block (listed draft name) (block.Mode name)
 
 -- an output with a name of its own; a ninth one passes the limit
 abbrev pub with_output : Draft → OutputPlan → Result Draft LineRefusal

@@ -1,5 +1,6 @@
 pub mod Binds
 pub mod Blocks
+pub mod Fit
 pub mod Letters
 pub mod LettersCode
 pub mod LettersFall

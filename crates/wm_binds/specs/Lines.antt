@@ -9,9 +9,9 @@ use Rattle.wm_layouts.specs.Plan.{is_fit_rect}
 use Rattle.wm_saved.specs.Limits as saved
 use Rattle.wm_saved.specs.declared.refusal.LayoutRefusal.{LayoutRefusal}
 use Rattle.wm_saved.specs.declared.saved.SavedLayout.{SavedLayout}
-use Rattle.wm_script.specs.Fields.{behind, coordinate_at, if_end, number_at, or_else, or_none, rect_of, size_at}
-use Rattle.wm_script.specs.Lines.{output_of}
-use Rattle.wm_script.specs.Quoted.{quoted_at}
+use Rattle.wm_fields.specs.Fields.{behind, coordinate_at, if_end, number_at, or_else, or_none, rect_of, size_at}
+use Rattle.wm_fields.specs.Fields.{output_of}
+use Rattle.wm_fields.specs.Quoted.{quoted_at}
 use Rattle.wm_binds.specs.Words.{command_word_at, gap_at, is_blank, name_at, passed_word, past_blanks, text_of, word_then}
 use Rattle.wm_binds.specs.declared.entry.Entry.{Entry}
 use Rattle.wm_binds.specs.declared.entry.Entry.TheVariants.{Nothing, Passed, Bar, Mode, Close, Key, Border, Inner, Outer, Home, Output, Layout}

@@ -1,7 +1,7 @@
 -- Names that are set, and what stands in their place in later lines.
 use Rattle.std.specs.Prelude.{ℕ, zero, suc, ◌==◌, nat_eq, nat_le, if◌then◌else◌, List, [], ◌∷◌, ◌++◌, length, Option, None, Some, codes}
 use Rattle.std.specs.List.{starts_with}
-use Rattle.wm_script.specs.Fields.{behind, or_none}
+use Rattle.wm_fields.specs.Fields.{behind, or_none}
 use Rattle.wm_binds.specs.Words.{gap_at, past_blanks, word_at, word_then}
 use Rattle.wm_binds.specs.declared.naming.Name.{Name}
 

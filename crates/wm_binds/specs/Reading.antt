@@ -5,9 +5,9 @@ use Rattle.wm_base.specs.declared.errors.Limit.TheVariants as limits
 use Rattle.wm_base.specs.declared.plan.OutputPlan.{OutputPlan}
 use Rattle.wm_layouts.specs.declared.plan.Env.{Env}
 use Rattle.wm_layouts.specs.declared.plan.Plan.{Plan}
-use Rattle.wm_script.specs.Fields.{rect_of, size_of}
-use Rattle.wm_script.specs.Lines.{output_of}
-use Rattle.wm_script.specs.Script.{lines_of}
+use Rattle.wm_fields.specs.Fields.{rect_of, size_of}
+use Rattle.wm_fields.specs.Fields.{output_of}
+use Rattle.wm_fields.specs.Split.{lines_of}
 use Rattle.wm_binds.specs.Blocks.{at_top, blank_draft, in_bar, in_mode}
 use Rattle.wm_binds.specs.Lines.{entry_of}
 use Rattle.wm_binds.specs.Naming.{longest, replaced, set_at, set_line}

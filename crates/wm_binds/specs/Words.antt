@@ -2,8 +2,8 @@
 use Rattle.std.specs.Prelude.{ℕ, ◌==◌, nat_eq, nat_le, Bool, not, ◌&&◌, ◌||◌, if◌then◌else◌, List, [], ◌∷◌, length, drop, take_while, Option, None, Some}
 use Rattle.std.specs.List.{starts_with}
 use Rattle.std.specs.Str.{is_utf8}
-use Rattle.wm_script.specs.Fields.{behind, or_none}
-use Rattle.wm_script.specs.Quoted.{quoted_at, short_text}
+use Rattle.wm_fields.specs.Fields.{behind, or_none}
+use Rattle.wm_fields.specs.Quoted.{quoted_at, short_text}
 
 -- a space or a tab
 abbrev pub is_blank : ℕ → Bool

@@ -3,7 +3,7 @@ ghost use Rattle.std.specs.Prelude.{◌≡◌, ◌<◌, ◌++◌, ◌∷◌, [],
 ghost use Rattle.std.specs.List.{list_any};
 ghost use Rattle.std.specs.Str.{bytes_eq};
 ghost use Rattle.wm_binds.specs.Binds.{has_key_of, place_of, put_at, with_bind};
-ghost use Rattle.wm_binds.specs.Blocks.{at_top, blank_draft, bound, default_mode, in_bar, in_mode, opened, with_output, IsStep};
+ghost use Rattle.wm_binds.specs.Blocks.{at_top, blank_draft, bound, default_mode, in_bar, in_mode, listed, opened, with_output, IsStep};
 ghost use Rattle.wm_binds.specs.Reading.{entered};
 ghost use Rattle.wm_binds.specs.declared.draft.LineRefusal.TheVariants as faults;
 ghost use Rattle.wm_layouts.specs.Plan.{is_taken};
@@ -21,7 +21,7 @@ const MAX_OUTPUTS: usize = 8;
 
 /// Where a line stands: at the top, in the block of a mode, or in that of a bar.
 #[derive(Drop)]
-pub(crate) enum Block {
+pub enum Block {
     Top,
     Mode(Text),
     Bar,
@@ -29,7 +29,7 @@ pub(crate) enum Block {
 
 /// What the lines so far give.
 #[derive(Drop)]
-pub(crate) struct Draft {
+pub struct Draft {
     pub outputs: List<OutputPlan>,
     pub border: Border,
     pub inner: u32,
@@ -43,7 +43,7 @@ pub(crate) struct Draft {
 
 /// Why a line was refused.
 #[derive(Clone, Copy)]
-pub(crate) enum LineRefusal {
+pub enum LineRefusal {
     /// It is outside the grammar.
     Outside,
     /// It has one output more than a plan may have.
@@ -68,7 +68,7 @@ impl From<AllocError> for LineRefusal {
 }
 
 /// Adds an item at the end.
-fn push<T: Drop>(alloc: Global, list: &mut List<T>, item: T) -> Result<(), OutOfMemory>
+pub fn push<T: Drop>(alloc: Global, list: &mut List<T>, item: T) -> Result<(), OutOfMemory>
     ensures { OnOk result (list.new ≡ list.old ++ item ∷ []) }
 {
     let mut items = mem::replace(list, List::of(Vec::new(alloc))).into_vec();
@@ -130,7 +130,7 @@ fn has_key_of(bind: &Bind, other: &Bind) -> bool
 }
 
 /// Whether one of the texts is this one.
-fn is_among(texts: &[Text], text: &Text) -> bool
+pub fn is_among(texts: &[Text], text: &Text) -> bool
     ensures { result ≡ list_any (bytes_eq text.now) texts.now }
 {
     texts.iter().any(|other| text.as_str() == other.as_str())
@@ -175,7 +175,7 @@ impl Draft {
     }
 
     /// A line that sets no name, in the block in which it stands.
-    pub fn enter(&mut self, alloc: Global, entry: Entry) -> Result<(), LineRefusal>
+    pub(crate) fn enter(&mut self, alloc: Global, entry: Entry) -> Result<(), LineRefusal>
         ensures { IsStep (entered self.old self.old.block entry) self.new result }
     {
         match &self.block {
@@ -189,7 +189,7 @@ impl Draft {
     }
 
     /// A line in the block of a bar: it is passed over, unless it ends the block.
-    pub fn pass(&mut self, text: &[u8])
+    pub(crate) fn pass(&mut self, text: &[u8])
         ensures { self.new ≡ in_bar self.old text.now }
     {
         if are_same(past_blanks(text), b"}") {
@@ -236,10 +236,26 @@ impl Draft {
     }
 
     /// The chord runs the text in the mode.
-    fn bind(&mut self, alloc: Global, mode: Text, chord: Text, text: Str) -> Result<(), LineRefusal>
+    pub fn bind(
+        &mut self,
+        alloc: Global,
+        mode: Text,
+        chord: Text,
+        text: Str,
+    ) -> Result<(), LineRefusal>
         ensures { IsStep (Ok (bound self.old mode chord text)) self.new result }
     {
         put_bind(alloc, &mut self.binds, Bind { mode, chord, text })?;
+        Ok(())
+    }
+
+    /// There is this mode. It is listed once, and the default one never.
+    pub fn add_mode(&mut self, alloc: Global, name: &Text) -> Result<(), OutOfMemory>
+        ensures { OnOk result (self.new ≡ listed self.old name.now) }
+    {
+        if name.as_str() != "default" && !is_among(self.modes.items(), name) {
+            push(alloc, &mut self.modes, name.clone()?)?;
+        }
         Ok(())
     }
 
@@ -247,15 +263,15 @@ impl Draft {
     fn open_mode(&mut self, alloc: Global, name: Text) -> Result<(), LineRefusal>
         ensures { IsStep (Ok (opened self.old name)) self.new result }
     {
-        if name.as_str() != "default" && !is_among(self.modes.items(), &name) {
-            push(alloc, &mut self.modes, name.clone()?)?;
+        if self.add_mode(alloc, &name).is_err() {
+            return Err(LineRefusal::NoMemory);
         }
         self.block = Block::Mode(name);
         Ok(())
     }
 
     /// One more output, with a name of its own.
-    fn add_output(&mut self, alloc: Global, output: OutputPlan) -> Result<(), LineRefusal>
+    pub fn add_output(&mut self, alloc: Global, output: OutputPlan) -> Result<(), LineRefusal>
         ensures { IsStep (with_output self.old output) self.new result }
     {
         if is_taken(self.outputs.items(), &output.name) {

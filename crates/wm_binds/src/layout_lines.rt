@@ -1,8 +1,9 @@
 //! Lines of saved layouts.
-ghost use Rattle.std.specs.Prelude.{◌≡◌, IfOk, None, OnOk};
+ghost use Rattle.std.specs.Prelude.{◌≡◌, IfOk, IfSome, None, OnOk};
 ghost use Rattle.serde_json.specs.Errors.{IsMemory};
 ghost use Rattle.serde_json.specs.View.{view};
 ghost use Rattle.wm_binds.specs.Lines.{if_read, layout_at, layout_in, layout_of};
+ghost use Rattle.wm_binds.specs.Fit.{IsFitLayout};
 ghost use Rattle.wm_saved.specs.Limits as saved;
 
 use crate::entry::Entry;
@@ -39,9 +40,10 @@ fn layout_in(alloc: Global, name: Text, text: &[u8]) -> Result<Option<Entry>, No
     }
 }
 
-/// The layout that a JSON text describes.
-fn layout_of(alloc: Global, text: &[u8]) -> Result<Option<SavedLayout>, NoMemory>
-    ensures { IfOk result (λ layout. layout ≡ layout_of text.now) }
+/// The layout that a JSON text describes. `None` exactly where it is no JSON, or describes none.
+pub fn layout_of(alloc: Global, text: &[u8]) -> Result<Option<SavedLayout>, NoMemory>
+    ensures value { IfOk result (λ layout. layout ≡ layout_of text.now) }
+    ensures fit { IfOk result (λ layout. IfSome layout IsFitLayout) }
 {
     let Some(text) = text_of(text) else {
         return Ok(None);
@@ -65,7 +67,8 @@ fn no_json(error: &Error) -> Result<Option<SavedLayout>, NoMemory>
 
 /// The layout that a JSON value describes.
 fn layout_from(alloc: Global, value: &Value) -> Result<Option<SavedLayout>, NoMemory>
-    ensures { IfOk result (λ layout. layout ≡ if_read (saved.layout_at (view value.now))) }
+    ensures value { IfOk result (λ layout. layout ≡ if_read (saved.layout_at (view value.now))) }
+    ensures fit { IfOk result (λ layout. IfSome layout IsFitLayout) }
 {
     match read_layout(alloc, value) {
         Ok(layout) => Ok(Some(layout)),

@@ -14,3 +14,6 @@ mod reading;
 mod words;
 
 pub use config::{Bind, Config, ConfigRefusal};
+pub use draft::{Draft, LineRefusal, is_among, push};
+pub use layout_lines::layout_of;
+pub use words::text_of;

@@ -6,7 +6,7 @@ use crate::entry::Entry;
 use crate::words::{gap, name, passed_word, text_of};
 use std::alloc::Global;
 use wm_base::{NoMemory, Str, Text};
-use wm_script::{at_end, behind, quoted_text};
+use wm_fields::{at_end, behind, quoted_text};
 
 /// The chord runs the text, which is all to the end of the line.
 fn command_line(alloc: Global, chord: Text, text: &[u8]) -> Result<Option<Entry>, NoMemory>

@@ -8,7 +8,7 @@ use crate::names::Names;
 use crate::words::{gap, past_blanks, word, word_then};
 use std::alloc::Global;
 use wm_base::{List, NoMemory, Text};
-use wm_script::behind;
+use wm_fields::behind;
 
 /// How many bytes of values a configuration may put in, all together.
 pub const MOST_PUT_IN: usize = 16_777_216;

@@ -7,8 +7,8 @@ use crate::entry::Entry;
 use crate::words::{command_word, gap, name, word_then};
 use std::alloc::Global;
 use wm_base::{Border, Edges, NoMemory, OutputPlan, Rect, Text};
+use wm_fields::{at_end, behind, coordinate, number, size};
 use wm_layouts::is_fit_rect;
-use wm_script::{at_end, behind, coordinate, number, size};
 
 /// The greatest width of a border in pixels.
 const MAX_BORDER: u32 = 64;

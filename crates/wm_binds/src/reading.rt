@@ -6,7 +6,7 @@ ghost use Rattle.wm_binds.specs.LettersReading.{draft_after, letters_after, line
 ghost use Rattle.wm_binds.specs.Naming.{set_line};
 ghost use Rattle.wm_binds.specs.Reading.{at_end, config, config_of, or_one_output, refusal_at, IsRead};
 ghost use Rattle.wm_layouts.specs.Plan.{IsSound};
-ghost use Rattle.wm_script.specs.Script.{lines_of};
+ghost use Rattle.wm_fields.specs.Split.{lines_of};
 
 use crate::config::{Config, ConfigRefusal};
 use crate::draft::{Block, Draft, LineRefusal};
@@ -16,8 +16,8 @@ use crate::naming::{MOST_PUT_IN, Name, name_set, replaced, set_line};
 use crate::words::text_of;
 use std::alloc::Global;
 use wm_base::{Edges, Limit, List, NoMemory, OutputPlan, Rect, Str, Text};
+use wm_fields::first_line;
 use wm_layouts::{Env, Plan};
-use wm_script::first_line;
 
 /// The refusal of the line of this number.
 fn refusal_at(line: u64, refusal: LineRefusal) -> ConfigRefusal

@@ -7,7 +7,7 @@ ghost use Rattle.wm_binds.specs.Words.{command_word_at, gap_at, is_blank, is_in_
 use std::alloc::Global;
 use std::str;
 use wm_base::{NoMemory, Text};
-use wm_script::{behind, quoted_text, short_text};
+use wm_fields::{behind, quoted_text, short_text};
 
 /// Whether the texts are the same.
 pub fn are_same(text: &[u8], other: &[u8]) -> bool

@@ -88,6 +88,13 @@ impl Desk {
         self.steps
     }
 
+    /// The mode after the history: the last one that was set, or `default`.
+    pub fn mode(&self) -> &str
+        ensures { result.now ≡ self.now.mode }
+    {
+        self.mode.as_str()
+    }
+
     /// The frame of the history.
     pub fn frame(&self) -> Result<Frame, NoMemory>
         ensures { (start : Start) (history : History) → StandsFrom start self.now history →

@@ -10,7 +10,7 @@ use Rattle.wm_habits.specs.Late.{asked_before}
 use Rattle.wm_habits.specs.Saying.{said_to}
 use Rattle.wm_habits.specs.declared.asking.Asked.{Asked}
 use Rattle.wm_habits.specs.declared.habit.Habit.{Habit}
-use Rattle.wm_script.specs.Fields.{or_none}
+use Rattle.wm_fields.specs.Fields.{or_none}
 
 -- what the last n of these lines asked
 last_asked : ℕ → List (List ℕ) → List (Option Asked)

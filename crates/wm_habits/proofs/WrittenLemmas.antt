@@ -1,6 +1,7 @@
 -- Numbers that were written are read, and lines made of them.
-use Rattle.std.proofs.Common.{◌≡◌, refl, ◌∙◌, ap, subst, ℕ, suc, ◌+◌, ◌<◌, ◌≤◌, ◌^◌, List, [], ◌∷◌, ◌++◌, length, take, Some, codes, take_while, arith}
+use Rattle.std.proofs.Common.{◌≡◌, refl, ◌∙◌, ap, subst, Bool, true, false, eqb, ℕ, suc, ◌+◌, ◌<◌, ◌≤◌, ◌^◌, List, [], ◌∷◌, ◌++◌, length, take, Some, codes, take_while, arith}
 use Rattle.std.proofs.Math.Seq.{drop-append_seam}
+use Rattle.std.proofs.lemmas.Bool.Decides.{Decides-eqb}
 use Rattle.std.proofs.lemmas.Bool.{le-leb}
 use Rattle.std.proofs.lemmas.Fmt.{decimal_nonempty, digits_decimal, digits_value-decimal, length-decimal-le}
 use Rattle.std.proofs.lemmas.List.{append-nil}
@@ -15,9 +16,10 @@ use Rattle.wm_habits.specs.Asking.{asked_of}
 use Rattle.wm_habits.specs.Saying.{ack_text, buffer_text, close_text}
 use Rattle.wm_habits.specs.Written.{blue, configure_text, kill_text}
 use Rattle.wm_habits.specs.declared.asking.Asked.TheVariants as asked
-use Rattle.wm_script.specs.Fields.{decimal_value, number_at}
-use Rattle.wm_script.specs.Lines.{client_deed_of}
-use Rattle.wm_script.specs.declared.line.Deed.TheVariants as deeds
+use Rattle.wm_core.specs.declared.client.ClientStep.TheVariants.{Ack, Buffer}
+use Rattle.wm_core.specs.declared.step.Step.TheVariants.{Client, Close}
+use Rattle.wm_fields.specs.Fields.{decimal_value, number_at, past_spaces}
+use Rattle.wm_lines.specs.Lines.{client_step_of}
 
 -- ---- numbers
 
@@ -68,21 +70,44 @@ kill_read con number id long =
 
 -- ---- what is said
 
-pub ack_read : (con : ConId) (serial : ℕ) → con.0 < 4294967296 → serial < 18446744073709551616 → client_deed_of (ack_text con serial) ≡ Some (deeds.Ack con serial)
+-- digits do not begin with a space
+not_space : (d : ℕ) → 48 ≤ d → eqb d 32 ≡ false
+not_space d least = by (eqb d 32) refl
+  where
+    by : (t : Bool) → eqb d 32 ≡ t → t ≡ false
+    by false e = refl
+    by true e = let same : d ≡ 32 = (Decides-eqb d 32).0 e in absurd (omega (arith, same, least))
+
+no_spaces : (ds rest : List ℕ) → AllDigits 10 ds → 1 ≤ length ds → past_spaces (ds ++ rest) ≡ ds ++ rest
+no_spaces [] rest digits some = absurd (omega (arith, some))
+no_spaces (d ∷ ds) rest digits some = let range = digit_from_value d digits.0 in rw (not_space d range.0) refl
+
+number_begins : (n : ℕ) (rest : List ℕ) → n < 2 ^ 64 → past_spaces (decimal n ++ rest) ≡ decimal n ++ rest
+number_begins n rest small = no_spaces (decimal n) rest (digits_decimal numerals n small) (decimal_nonempty n small)
+
+last_begins : (n : ℕ) → n < 2 ^ 64 → past_spaces (decimal n) ≡ decimal n
+last_begins n small = subst (λ text. past_spaces text ≡ text) (append-nil (decimal n)) (number_begins n [] small)
+
+pub ack_read : (con : ConId) (serial : ℕ) → con.0 < 4294967296 → serial < 18446744073709551616 → client_step_of (ack_text con serial) ≡ Some (Client (Ack con serial))
 ack_read con serial id long =
     rw (
+      number_begins con.0 (codes " " ++ decimal serial) (omega (arith, id)),
       number_read 4294967295 con.0 (codes " " ++ decimal serial) (omega (arith, id)) (omega (arith, id)) refl,
+      last_begins serial (omega (arith, long)),
       last_read 18446744073709551615 serial (omega (arith, long)) (omega (arith, long)),
     ) refl
 
 pub buffer_read : (con : ConId) (size : Size) → con.0 < 4294967296 → size.w ≤ 16384 → size.h ≤ 16384
-    → client_deed_of (buffer_text con size) ≡ Some (deeds.Give con (blue size))
+    → client_step_of (buffer_text con size) ≡ Some (Client (Buffer con (blue size)))
 buffer_read con size id wide high =
+    let sides = decimal size.w ++ (codes "x" ++ decimal size.h) in
     rw (
-      number_read 4294967295 con.0 (codes " 0000ff " ++ (decimal size.w ++ (codes "x" ++ decimal size.h))) (omega (arith, id)) (omega (arith, id)) refl,
+      number_begins con.0 (codes " 0000ff " ++ sides) (omega (arith, id)),
+      number_read 4294967295 con.0 (codes " 0000ff " ++ sides) (omega (arith, id)) (omega (arith, id)) refl,
+      number_begins size.w (codes "x" ++ decimal size.h) (omega (arith, wide)),
       number_read 16384 size.w (codes "x" ++ decimal size.h) wide (omega (arith, wide)) refl,
       last_read 16384 size.h high (omega (arith, high)),
     ) refl
 
-pub close_read : (con : ConId) → con.0 < 4294967296 → client_deed_of (close_text con) ≡ Some (deeds.Close con)
-close_read con id = rw (last_read 4294967295 con.0 (omega (arith, id)) (omega (arith, id))) refl
+pub close_read : (con : ConId) → con.0 < 4294967296 → client_step_of (close_text con) ≡ Some (Close con)
+close_read con id = rw (last_begins con.0 (omega (arith, id)), last_read 4294967295 con.0 (omega (arith, id)) (omega (arith, id))) refl

@@ -2,8 +2,8 @@
 use Rattle.std.specs.Prelude.{ℕ, List, Option, None, codes}
 use Rattle.wm_habits.specs.declared.asking.Asked.{Asked}
 use Rattle.wm_habits.specs.declared.asking.Asked.TheVariants as asked
-use Rattle.wm_script.specs.Fields.{behind, if_end, number_at, or_else, or_none, serial_at, size_at}
-use Rattle.wm_script.specs.Lines.{con_of}
+use Rattle.wm_fields.specs.Fields.{behind, if_end, number_at, or_else, or_none, serial_at, size_at}
+use Rattle.wm_lines.specs.Lines.{con_of}
 
 -- `ID SERIAL SIZE`, to the end of the line
 abbrev pub configure_at : List ℕ → Option Asked

@@ -8,7 +8,7 @@ use Rattle.wm_habits.specs.declared.asking.Asked.{Asked}
 use Rattle.wm_habits.specs.declared.asking.Asked.TheVariants as asked
 use Rattle.wm_habits.specs.declared.habit.Habit.{Habit}
 use Rattle.wm_habits.specs.declared.habit.Habit.TheVariants as habits
-use Rattle.wm_script.specs.Fields.{size_of}
+use Rattle.wm_fields.specs.Fields.{size_of}
 
 -- a window acknowledges the configure of this serial
 abbrev pub ack_text : ConId → ℕ → List ℕ

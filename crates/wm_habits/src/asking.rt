@@ -2,10 +2,10 @@
 ghost use Rattle.std.specs.Prelude.{◌≡◌};
 ghost use Rattle.std.specs.Option.{option_map};
 ghost use Rattle.wm_habits.specs.Asking.{asked_of, configure_at, kill_at};
-ghost use Rattle.wm_script.specs.Fields.{size_at};
+ghost use Rattle.wm_fields.specs.Fields.{size_at};
 
 use wm_base::{ConId, Size};
-use wm_script::{at_end, behind, number, serial};
+use wm_fields::{at_end, behind, number, serial};
 
 /// The greatest side in pixels.
 const MAX_SIDE: u32 = 16384;

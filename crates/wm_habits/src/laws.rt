@@ -10,8 +10,9 @@ ghost use Rattle.wm_habits.specs.Speaking.{hears, Speaking};
 ghost use Rattle.wm_habits.specs.Written.{blue, configure_text, kill_text};
 ghost use Rattle.wm_habits.specs.declared.asking.Asked.TheVariants as asked;
 ghost use Rattle.wm_habits.specs.declared.habit.Habit.{Habit};
-ghost use Rattle.wm_script.specs.Lines.{client_deed_of};
-ghost use Rattle.wm_script.specs.declared.line.Deed.TheVariants as deeds;
+ghost use Rattle.wm_core.specs.declared.client.ClientStep.TheVariants.{Ack, Buffer};
+ghost use Rattle.wm_core.specs.declared.step.Step.TheVariants.{Client, Close};
+ghost use Rattle.wm_lines.specs.Lines.{client_step_of};
 
 /// What a client says to a line, after whatever lines came, is what its habit says to the line that came as many lines
 /// before as the habit is late.
@@ -36,8 +37,8 @@ pub fn what_is_asked_is_read()
 /// The lines that a client says are lines of clients, and do what they say.
 pub fn what_is_said_is_of_clients()
     ensures ack { (con : ConId) → (serial : ℕ) → con.0 < 4294967296 → serial < 18446744073709551616
-        → client_deed_of (ack_text con serial) ≡ Some (deeds.Ack con serial) }
+        → client_step_of (ack_text con serial) ≡ Some (Client (Ack con serial)) }
     ensures buffer { (con : ConId) → (size : Size) → con.0 < 4294967296 → size.w ≤ 16384 → size.h ≤ 16384
-        → client_deed_of (buffer_text con size) ≡ Some (deeds.Give con (blue size)) }
-    ensures close { (con : ConId) → con.0 < 4294967296 → client_deed_of (close_text con) ≡ Some (deeds.Close con) }
+        → client_step_of (buffer_text con size) ≡ Some (Client (Buffer con (blue size))) }
+    ensures close { (con : ConId) → con.0 < 4294967296 → client_step_of (close_text con) ≡ Some (Close con) }
 {}

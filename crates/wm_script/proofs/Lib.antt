@@ -1,6 +1,4 @@
-pub mod FieldLemmas
-pub mod LawLemmas
-pub mod OrderLemmas
-pub mod PropertyLemmas
-pub mod ScriptLemmas
-pub mod TextLemmas
+pub mod KeyLemmas
+pub mod PlayLemmas
+pub mod ReadingLemmas
+pub mod RefusalLemmas

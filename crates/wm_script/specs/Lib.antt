@@ -1,5 +1,5 @@
-pub mod Fields
 pub mod Lines
-pub mod Properties
-pub mod Quoted
+pub mod Out
+pub mod Playing
+pub mod Refusals
 pub mod Script

@@ -1,117 +1,178 @@
--- The script: its lines, and their order.
-use Rattle.std.specs.Prelude.{◌≡◌, ℕ, ◌+◌, ◌==◌, ◌&&◌, ◌||◌, nat_lt, not, All, Bool, true, false, if◌then◌else◌, List, [], ◌∷◌, length, Option, None, Some, Result, Ok, Err, ◌++◌, ◌≤◌}
+-- The script: its lines in their order, and the plan, the bindings and the lines of callers that they give.
+use Rattle.std.specs.Prelude.{◌≡◌, ℕ, ◌+◌, ◌&&◌, ◌||◌, ◌≤◌, Bool, true, false, is_some, if◌then◌else◌, List, [], ◌∷◌, ◌++◌, length, Option, None, Some, Result, Ok, Err, codes}
+use Rattle.std.specs.List.{AllByRecursion, list_any}
+use Rattle.std.specs.Str.{bytes_eq}
+use Rattle.wm_base.specs.declared.errors.NoMemory.{NoMemory}
+use Rattle.wm_base.specs.declared.plan.Border.TheVariants as border
 use Rattle.wm_base.specs.declared.plan.OutputPlan.{OutputPlan}
-use Rattle.wm_layouts.specs.Sizes.{IsFitSize}
-use Rattle.wm_layouts.specs.Plan.{IsFitBorder, IsFitEdges, IsFitOutput, NamesDiffer, is_taken}
-use Rattle.wm_script.specs.Lines.{is_plan_deed, line_of}
+use Rattle.wm_binds.specs.Blocks.{blank_draft, bound, default_mode, listed, with_output}
+use Rattle.wm_binds.specs.Fit.{IsFitDraft}
+use Rattle.wm_binds.specs.declared.config.Bind.{Bind}
+use Rattle.wm_binds.specs.declared.draft.Draft.{Draft}
+use Rattle.wm_binds.specs.declared.draft.LineRefusal.{LineRefusal}
+use Rattle.wm_fields.specs.Split.{lines_of}
+use Rattle.wm_grammar.specs.Reading.{batch_of}
+use Rattle.wm_layouts.specs.Plan.{IsSound, default_outputs}
+use Rattle.wm_layouts.specs.declared.plan.Env.{Env}
+use Rattle.wm_layouts.specs.declared.plan.Plan.{Plan}
+use Rattle.wm_script.specs.Lines.{IsFitDeed, said_of}
+use Rattle.wm_script.specs.declared.line.Line.{Line}
+use Rattle.wm_script.specs.declared.reading.Reading.{Reading}
+use Rattle.wm_script.specs.declared.said.Said.{Said}
+use Rattle.wm_script.specs.declared.said.Said.TheVariants.{Nothing, Version, Output, Border, Inner, Outer, Mode, Bind as Binds, Layout, Does}
+use Rattle.wm_script.specs.declared.script.Script.{Script}
 use Rattle.wm_script.specs.declared.script.ScriptRefusal.{ScriptRefusal}
 use Rattle.wm_script.specs.declared.script.ScriptRefusal.TheVariants as refusals
-use Rattle.wm_script.specs.declared.line.Deed.{Deed}
-use Rattle.wm_script.specs.declared.line.Deed.TheVariants.{Output, Border, Inner, Outer, Map, OutputAdd, Reserve, Give, Run, Tick}
-use Rattle.wm_script.specs.declared.line.Line.{Line}
 
--- ---- lines
+-- ---- the plan
 
-abbrev pub onto_first : ℕ → List (List ℕ) → List (List ℕ)
-onto_first c [] = (c ∷ []) ∷ []
-onto_first c (line ∷ lines) = (c ∷ line) ∷ lines
+-- before the first line: no borders, no gaps, and no outputs of its own
+abbrev pub first_draft : Draft
+first_draft = record blank_draft { border = border.Bare }
 
--- the lines of a text: each is ended by a line feed, the last one's is optional
-abbrev pub lines_of : List ℕ → List (List ℕ)
-lines_of [] = []
-lines_of (c ∷ cs) = if c == 10 then [] ∷ lines_of cs else onto_first c (lines_of cs)
+-- without an output of its own: DP-1 of 1000x800 at 0,0
+abbrev pub or_standard : List OutputPlan → List OutputPlan
+or_standard [] = default_outputs
+or_standard (o ∷ outputs) = o ∷ outputs
 
--- ---- their order
+abbrev pub env_of : Draft → Env
+env_of draft = record { modes = draft.modes; layouts = draft.layouts; homes = draft.homes }
 
--- a line of the plan
-abbrev pub is_plan : Line → Bool
-is_plan line = is_plan_deed line.deed
+abbrev pub plan_of : Draft → Plan
+plan_of draft = record {
+  outputs = or_standard draft.outputs;
+  border = draft.border;
+  inner = draft.inner;
+  outer = draft.outer;
+  env = env_of draft;
+  config = [];
+}
 
--- one of the lines is none of the plan
-abbrev pub has_begun : List Line → Bool
-has_begun [] = false
-has_begun (line ∷ lines) = not (is_plan line) || has_begun lines
+-- ---- what a line adds to the plan
 
-abbrev pub onto_outputs : Deed → List OutputPlan → List OutputPlan
-onto_outputs (Output o) outputs = o ∷ outputs
-onto_outputs other outputs = outputs
+abbrev pub where_done : Result Draft LineRefusal → Option Draft
+where_done (Ok draft) = Some draft
+where_done (Err e) = None
 
--- the outputs that lines give the plan
-abbrev pub outputs_in : List Line → List OutputPlan
-outputs_in [] = []
-outputs_in (line ∷ lines) = onto_outputs line.deed (outputs_in lines)
+-- the mode is the default one, or was listed before
+abbrev pub is_mode : Draft → List ℕ → Bool
+is_mode draft mode = bytes_eq mode default_mode || list_any (bytes_eq mode) draft.modes
 
--- there are fewer than eight outputs, and none has the name of this one
-abbrev pub is_another : OutputPlan → List OutputPlan → Bool
-is_another o outputs = nat_lt (length outputs) 8 && not (is_taken o.name outputs)
+-- a command that reads, in a mode that is there, is bound to the chord
+abbrev pub bound_in : Draft → List ℕ → List ℕ → List ℕ → Option Draft
+bound_in draft mode chord text = if is_mode draft mode && is_some (batch_of text) then Some (bound draft mode chord text) else None
 
--- what a line does may stand behind these: those of the plan come first, and outputs have names of their own and are at
--- most eight
-abbrev pub deed_may_follow : List Line → Deed → Bool
-deed_may_follow before (Output o) = not (has_begun before) && is_another o (outputs_in before)
-deed_may_follow before deed = not (has_begun before && is_plan_deed deed)
+-- what the lines gave the plan, with one more line of the plan, where that may be
+abbrev pub drafted : Draft → Said → Option Draft
+drafted draft (Output o) = where_done (with_output draft o)
+drafted draft (Border b) = Some (record draft { border = b })
+drafted draft (Inner n) = Some (record draft { inner = n })
+drafted draft (Outer n) = Some (record draft { outer = n })
+drafted draft (Mode name) = Some (listed draft name)
+drafted draft (Binds mode chord text) = bound_in draft mode chord text
+drafted draft (Layout name layout) = Some (record draft { layouts = draft.layouts ++ (name, layout) ∷ [] })
+drafted draft other = None
 
-abbrev pub may_follow : List Line → Line → Bool
-may_follow before line = deed_may_follow before line.deed
+-- ---- the order of lines
 
--- what a line says behind these lines, where it may stand there
-abbrev pub in_order : List Line → Option Line → Option Line
-in_order before None = None
-in_order before (Some line) = if may_follow before line then Some line else None
+-- before the first line
+abbrev pub at_first : Reading
+at_first = record { opened = false; begun = false; draft = first_draft; lines = [] }
+
+-- the plan with one more line, which stands before what callers do
+abbrev pub planned : Reading → Option Draft → Option Reading
+planned reading None = None
+planned reading (Some draft) = if reading.begun then None else Some (record reading { opened = true; draft = draft })
+
+-- what was read with one more line, where that may stand there: the version is the first that says something, and the plan comes before what callers do
+abbrev pub with_said : Reading → Said → Option Reading
+with_said reading Nothing = Some reading
+with_said reading Version = if reading.opened then None else Some (record reading { opened = true })
+with_said reading (Does line) = Some (record reading { opened = true; begun = true; lines = reading.lines ++ line ∷ [] })
+with_said reading other = planned reading (drafted reading.draft other)
+
+-- a line was taken where it may stand there, and else it was not
+abbrev pub IsTaken : {A : Type 0} → Option A → A → Result Bool NoMemory → Type 0
+IsTaken d new (Ok true) = d ≡ Some new
+IsTaken d new (Ok false) = d ≡ None
+IsTaken d new (Err e) = Unit {0}
+
+abbrev pub with_text_said : Reading → Option Said → Option Reading
+with_text_said reading None = None
+with_text_said reading (Some said) = with_said reading said
+
+-- what was read with a line of this text; None where the line is outside the grammar
+abbrev pub with_text : Reading → List ℕ → Option Reading
+with_text reading text = with_text_said reading (said_of text)
 
 -- ---- the script
 
-abbrev pub read_from : Option Line → ℕ → (Line → Result (List Line) ℕ) → Result (List Line) ℕ
-read_from None n rest = Err n
-read_from (Some line) n rest = rest line
+abbrev pub script_of : Reading → Script
+script_of reading = record { plan = plan_of reading.draft; binds = reading.draft.binds; lines = reading.lines }
 
--- the script that begins with these lines and goes on with what the texts say, or the number of the first of them
--- outside the grammar
-abbrev pub script_from : List Line → List (List ℕ) → Result (List Line) ℕ
-script_from before [] = Ok before
-script_from before (text ∷ texts) = read_from (in_order before (line_of text)) (length before + 1) (λ line. script_from (before ++ line ∷ []) texts)
+abbrev pub go_on : ℕ → Option Reading → (Reading → Result Script ℕ) → Result Script ℕ
+go_on line None rest = Err line
+go_on line (Some reading) rest = rest reading
+
+-- what is read of texts behind so many lines, or the number of the first of them outside the grammar
+abbrev pub script_from : ℕ → Reading → List (List ℕ) → Result Script ℕ
+script_from count reading [] = Ok (script_of reading)
+script_from count reading (text ∷ texts) = go_on (count + 1) (with_text reading text) (λ next. script_from (count + 1) next texts)
 
 -- the script that bytes are, or the number of the first line outside the grammar, counted from 1
-abbrev pub script : List ℕ → Result (List Line) ℕ
-script bytes = script_from [] (lines_of bytes)
-
--- a line's output, border, gap, buffer and edges are within the limits, its command text is within the size of an input, and
--- what it tells all has at most 4,096 bytes
-abbrev pub IsFitDeed : Deed → Type 0
-IsFitDeed (Output o) = IsFitOutput o
-IsFitDeed (Border b) = IsFitBorder b
-IsFitDeed (Inner n) = n ≤ 1000
-IsFitDeed (Outer n) = n ≤ 1000
-IsFitDeed (Map props buffer) = IsFitSize buffer.size
-IsFitDeed (Give con buffer) = IsFitSize buffer.size
-IsFitDeed (OutputAdd o) = IsFitEdges o.reserved
-IsFitDeed (Reserve name edges) = IsFitEdges edges
-IsFitDeed (Run text) = length text ≤ 16777216
-IsFitDeed (Tick text) = length text ≤ 4096
-IsFitDeed other = Unit {0}
-
-abbrev pub IsFitLine : Line → Type 0
-IsFitLine line = IsFitDeed line.deed
-
--- lines are within the limits, and the outputs that they give the plan are at most eight, with names of their own
-pub record IsSoundScript (lines : List Line) : Type 0 where
-  pub fit : All IsFitLine lines
-  pub few : length (outputs_in lines) ≤ 8
-  pub names : NamesDiffer (outputs_in lines)
+abbrev pub script : List ℕ → Result Script ℕ
+script bytes = script_from 0 at_first (lines_of bytes)
 
 -- why bytes are no script
 abbrev pub IsRefused : List ℕ → ScriptRefusal → Type 0
 IsRefused bytes (refusals.BadLine line) = script bytes ≡ Err line
 IsRefused bytes refusals.NoMemory = Unit {0}
 
--- the line of this number, counted from 1, is the first of these outside the grammar: those before it are a script,
--- and behind that it says nothing that may stand there
+-- ---- limits
+
+abbrev pub IsFitLine : Line → Type 0
+IsFitLine line = IsFitDeed line.deed
+
+abbrev pub IsFitBind : Bind → Type 0
+IsFitBind bind = length bind.text ≤ 16777216
+
+-- the plan is sound, and the texts and steps are within the limits
+pub record IsFitScript (s : Script) : Type 0 where
+  pub plan : IsSound s.plan
+  pub binds : AllByRecursion IsFitBind s.binds
+  pub lines : AllByRecursion IsFitLine s.lines
+
+-- so it is of what was read so far
+pub record IsFitReading (r : Reading) : Type 0 where
+  pub draft : IsFitDraft r.draft
+  pub binds : AllByRecursion IsFitBind r.draft.binds
+  pub lines : AllByRecursion IsFitLine r.lines
+
+-- ---- the first bad line
+
+abbrev pub reading_on : Option Reading → (Reading → Option Reading) → Option Reading
+reading_on None rest = None
+reading_on (Some reading) rest = rest reading
+
+-- what is read of texts; None where one is outside the grammar
+abbrev pub reading_from : Reading → List (List ℕ) → Option Reading
+reading_from reading [] = Some reading
+reading_from reading (text ∷ texts) = reading_on (with_text reading text) (λ next. reading_from next texts)
+
+-- the line of this number, counted from 1, is the first of these outside the grammar: those before it are a script, and behind
+-- them it says nothing that may stand there
 pub record IsFirstBad (texts : List (List ℕ)) (line : ℕ) : Type 0 where
   pub before : List (List ℕ)
   pub text : List ℕ
   pub later : List (List ℕ)
   pub whole : texts ≡ before ++ text ∷ later
   pub counted : line ≡ length before + 1
-  pub lines : List Line
-  pub said : script_from [] before ≡ Ok lines
-  pub bad : in_order lines (line_of text) ≡ None
+  pub reading : Reading
+  pub said : reading_from at_first before ≡ Some reading
+  pub bad : with_text reading text ≡ None
+
+-- the fact, where a line was taken
+abbrev pub OnTaken : Result Bool NoMemory → Type 0 → Type 0
+OnTaken (Ok true) fact = fact
+OnTaken (Ok false) fact = Unit {0}
+OnTaken (Err e) fact = Unit {0}

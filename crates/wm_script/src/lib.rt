@@ -1,21 +1,24 @@
-//! Scripts: what their lines say, and in which order they may stand.
+//! Scripts: what their lines say, in which order they stand, and how a line is played on a desk.
 #![tactic(auto)]
 
-mod client_lines;
-mod clients;
-mod fields;
+mod answers;
+mod deed_lines;
+mod drafting;
+mod keys;
 mod laws;
 mod line;
-mod output_lines;
+mod looks;
 mod plan_lines;
-mod properties;
-mod quoted;
+mod playing;
+mod reading;
+mod refused;
+mod said;
 mod script;
-mod window_lines;
+mod texts;
 
-pub use clients::read_client_line;
-pub use fields::{at_end, behind, coordinate, number, serial, size};
+pub use answers::answer_text;
 pub use laws::{bad_line_is_first, script_is_its_lines};
 pub use line::{Deed, Line};
-pub use quoted::{quoted_text, short_text};
-pub use script::{ScriptRefusal, first_line, read_script};
+pub use playing::{Played, play};
+pub use refused::Refused;
+pub use script::{Script, ScriptRefusal, read_script};

@@ -1,4 +1,5 @@
 -- Clients, timers and painters run no texts.
+use Rattle.std.specs.Option.{option_map}
 use Rattle.std.proofs.Common.{◌≡◌, ◌∙◌, refl, sym, ap, ap₂, ℕ, nat_le, Bool, true, false, if◌then◌else◌, List, [], ◌∷◌, ◌++◌, length, Option, None, Some}
 use Rattle.wm_actors.specs.Due.{due}
 use Rattle.wm_actors.specs.Paints as paints
@@ -7,17 +8,17 @@ use Rattle.wm_actors.specs.declared.ending.ActorEnd.TheVariants as end
 use Rattle.wm_clients.specs.Lines.{LONGEST, line_act}
 use Rattle.wm_clients.specs.Served.{Leaves}
 use Rattle.wm_clients.specs.Walk.{FitsClient, IsNextStep, walk}
-use Rattle.wm_core.specs.Act.{Act}
+use Rattle.wm_core.specs.Act.{Act, act_of}
 use Rattle.wm_core.specs.History.{Entry, History, Start}
 use Rattle.wm_core.specs.Passes.{Begins, Pass}
 use Rattle.wm_core.specs.declared.asked.Asked.{Asked}
 use Rattle.wm_core.specs.declared.asked.Asked.TheVariants as asked
 use Rattle.wm_core.specs.declared.look.Query.TheVariants as query
-use Rattle.wm_lines.specs.Lines.{act_in, client_act}
-use Rattle.wm_script.specs.Fields.{or_none}
-use Rattle.wm_script.specs.Lines.{client_deed_of}
-use Rattle.wm_script.specs.declared.line.Deed.{Deed}
-use Rattle.wm_script.specs.declared.line.Deed.TheVariants as deed
+use Rattle.wm_core.specs.declared.client.ClientStep.TheVariants as client
+use Rattle.wm_core.specs.declared.step.Step.{Step}
+use Rattle.wm_core.specs.declared.step.Step.TheVariants as step
+use Rattle.wm_fields.specs.Fields.{or_none}
+use Rattle.wm_lines.specs.Lines.{client_act, is_client_step, step_line_of}
 use Rattle.wm_session.specs.Places.{entry_at}
 use Rattle.wm_turn.specs.History.{wrote}
 use Rattle.wm_turn.specs.declared.view.Mark.{Mark}
@@ -36,41 +37,25 @@ abbrev text_of_some : Option Act → List (List ℕ)
 text_of_some None = []
 text_of_some (Some a) = text_in a
 
-deed_silent : (d : Deed) → text_of_some (act_in d) ≡ []
-deed_silent (deed.Output o) = refl
-deed_silent (deed.Border b) = refl
-deed_silent (deed.Inner n) = refl
-deed_silent (deed.Outer n) = refl
-deed_silent (deed.Map props buffer) = refl
-deed_silent (deed.Retitle con title) = refl
-deed_silent (deed.Urgent con on) = refl
-deed_silent (deed.Close con) = refl
-deed_silent deed.Gone = refl
-deed_silent (deed.OutputAdd plan) = refl
-deed_silent (deed.OutputRemove name) = refl
-deed_silent (deed.Reserve name edges) = refl
-deed_silent (deed.Ack con serial) = refl
-deed_silent (deed.Give con buffer) = refl
-deed_silent (deed.Deadline number) = refl
-deed_silent (deed.Run text) = refl
-deed_silent (deed.Tick text) = refl
-deed_silent deed.Paint = refl
-deed_silent deed.Tree = refl
-deed_silent deed.Workspaces = refl
-deed_silent deed.Outputs = refl
-deed_silent deed.Marks = refl
-deed_silent (deed.Wants serial kill) = refl
+step_silent : (s : Step) → text_of_some (option_map act_of (if is_client_step s then Some s else None)) ≡ []
+step_silent (step.Map props buffer None) = refl
+step_silent (step.Retitle con title) = refl
+step_silent (step.Urgent con on) = refl
+step_silent (step.Close con) = refl
+step_silent (step.Client (client.Ack con serial)) = refl
+step_silent (step.Client (client.Buffer con buffer)) = refl
+step_silent other = refl
 
-deeds_silent : (o : Option Deed) → text_of_some (or_none o act_in) ≡ []
-deeds_silent None = refl
-deeds_silent (Some d) = deed_silent d
+steps_silent : (o : Option Step) → text_of_some (option_map act_of (or_none o (λ s. if is_client_step s then Some s else None))) ≡ []
+steps_silent None = refl
+steps_silent (Some s) = step_silent s
 
 if_silent : (b : Bool) (o : Option Act) → text_of_some o ≡ [] → text_of_some (if b then o else None) ≡ []
 if_silent true o silent = silent
 if_silent false o silent = refl
 
 line_silent : (line : List ℕ) (a : Act) → line_act line ≡ Some a → text_in a ≡ []
-line_silent line a is = ap text_of_some (sym is) ∙ if_silent (nat_le (length line) LONGEST) (client_act line) (deeds_silent (client_deed_of line))
+line_silent line a is = ap text_of_some (sym is) ∙ if_silent (nat_le (length line) LONGEST) (client_act line) (steps_silent (step_line_of line))
 
 next_silent : (lines : List (List ℕ)) (entry : Option Entry) → IsNextStep lines entry → text_at entry ≡ []
 next_silent [] entry none = absurd none

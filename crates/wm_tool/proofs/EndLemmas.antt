@@ -9,7 +9,7 @@ use Rattle.wm_ports.specs.declared.whole.ReadFault.TheVariants as faults
 use Rattle.wm_tool.specs.declared.words.Command.{Command}
 use Rattle.wm_tool.specs.Ending.{HasWritten, ending_of, texts_in}
 use Rattle.wm_tool.specs.Status.{of_read}
-use Rattle.wm_tool.specs.declared.status.Refused.{Refused}
+use Rattle.wm_script.specs.declared.refused.Refused.{Refused}
 use Rattle.wm_tool.specs.declared.status.Status.{Status}
 use Rattle.wm_tool.proofs.RunLemmas.{nothing_backed}
 
@@ -22,7 +22,7 @@ unread_written : (c : Command) (log : Log) (fault : ReadFault) (rest t : Option 
 unread_written c log fault None t = tt
 unread_written c log faults.Failed (Some bytes) t = refl
 unread_written c log (faults.TooLarge read) (Some bytes) t = refl
-unread_written c log faults.NoMemory (Some bytes) t = ([], nothing_backed (texts_in c bytes) log, nothing_taken t _)
+unread_written c log faults.NoMemory (Some bytes) t = ([], nothing_backed (texts_in c bytes []) log, nothing_taken t _)
 
 -- a run that could not read its input wrote nothing
 pub unread_ended : (c : Command) (log : Log) (fault : ReadFault) (rest t : Option (List ℕ)) (r : Result (List Refused) Status) → IsErrAnd r (λ s. s ≡ of_read fault)

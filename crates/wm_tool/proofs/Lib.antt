@@ -1,9 +1,8 @@
-pub mod DrawEnds
 pub mod DrawLemmas
 pub mod EndLemmas
 pub mod FramesLemmas
 pub mod LineLemmas
 pub mod MessageLemmas
-pub mod PlanLemmas
 pub mod RefusalLemmas
 pub mod RunLemmas
+pub mod ScriptEnds

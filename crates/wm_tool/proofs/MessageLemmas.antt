@@ -13,11 +13,11 @@ use Rattle.wm_talk.specs.declared.calls.Call.{Call}
 use Rattle.wm_talk.specs.declared.calls.Call.TheVariants as call
 use Rattle.wm_talk.specs.declared.got.Got.TheVariants as got
 use Rattle.wm_talk.specs.declared.talk.Talk.{Talk}
-use Rattle.wm_tool.specs.declared.status.Refused.{Refused}
+use Rattle.wm_script.specs.Refusals.{IsRising, refusal_at}
+use Rattle.wm_script.specs.declared.refused.Refused.{Refused}
 use Rattle.wm_tool.specs.Ipc.{after_call, after_message, call_step, got_of, message_step, message_texts, replies_from, said, said_with, talk_after, talk_with}
 use Rattle.wm_tool.specs.Planning.{IsPlain}
 use Rattle.wm_tool.specs.Output.{start}
-use Rattle.wm_tool.specs.Refusals.{IsRising, refusal_at}
 use Rattle.wm_tool.specs.Running.{Leads, Notes, Plays, Stops}
 use Rattle.wm_tool.proofs.RefusalLemmas.{refusal_before}
 use Rattle.wm_tool.proofs.RunLemmas.{stops_step, plays_led, run_same}
@@ -55,28 +55,30 @@ same_said m t rs more h rising = ap₂ (said_with start m t) (same_got start (ca
 same_talk : (m : Message) (t : Talk) (rs more : List Refused) (h : History) → IsRising (length (after_message m rs h)) more → talk_after start m t (rs ++ more) h ≡ talk_after start m t rs h
 same_talk m t rs more h rising = ap₂ (talk_with start m t) (same_got start (call_of m) rs more h rising) (same_after (call_of m) rs more h rising)
 
-module _ (old now : Option (List ℕ)) (desk : DeskValue) (before after_refused : List Refused) (piece : List ℕ) (whole : List Refused → List ℕ) (texts : List (Option (List ℕ)))
+module _ (old now : Option (List ℕ)) (desk : DeskValue) (before after_refused : List Refused) (piece : List ℕ) (whole : List Refused → List ℕ) (texts : List Refused → List (Option (List ℕ)))
     (first l1 l2 : Log) (t : Talk) (m : Message) (queue others : List Message) (is : queue ≡ m ∷ others)
-    (p : Plays old now desk before piece (replies_from (Some t) queue) whole texts (message_texts queue) first l1)
+    (p : Plays old now desk before piece (replies_from (Some t) queue) whole (λ rs h. message_texts queue) texts first l1)
     (notes : Notes desk.steps (message_step m) before after_refused l1 l2)
   where
-    first_message : Plays old now desk before piece (replies_from (Some t) (m ∷ others)) whole texts (message_step m ++ message_texts others) first l1
-    first_message = subst (λ ms. Plays old now desk before piece (replies_from (Some t) ms) whole texts (message_texts ms) first l1) is p
+    first_message : Plays old now desk before piece (replies_from (Some t) (m ∷ others)) whole (λ rs h. message_step m ++ message_texts others) texts first l1
+    first_message = subst (λ ms. Plays old now desk before piece (replies_from (Some t) ms) whole (λ rs h. message_texts ms) texts first l1) is p
 
-    pub stops_message : Stops old now whole after_refused texts first l2
+    pub stops_message : Stops old now whole texts first l2
     stops_message =
-        stops_step old now desk before after_refused piece (after_message m) (said start m t) (replies_from (Some t) (m ∷ others)) (replies_from (Some t) others) whole texts (message_step m) (message_texts others) first l1 l2
-        (longer (call_of m)) first_message notes
+        stops_step old now desk before after_refused piece (after_message m) (said start m t) (replies_from (Some t) (m ∷ others)) (replies_from (Some t) others) whole
+        (λ h. message_step m) (λ rs h. message_step m ++ message_texts others) (λ rs h. message_texts others) texts first l1 l2
+        (longer (call_of m)) (λ rs h. refl) first_message notes
 
     pub plays_message : (next : DeskValue) (later : Option Talk) (text : List ℕ) → IsPlain desk.plan
         → (refusal_at desk.steps before ≡ None → Leads desk next (after_message m after_refused) (said (opening_of desk.plan) m t after_refused) piece text)
         → (refusal_at desk.steps before ≡ None → (h : History) → Stands desk h → later ≡ talk_after (opening_of desk.plan) m t after_refused h)
-        → next.steps ≡ desk.steps + length (message_step m) → Plays old now next after_refused text (replies_from later others) whole texts (message_texts others) first l2
+        → next.steps ≡ desk.steps + length (message_step m) → Plays old now next after_refused text (replies_from later others) whole (λ rs h. message_texts others) texts first l2
     plays_message next later text plan leads talks moved =
         let h = first_message.runs.history in
         let opens = opens desk plan in
-        plays_led old now desk before after_refused piece (after_message m) (said start m t) (replies_from (Some t) (m ∷ others)) (replies_from later others) whole texts (message_step m) (message_texts others) first l1 l2
-        (longer (call_of m)) first_message notes
+        plays_led old now desk before after_refused piece (after_message m) (said start m t) (replies_from (Some t) (m ∷ others)) (replies_from later others) whole
+        (λ h. message_step m) (λ rs h. message_step m ++ message_texts others) (λ rs h. message_texts others) texts first l1 l2
+        (longer (call_of m)) (λ rs h. refl) first_message notes
         next text
         (λ more rising.
         let rs = after_refused ++ more in

@@ -7,18 +7,23 @@ use Rattle.std.proofs.lemmas.Bool.{eqb-true}
 use Rattle.std.proofs.lemmas.Bool.Decides.{Decides-eqb}
 use Rattle.std.proofs.lemmas.List.{append-nil}
 use Rattle.std.proofs.lemmas.Grind.{flat_map-append}
-use Rattle.wm_txn.specs.Commits.{greatest}
 use Rattle.wm_criteria.specs.Building.{Grew, Log}
 use Rattle.wm_criteria.specs.Patterns.{pattern_at, patterns_of, unless_plain}
 use Rattle.wm_criteria.specs.Verdict.{IsVerdict, refused_patterns}
 use Rattle.wm_criteria.specs.declared.verdict.Verdict.{Verdict}
 use Rattle.wm_criteria.specs.declared.verdict.Verdict.TheVariants.{Ready, Bad, PatternRefused}
 use Rattle.wm_criteria.proofs.BuildingLemmas.{grew_both}
-use Rattle.wm_grammar.specs.Reading.{batch_of, groups_of, is_whole, IsReach}
-use Rattle.wm_language.specs.declared.batch.Group.{Group}
-use Rattle.wm_tool.specs.declared.status.Refused.{Refused}
-use Rattle.wm_tool.specs.Refusals.{IsRefusable, IsRising, pattern_in, patterns_in, reach, refusal_at, text_at, verdict_by, verdict_of}
-use Rattle.wm_tool.specs.Running.{Backs, IsBackedTo, Notes, fresh}
+use Rattle.wm_grammar.specs.Reading.{batch_of, groups_of}
+use Rattle.wm_binds.specs.declared.config.Bind.{Bind}
+use Rattle.wm_core.specs.History.{History, Start, mode}
+use Rattle.wm_script.proofs.RefusalLemmas.{reach_is, reads_pattern}
+use Rattle.wm_script.specs.Out.{bound_text, last_bind, text_of_step, text_run, texts_run}
+use Rattle.wm_script.specs.Playing.{IsRefusal, pattern_of}
+use Rattle.wm_script.specs.Refusals.{IsBacked, IsRefusable, IsRising, pattern_in, patterns_in, refusal_at, text_at, verdict_by, verdict_of}
+use Rattle.wm_script.specs.declared.line.Deed.{Deed}
+use Rattle.wm_script.specs.declared.line.Deed.TheVariants as deed
+use Rattle.wm_script.specs.declared.refused.Refused.{Refused}
+use Rattle.wm_tool.specs.Running.{Backs, IsBackedTo, Notes, fresh, noted_at}
 
 -- ---- places
 
@@ -75,43 +80,6 @@ refusal_same n (r ∷ rs) more rising = by_place (eqb r.place n) r.pattern (refu
 
 -- ---- verdicts
 
-greatest_step : (b : Bool) (m n : ℕ) (rest : ℕ) → (n ≡ suc m → b ≡ true) → (n < suc m → b ≡ false) → n ≤ suc m → (n ≤ m → rest ≡ n) → cond b (suc m) rest ≡ n
-greatest_step true m n rest here above within before = by_case (b_or n m within)
-  where
-    b_or : (n m : ℕ) → n ≤ suc m → (n ≡ suc m) ⊎ (n < suc m)
-    b_or zero m h = inr (omega arith)
-    b_or (suc n) zero h = inl (omega (arith, h))
-    b_or (suc n) (suc m) h = elim (b_or n m (omega (arith, h))) [ inl e ↦ inl (ap (λ k. suc k) e) | inr l ↦ inr (omega (arith, l)) ]
-
-    by_case : (n ≡ suc m) ⊎ (n < suc m) → suc m ≡ n
-    by_case (inl e) = sym e
-    by_case (inr l) = let bad : true ≡ false = above l in cc
-greatest_step false m n rest here above within before = before (by_less n m within (λ e. let bad : false ≡ true = here e in cc))
-  where
-    by_less : (n m : ℕ) → n ≤ suc m → (n ≡ suc m → ⊥) → n ≤ m
-    by_less zero m h not = omega arith
-    by_less (suc n) zero h not = absurd (not (omega (arith, h)))
-    by_less (suc n) (suc m) h not = let less : n ≤ m = by_less n m (omega (arith, h)) (λ e. not (ap (λ k. suc k) e)) in omega (arith, less)
-
-greatest_is : (test : ℕ → Bool) (m n : ℕ) → n ≤ m → test n ≡ true → ((k : ℕ) → n < k → k ≤ m → test k ≡ false) → greatest test m ≡ n
-greatest_is test zero n within holds above = omega (arith, within)
-greatest_is test (suc m) n within holds above =
-    greatest_step (test (suc m)) m n (greatest test m) (λ e. ap test (sym e) ∙ holds) (λ less. above (suc m) less (omega arith)) within
-    (λ less. greatest_is test m n less holds (λ k more most. above k more (omega (arith, most))))
-
-reach_is : (text : List ℕ) (n : ℕ) → IsReach text n → n ≡ reach text
-reach_is text n r = sym (greatest_is (λ k. is_whole (take k text)) (length text) n r.within r.whole r.greatest)
-
-no_pattern : (text : List ℕ) (k : ℕ) → groups_of text ≡ None → IsTrue (is_some (unless_plain (pattern_at text k))) → ⊥
-no_pattern text k e refusable =
-    let none : pattern_at text k ≡ None = ap (λ gs. option_and_then (λ g. slice_get (patterns_of g) k) gs) e in
-    let bad : false ≡ true = subst (λ o. IsTrue (is_some (unless_plain o))) none refusable in
-    cc
-
-reads_pattern : (text : List ℕ) (k : ℕ) (gs : Option (List Group)) → groups_of text ≡ gs → IsTrue (is_some (unless_plain (pattern_at text k))) → verdict_by (batch_of text) (Some k) text ≡ PatternRefused k
-reads_pattern text k None e refusable = absurd (no_pattern text k e refusable)
-reads_pattern text k (Some gs) e refusable = ap (λ x. verdict_by (option_map (λ g. record { groups = g }) x) (Some k) text) e
-
 same_place : (n : ℕ) → eqb n n ≡ true
 same_place n = (Decides-eqb n n).1 refl
 
@@ -126,10 +94,6 @@ verdict_is n before text (Bad at) none is =
 verdict_is n before text (PatternRefused k) none is =
     ap (λ r. verdict_by (batch_of text) r text) (refusal_append n before (fresh n (PatternRefused k)) none ∙ fresh_refusal n k) ∙ reads_pattern text k (groups_of text) refl is
 
--- later refusals do not change it
-pub verdict_same : (n : ℕ) (refused more : List Refused) (text : List ℕ) → IsRising (suc n) more → verdict_of (refused ++ more) n text ≡ verdict_of refused n text
-verdict_same n refused more text rising = ap (λ r. verdict_by (batch_of text) r text) (refusal_same n refused more rising)
-
 -- ---- what is backed
 
 all_push : {A : Type 0} (P : A → Type 0) (xs : List A) (x : A) → AllByRecursion P xs → P x → AllByRecursion P (xs ++ x ∷ [])
@@ -140,24 +104,57 @@ below_weaker : (n m : ℕ) (rs : List Refused) → n ≤ m → AllByRecursion (�
 below_weaker n m [] less all = tt
 below_weaker n m (r ∷ rs) less all = (omega (arith, less, all.0), below_weaker n m rs less all.1)
 
-text_of_drop : (n : ℕ) (texts later : List (Option (List ℕ))) (text : List ℕ) → drop n texts ≡ Some text ∷ later → text_at texts n ≡ Some text
-text_of_drop zero [] later text e = cc
-text_of_drop zero (x ∷ xs) later text e = cc
-text_of_drop (suc n) [] later text e = cc
-text_of_drop (suc n) (x ∷ xs) later text e = text_of_drop n xs later text e
+-- what stands behind changes no text before it
+text_front : (past xs : List (Option (List ℕ))) (n : ℕ) → n < length past → text_at (past ++ xs) n ≡ text_at past n
+text_front [] xs n less = absurd (omega (arith, less))
+text_front (x ∷ past) xs zero less = refl
+text_front (x ∷ past) xs (suc n) less = text_front past xs n (omega (arith, less))
+
+text_end : (past : List (Option (List ℕ))) (text : Option (List ℕ)) → text_at (past ++ text ∷ []) (length past) ≡ text
+text_end [] text = by text
+  where
+    by : (o : Option (List ℕ)) → text_at (o ∷ []) 0 ≡ o
+    by None = refl
+    by (Some t) = refl
+text_end (x ∷ past) text = text_end past text
+
+pattern_front : (past xs : List (Option (List ℕ))) (r : Refused) → r.place < length past → pattern_in (past ++ xs) r ≡ pattern_in past r
+pattern_front past xs r less = ap (λ o. option_and_then (λ t. pattern_at t r.pattern) o) (text_front past xs r.place less)
+
+fair_front : (n : ℕ) (past xs : List (Option (List ℕ))) (rs : List Refused) → n ≡ length past → AllByRecursion (λ (r : Refused). r.place < n) rs → AllByRecursion (IsRefusable past) rs → AllByRecursion (IsRefusable (past ++ xs)) rs
+fair_front n past xs [] at below fair = tt
+fair_front n past xs (r ∷ rs) at below fair = (
+  subst (λ o. IsTrue (is_some (unless_plain o))) (sym (pattern_front past xs r (omega (arith, at, below.0)))) fair.0,
+  fair_front n past xs rs at below.1 fair.1,
+)
+
+patterns_front : (n : ℕ) (past xs : List (Option (List ℕ))) (rs : List Refused) → n ≡ length past → AllByRecursion (λ (r : Refused). r.place < n) rs → patterns_in (past ++ xs) rs ≡ patterns_in past rs
+patterns_front n past xs [] at below = refl
+patterns_front n past xs (r ∷ rs) at below =
+    ap (λ o. option_to_list o ++ patterns_in (past ++ xs) rs) (pattern_front past xs r (omega (arith, at, below.0)))
+    ∙ ap (λ ps. option_to_list (pattern_in past r) ++ ps) (patterns_front n past xs rs at below.1)
+
+-- refusals that are backed are so whatever steps come behind
+pub backed_more : (n : ℕ) (past xs : List (Option (List ℕ))) (rs : List Refused) (old new : Log) → n ≡ length past → IsBackedTo n past rs old new → IsBacked (past ++ xs) rs old new
+backed_more n past xs rs old new at b = record {
+  rising = b.backed.rising;
+  fair = fair_front n past xs rs at b.below b.backed.fair;
+  grew = subst (Grew old new) (sym (patterns_front n past xs rs at b.below)) b.backed.grew;
+}
 
 -- steps that refuse nothing keep what is backed
 pub keeps_noted : (place : ℕ) (steps : List (Option (List ℕ))) (before after : List Refused) (old new : Log) → after ≡ before → Grew old new [] → Notes place steps before after old new
 keeps_noted place steps before after old new same grew = record {
   grown = inl same;
-  backed = λ texts later first ahead b.
-      subst (λ rs. IsBackedTo (place + length steps) texts rs first new) (sym same)
+  backed = λ past first at b.
+      let more = backed_more place past steps before first old at b in
+      subst (λ rs. IsBackedTo (place + length steps) (past ++ steps) rs first new) (sym same)
       record {
         below = below_weaker place (place + length steps) before (omega arith) b.below;
         backed = record {
-          rising = b.backed.rising;
-          fair = b.backed.fair;
-          grew = subst (Grew first new) (append-nil (patterns_in texts before)) (grew_both first old new (patterns_in texts before) [] b.backed.grew grew);
+          rising = more.rising;
+          fair = more.fair;
+          grew = subst (Grew first new) (append-nil (patterns_in (past ++ steps) before)) (grew_both first old new (patterns_in (past ++ steps) before) [] more.grew grew);
         };
       };
 }
@@ -168,28 +165,66 @@ module _ (place k : ℕ) (text : List ℕ) (before : List Refused) (old new : Lo
     abbrev pub r : Refused
     r = record { place = place; pattern = k }
 
-    pattern_is : (texts later : List (Option (List ℕ))) → drop place texts ≡ Some text ∷ later → pattern_in texts r ≡ pattern_at text k
-    pattern_is texts later ahead = ap (λ o. option_and_then (λ x. pattern_at x k) o) (text_of_drop place texts later text ahead)
+    pattern_is : (past : List (Option (List ℕ))) → place ≡ length past → pattern_in (past ++ Some text ∷ []) r ≡ pattern_at text k
+    pattern_is past at = ap (λ o. option_and_then (λ x. pattern_at x k) o) (ap (λ n. text_at (past ++ Some text ∷ []) n) at ∙ text_end past (Some text))
 
     pub backs_refusal : Backs place (Some text ∷ []) before (before ++ r ∷ []) old new
-    backs_refusal = λ texts later first ahead b.
-        let pattern = pattern_is texts later ahead in
+    backs_refusal = λ past first at b.
+        let texts : List (Option (List ℕ)) = past ++ Some text ∷ [] in
+        let pattern = pattern_is past at in
+        let more = backed_more place past (Some text ∷ []) before first old at b in
         record {
           below = all_push (λ (q : Refused). q.place < place + 1) before r (below_weaker place (place + 1) before (omega arith) b.below) (omega arith);
           backed = record {
             rising = rising_push 0 before r (omega arith) b.below b.backed.rising;
-            fair = all_push (IsRefusable texts) before r b.backed.fair (subst (λ o. IsTrue (is_some (unless_plain o))) (sym pattern) refusable);
+            fair = all_push (IsRefusable texts) before r more.fair (subst (λ o. IsTrue (is_some (unless_plain o))) (sym pattern) refusable);
             grew = subst (Grew first new) (sym (flat_map-append (λ q. option_to_list (pattern_in texts q)) before (r ∷ []) ∙ ap (λ xs. patterns_in texts before ++ xs) (append-nil (option_to_list (pattern_in texts r)) ∙ ap option_to_list pattern)))
-                (grew_both first old new (patterns_in texts before) (option_to_list (pattern_at text k)) b.backed.grew grew);
+                (grew_both first old new (patterns_in texts before) (option_to_list (pattern_at text k)) more.grew grew);
           };
         }
+
+noted : (place : ℕ) (text : List ℕ) (k : ℕ) (before after : List Refused) (old new : Log) → IsTrue (is_some (unless_plain (pattern_at text k))) → Grew old new (option_to_list (pattern_at text k))
+    → after ≡ before ++ noted_at place (Some k) → Notes place (Some text ∷ []) before after old new
+noted place text k before after old new refusable grew grown = record {
+  grown = inr (record { place = place; pattern = k }, refl, grown, omega arith);
+  backed = subst (λ rs. Backs place (Some text ∷ []) before rs old new) (sym grown) (backs_refusal place k text before old new refusable grew);
+}
 
 -- a text with a verdict keeps what is backed, with the refusal that the verdict is
 pub notes_verdict : (place : ℕ) (text : List ℕ) (v : Verdict) (before after : List Refused) (old new : Log) → IsVerdict text v → after ≡ before ++ fresh place v
     → Grew old new (refused_patterns text v) → Notes place (Some text ∷ []) before after old new
 notes_verdict place text (Ready batch) before after old new is grown grew = keeps_noted place (Some text ∷ []) before after old new (grown ∙ append-nil before) grew
 notes_verdict place text (Bad at) before after old new is grown grew = keeps_noted place (Some text ∷ []) before after old new (grown ∙ append-nil before) grew
-notes_verdict place text (PatternRefused k) before after old new is grown grew = record {
-  grown = inr (record { place = place; pattern = k }, refl, grown, omega arith);
-  backed = subst (λ rs. Backs place (Some text ∷ []) before rs old new) (sym grown) (backs_refusal place k text before old new is grew);
-}
+notes_verdict place text (PatternRefused k) before after old new is grown grew = noted place text k before after old new is grew grown
+
+-- ---- the refusal of a line
+
+-- a step with this text or with none keeps what is backed, with the refusal that came
+notes_step : (place : ℕ) (text : Option (List ℕ)) (refusal : Option ℕ) (before after : List Refused) (old new : Log) → after ≡ before ++ noted_at place refusal → IsRefusal text refusal old new
+    → Notes place (text ∷ []) before after old new
+notes_step place text None before after old new grown is = keeps_noted place (text ∷ []) before after old new (grown ∙ append-nil before) is
+notes_step place None (Some k) before after old new grown is = absurd (no_text k is.0)
+  where
+    no_text : (k : ℕ) → IsTrue (is_some (unless_plain (pattern_of None k))) → ⊥
+    no_text k e = let bad : false ≡ true = e in cc
+notes_step place (Some text) (Some k) before after old new grown is = noted place text k before after old new is.0 is.1 grown
+
+-- where there is no step nothing is refused
+notes_none : (place : ℕ) (refusal : Option ℕ) (before after : List Refused) (old new : Log) → after ≡ before ++ noted_at place refusal → IsRefusal None refusal old new → Notes place [] before after old new
+notes_none place None before after old new grown is = keeps_noted place [] before after old new (grown ∙ append-nil before) is
+notes_none place (Some k) before after old new grown is = let bad : false ≡ true = is.0 in cc
+
+pub notes_line : (start : Start) (binds : List Bind) (history : History) (d : Deed) (place : ℕ) (refusal : Option ℕ) (before after : List Refused) (old new : Log)
+    → after ≡ before ++ noted_at place refusal → IsRefusal (text_run start binds history d) refusal old new → Notes place (texts_run start binds history d) before after old new
+notes_line start binds history (deed.Run text) place refusal before after old new grown is = notes_step place (Some text) refusal before after old new grown is
+notes_line start binds history (deed.Do s) place refusal before after old new grown is = notes_step place (text_of_step s) refusal before after old new grown is
+notes_line start binds history (deed.Key chord) place refusal before after old new grown is = notes_step place (bound_text (last_bind (mode start history) chord binds)) refusal before after old new grown is
+notes_line start binds history deed.Paint place refusal before after old new grown is = notes_none place refusal before after old new grown is
+notes_line start binds history (deed.Look q) place refusal before after old new grown is = notes_none place refusal before after old new grown is
+
+-- ---- the refusal that a list has at a place
+
+-- the refusal that came is the one at its place
+pub noted_is : (place : ℕ) (refusal : Option ℕ) (before : List Refused) → refusal_at place before ≡ None → refusal_at place (before ++ noted_at place refusal) ≡ refusal
+noted_is place None before none = refusal_append place before [] none
+noted_is place (Some k) before none = refusal_append place before (noted_at place (Some k)) none ∙ fresh_refusal place k

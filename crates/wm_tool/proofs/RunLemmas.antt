@@ -3,20 +3,22 @@ use Rattle.std.proofs.Common.{◌≡◌, ◌∙◌, refl, ap, ap₂, sym, subst,
 use Rattle.std.specs.Prelude.{IfErr, IfOk, IsErrAnd, OnErr, OnOk}
 use Rattle.std.proofs.lemmas.List.{append-nil, drop_all, take_all, take-append-drop}
 use Rattle.wm_core.specs.DeskValue.{DeskValue, Stands}
-use Rattle.wm_criteria.specs.Building.{Grew, Log, Tells}
+use Rattle.wm_criteria.specs.Building.{Log}
 use Rattle.wm_core.specs.History.{History}
 use Rattle.wm_ports.specs.Told.{TakesAll, TakesPart}
 use Rattle.wm_tool.specs.declared.replay.Stop.{Stop}
-use Rattle.wm_tool.specs.declared.status.Refused.{Refused}
+use Rattle.wm_script.proofs.RefusalLemmas.{grew_none}
+use Rattle.wm_script.specs.Out.{entry_of, run_with}
+use Rattle.wm_script.specs.Refusals.{IsBacked, IsRising, refusal_at, verdict_of}
+use Rattle.wm_script.specs.declared.refused.Refused.{Refused}
 use Rattle.wm_tool.specs.Ending.{HasStopped}
-use Rattle.wm_tool.specs.Output.{takes, entry_of, run_entry, told}
-use Rattle.wm_tool.specs.Refusals.{IsBacked, IsRising, refusal_at, verdict_of}
+use Rattle.wm_tool.specs.Output.{run_entry}
 use Rattle.wm_tool.specs.Running.{Finishes, Grows, Holds, IsBackedTo, Leads, Notes, Plays, Runs, Stops, Writes, fresh}
 use Rattle.wm_core.specs.Act.{Run, act_of}
 use Rattle.wm_core.specs.declared.step.Step.TheVariants as steps_of
 use Rattle.wm_criteria.specs.declared.prepared.Prepared.{Prepared}
 use Rattle.wm_criteria.specs.Verdict.{IsVerdict}
-use Rattle.wm_tool.proofs.RefusalLemmas.{keeps_noted, refusal_before, rising_weaker, verdict_is, verdict_same}
+use Rattle.wm_tool.proofs.RefusalLemmas.{backed_more, keeps_noted, refusal_before, refusal_same, rising_weaker, verdict_is}
 
 -- ---- the beginning
 
@@ -24,23 +26,18 @@ holds_none : (old : Option (List ℕ)) → Holds old old []
 holds_none None = tt
 holds_none (Some t) = ap (λ xs. Some xs) (sym (append-nil t))
 
-tells_nothing : (t : Option (List (List ℕ))) → Tells t t []
-tells_nothing None = tt
-tells_nothing (Some told) = ap (λ xs. Some xs) (sym (append-nil told))
-
-grew_none : (log : Log) → Grew log log []
-grew_none log = record { kept = omega arith; rose = omega arith; told = tells_nothing log.texts }
-
 pub nothing_backed : (texts : List (Option (List ℕ))) (log : Log) → IsBacked texts [] log log
 nothing_backed texts log = record { rising = tt; fair = tt; grew = grew_none log }
 
-pub begins : (old : Option (List ℕ)) (desk : DeskValue) (refused : List Refused) (piece : List ℕ) (tells : List Refused → History → List ℕ) (texts : List (Option (List ℕ))) (log : Log)
-    → refused ≡ [] → piece ≡ [] → Stands desk [] → Plays old old desk refused piece tells (λ rs. tells rs []) texts texts log log
-begins old desk refused piece tells texts log none empty stands =
+pub begins : (old : Option (List ℕ)) (desk : DeskValue) (refused : List Refused) (piece : List ℕ) (tells : List Refused → History → List ℕ) (ahead : List Refused → History → List (Option (List ℕ))) (log : Log)
+    → refused ≡ [] → piece ≡ [] → Stands desk [] → Plays old old desk refused piece tells (λ rs. tells rs []) ahead (λ rs. ahead rs []) log log
+begins old desk refused piece tells ahead log none empty stands =
     rw (none, empty) (record {
       runs = record { history = []; stands = stands; said = []; taken = holds_none old; makes = λ more rising. refl };
-      backed = record { below = tt; backed = nothing_backed texts log };
-      left = ap (λ n. drop n texts) stands.counted;
+      past = [];
+      counted = stands.counted;
+      backed = record { below = tt; backed = nothing_backed [] log };
+      goes = λ more rising. refl;
     })
 
 -- ---- what was written when a run stops
@@ -92,14 +89,24 @@ on_err (Ok x) p = tt
 on_err (Err e) p = p
 
 module _ (old now new : Option (List ℕ)) (desk : DeskValue) (refused : List Refused) (piece : List ℕ) (tells : List Refused → History → List ℕ) (whole : List Refused → List ℕ)
-    (texts ahead : List (Option (List ℕ))) (first log : Log) (p : Plays old now desk refused piece tells whole texts ahead first log)
+    (ahead : List Refused → History → List (Option (List ℕ))) (texts : List Refused → List (Option (List ℕ))) (first log : Log) (p : Plays old now desk refused piece tells whole ahead texts first log)
   where
+    -- the refusals so far are backed by all steps
+    pub backed_now : IsBacked (texts refused) refused first log
+    backed_now =
+        subst (λ ts. IsBacked ts refused first log) (subst (λ rs. p.past ++ ahead rs p.runs.history ≡ texts rs) (append-nil refused) (p.goes [] tt))
+        (backed_more desk.steps p.past (ahead refused p.runs.history) refused first log p.counted p.backed)
+
     -- a run whose sink fails has written a first part
-    pub fails : TakesPart now new piece → Stops old new whole refused texts first log
-    fails takes = (fails_part old now new p.runs.said piece (tells refused p.runs.history) (whole refused) p.runs.taken (made old now desk refused piece tells whole p.runs) takes, p.backed.backed)
+    pub fails : TakesPart now new piece → Stops old new whole texts first log
+    fails takes = (refused, backed_now, fails_part old now new p.runs.said piece (tells refused p.runs.history) (whole refused) p.runs.taken (made old now desk refused piece tells whole p.runs) takes)
+
+    -- a run that stops before it wrote what it holds has written a first part
+    pub holds_part : TakesPart old now (whole refused)
+    holds_part = part_of old now p.runs.said (piece ++ tells refused p.runs.history) (whole refused) p.runs.taken (made old now desk refused piece tells whole p.runs)
 
     -- a first part of the piece is written, and the rest of it is held
-    pub writes : (held : List ℕ) → Writes now new piece held → Plays old new desk refused held tells whole texts ahead first log
+    pub writes : (held : List ℕ) → Writes now new piece held → Plays old new desk refused held tells whole ahead texts first log
     writes held w = record {
       runs = record {
         history = p.runs.history;
@@ -110,8 +117,10 @@ module _ (old now new : Option (List ℕ)) (desk : DeskValue) (refused : List Re
             ap (λ xs. (p.runs.said ++ take w.count piece) ++ (xs ++ tells (refused ++ more) p.runs.history)) w.left
             ∙ (split_piece p.runs.said piece (tells (refused ++ more) p.runs.history) w.count ∙ p.runs.makes more rising);
       };
+      past = p.past;
+      counted = p.counted;
       backed = p.backed;
-      left = p.left;
+      goes = p.goes;
     }
 
 -- a run to the end has written all, with its last piece
@@ -132,9 +141,10 @@ ends_written old now desk refused tells whole none r = ends old now now desk ref
 
 -- a run to the end with nothing held
 pub finishes : (old now : Option (List ℕ)) (desk : DeskValue) (refused : List Refused) (tells : List Refused → History → List ℕ) (whole : List Refused → List ℕ)
-    (texts ahead : List (Option (List ℕ))) (first log : Log) → ((rs : List Refused) (history : History) → tells rs history ≡ [])
-    → Plays old now desk refused [] tells whole texts ahead first log → Finishes old now whole refused texts first log
-finishes old now desk refused tells whole texts ahead first log none p = (ends_written old now desk refused tells whole none p.runs, p.backed.backed)
+    (ahead : List Refused → History → List (Option (List ℕ))) (texts : List Refused → List (Option (List ℕ))) (first log : Log) → ((rs : List Refused) (history : History) → tells rs history ≡ [])
+    → Plays old now desk refused [] tells whole ahead texts first log → Finishes old now whole refused texts first log
+finishes old now desk refused tells whole ahead texts first log none p =
+    (backed_now old now now desk refused [] tells whole ahead texts first log p, ends_written old now desk refused tells whole none p.runs)
 
 pub writes_none : (now : Option (List ℕ)) (piece : List ℕ) → Writes now now piece piece
 writes_none now piece = record { count = 0; taken = none_taken now; left = refl }
@@ -145,66 +155,63 @@ writes_all now new piece held takes none =
 
 -- ---- one line or message
 
-drop_nothing : {A : Type 0} (k : ℕ) → drop {A = A} k [] ≡ []
-drop_nothing zero = refl
-drop_nothing (suc k) = refl
-
-drop_more : {A : Type 0} (n m : ℕ) (xs : List A) → drop (n + m) xs ≡ drop m (drop n xs)
-drop_more zero m xs = let e : 0 + m ≡ m = omega arith in ap (λ k. drop k xs) e
-drop_more (suc n) m [] = drop_nothing (suc n + m) ∙ sym (drop_nothing m)
-drop_more (suc n) m (x ∷ xs) = let e : suc n + m ≡ suc (n + m) = omega arith in ap (λ k. drop k (x ∷ xs)) e ∙ drop_more n m xs
-
-drop_front : {A : Type 0} (xs ys : List A) → drop (length xs) (xs ++ ys) ≡ ys
-drop_front [] ys = refl
-drop_front (x ∷ xs) ys = drop_front xs ys
-
 module _ (old now : Option (List ℕ)) (desk : DeskValue) (before later_refused : List Refused) (piece : List ℕ)
     (step : List Refused → History → History) (says tells later : List Refused → History → List ℕ) (whole : List Refused → List ℕ)
-    (texts steps ahead : List (Option (List ℕ))) (first l1 l2 : Log)
-    (longer : (rs : List Refused) (h : History) → length (step rs h) ≡ length h + length steps)
-    (p : Plays old now desk before piece tells whole texts (steps ++ ahead) first l1)
-    (notes : Notes desk.steps steps before later_refused l1 l2)
+    (steps : History → List (Option (List ℕ))) (ahead behind : List Refused → History → List (Option (List ℕ))) (texts : List Refused → List (Option (List ℕ))) (first l1 l2 : Log)
+    (longer : (rs : List Refused) (h : History) → length (step rs h) ≡ length h + length (steps h))
+    (parts : (rs : List Refused) (h : History) → ahead rs h ≡ steps h ++ behind rs (step rs h))
+    (p : Plays old now desk before piece tells whole ahead texts first l1)
+    (notes : Notes desk.steps (steps p.runs.history) before later_refused l1 l2)
   where
-    -- what made the whole makes it with the refusals after the step
-    makes_after : (more : List Refused) (rising : IsRising (length (step later_refused p.runs.history)) more)
-        → p.runs.said ++ (piece ++ tells (later_refused ++ more) p.runs.history) ≡ whole (later_refused ++ more)
-    makes_after more rising = by_grown notes.grown
-      where
-        Makes : List Refused → Type 0
-        Makes rs = p.runs.said ++ (piece ++ tells (rs ++ more) p.runs.history) ≡ whole (rs ++ more)
+    abbrev h : History
+    h = p.runs.history
 
-        by_grown : Grows desk.steps steps before later_refused → p.runs.said ++ (piece ++ tells (later_refused ++ more) p.runs.history) ≡ whole (later_refused ++ more)
-        by_grown (inl e) =
-            subst Makes (sym e)
-            (p.runs.makes more (rising_weaker (length (step later_refused p.runs.history)) (length p.runs.history) more (omega (arith, longer later_refused p.runs.history)) rising))
+    -- what held with the refusals before the step holds with those after it
+    holds_after : (P : List Refused → Type 0) → ((more : List Refused) → IsRising (length h) more → P (before ++ more)) → (more : List Refused) → IsRising (length (step later_refused h)) more → P (later_refused ++ more)
+    holds_after P held more rising = by_grown notes.grown
+      where
+        by_grown : Grows desk.steps (steps h) before later_refused → P (later_refused ++ more)
+        by_grown (inl e) = subst (λ rs. P (rs ++ more)) (sym e) (held more (rising_weaker (length (step later_refused h)) (length h) more (omega (arith, longer later_refused h)) rising))
         by_grown (inr g) =
-            subst Makes (sym g.2)
-            (subst (λ rs. p.runs.said ++ (piece ++ tells rs p.runs.history) ≡ whole rs) (sym (append_assoc before (g.0 ∷ []) more))
-            (p.runs.makes (g.0 ∷ more) (
+            subst (λ rs. P (rs ++ more)) (sym g.2)
+            (subst P (sym (append_assoc before (g.0 ∷ []) more))
+            (held (g.0 ∷ more) (
               omega (arith, g.1, p.runs.stands.counted),
-              rising_weaker (length (step later_refused p.runs.history)) (g.0.place + 1) more (omega (arith, g.1, p.runs.stands.counted, g.3, longer later_refused p.runs.history)) rising,
+              rising_weaker (length (step later_refused h)) (g.0.place + 1) more (omega (arith, g.1, p.runs.stands.counted, g.3, longer later_refused h)) rising,
             )))
 
-    backed_after : IsBackedTo (desk.steps + length steps) texts later_refused first l2
-    backed_after = notes.backed texts ahead first p.left p.backed
+    makes_after : (more : List Refused) → IsRising (length (step later_refused h)) more → p.runs.said ++ (piece ++ tells (later_refused ++ more) h) ≡ whole (later_refused ++ more)
+    makes_after more rising = holds_after (λ rs. p.runs.said ++ (piece ++ tells rs h) ≡ whole rs) p.runs.makes more rising
+
+    goes_after : (more : List Refused) → IsRising (length (step later_refused h)) more → p.past ++ ahead (later_refused ++ more) h ≡ texts (later_refused ++ more)
+    goes_after more rising = holds_after (λ rs. p.past ++ ahead rs h ≡ texts rs) p.goes more rising
+
+    counted_after : desk.steps + length (steps h) ≡ length (p.past ++ steps h)
+    counted_after = omega (arith, p.counted, length-append p.past (steps h))
+
+    backed_after : IsBackedTo (desk.steps + length (steps h)) (p.past ++ steps h) later_refused first l2
+    backed_after = notes.backed p.past first p.counted p.backed
 
     -- a step that want of memory stopped
-    pub stops_step : Stops old now whole later_refused texts first l2
+    pub stops_step : Stops old now whole texts first l2
     stops_step = (
-      part_of old now p.runs.said (piece ++ tells later_refused p.runs.history) (whole later_refused) p.runs.taken
-          (subst (λ rs. p.runs.said ++ (piece ++ tells rs p.runs.history) ≡ whole rs) (append-nil later_refused) (makes_after [] tt)),
-      backed_after.backed,
+      later_refused,
+      subst (λ ts. IsBacked ts later_refused first l2)
+          (append_assoc p.past (steps h) (behind later_refused (step later_refused h))
+          ∙ (ap (λ xs. p.past ++ xs) (sym (parts later_refused h)) ∙ subst (λ rs. p.past ++ ahead rs h ≡ texts rs) (append-nil later_refused) (goes_after [] tt)))
+          (backed_more (desk.steps + length (steps h)) (p.past ++ steps h) (behind later_refused (step later_refused h)) later_refused first l2 counted_after backed_after),
+      part_of old now p.runs.said (piece ++ tells later_refused h) (whole later_refused) p.runs.taken
+          (subst (λ rs. p.runs.said ++ (piece ++ tells rs h) ≡ whole rs) (append-nil later_refused) (makes_after [] tt)),
     )
 
     -- a step that was taken
     pub plays_led : (next : DeskValue) (text : List ℕ)
-        → ((more : List Refused) → IsRising (length (step later_refused p.runs.history)) more
-        → tells (later_refused ++ more) p.runs.history ≡ says (later_refused ++ more) p.runs.history ++ later (later_refused ++ more) (step (later_refused ++ more) p.runs.history))
+        → ((more : List Refused) → IsRising (length (step later_refused h)) more
+        → tells (later_refused ++ more) h ≡ says (later_refused ++ more) h ++ later (later_refused ++ more) (step (later_refused ++ more) h))
         → ((rs more : List Refused) (h : History) → IsRising (length (step rs h)) more → (step (rs ++ more) h ≡ step rs h) × (says (rs ++ more) h ≡ says rs h))
-        → (refusal_at desk.steps before ≡ None → Leads desk next (step later_refused) (says later_refused) piece text) → next.steps ≡ desk.steps + length steps
-        → Plays old now next later_refused text later whole texts ahead first l2
+        → (refusal_at desk.steps before ≡ None → Leads desk next (step later_refused) (says later_refused) piece text) → next.steps ≡ desk.steps + length (steps h)
+        → Plays old now next later_refused text later whole behind texts first l2
     plays_led next text splits same leads moved =
-        let h = p.runs.history in
         let led = leads (refusal_before desk.steps before p.backed.below) h p.runs.stands in
         record {
           runs = record {
@@ -222,20 +229,25 @@ module _ (old now : Option (List ℕ)) (desk : DeskValue) (before later_refused 
                 ∙ ap (λ xs. piece ++ xs) (sym (splits more rising ∙ (ap (λ x. x ++ later rs (step rs h)) s.1 ∙ ap (λ z. says later_refused h ++ later rs z) s.0)))))
                 ∙ makes_after more rising;
           };
-          backed = subst (λ n. IsBackedTo n texts later_refused first l2) (sym moved) backed_after;
-          left = ap (λ n. drop n texts) moved ∙ (drop_more desk.steps (length steps) texts ∙ (ap (drop (length steps)) p.left ∙ drop_front steps ahead));
+          past = p.past ++ steps h;
+          counted = moved ∙ counted_after;
+          backed = subst (λ n. IsBackedTo n (p.past ++ steps h) later_refused first l2) (sym moved) backed_after;
+          goes = λ more rising.
+              let rs = later_refused ++ more in
+              append_assoc p.past (steps h) (behind rs (step later_refused h))
+              ∙ (ap (λ xs. p.past ++ xs) (ap (λ z. steps h ++ behind rs z) (sym (same later_refused more h rising).0) ∙ sym (parts rs h)) ∙ goes_after more rising);
         }
 
     -- a step that was taken, and what is told is split alike after each history
     pub plays_step : (next : DeskValue) (text : List ℕ) → ((rs : List Refused) (h : History) → tells rs h ≡ says rs h ++ later rs (step rs h))
         → ((rs more : List Refused) (h : History) → IsRising (length (step rs h)) more → (step (rs ++ more) h ≡ step rs h) × (says (rs ++ more) h ≡ says rs h))
-        → (refusal_at desk.steps before ≡ None → Leads desk next (step later_refused) (says later_refused) piece text) → next.steps ≡ desk.steps + length steps
-        → Plays old now next later_refused text later whole texts ahead first l2
-    plays_step next text splits same leads moved = plays_led next text (λ more rising. splits (later_refused ++ more) p.runs.history) same leads moved
+        → (refusal_at desk.steps before ≡ None → Leads desk next (step later_refused) (says later_refused) piece text) → next.steps ≡ desk.steps + length (steps h)
+        → Plays old now next later_refused text later whole behind texts first l2
+    plays_step next text splits same leads moved = plays_led next text (λ more rising. splits (later_refused ++ more) h) same leads moved
 
 -- a text is run as before, whatever is refused behind it
 pub run_same : (who : ℕ) (rs more : List Refused) (h : History) (text : List ℕ) → IsRising (suc (length h)) more → run_entry who (rs ++ more) h text ≡ run_entry who rs h text
-run_same who rs more h text rising = rw (verdict_same (length h) rs more text rising) refl
+run_same who rs more h text rising = ap (λ refusal. run_with who refusal text) (refusal_same (length h) rs more rising)
 
 -- ---- a text that is run
 

@@ -10,15 +10,16 @@ use Rattle.wm_tool.specs.declared.words.Command.{Command}
 use Rattle.wm_tool.specs.declared.words.Command.TheVariants.{Replay, Ipc, Draw}
 use Rattle.wm_tool.specs.declared.run.FramesEnd.{FramesEnd}
 use Rattle.wm_tool.specs.declared.run.FramesEnd.TheVariants as end
-use Rattle.wm_script.specs.declared.line.Line.{Line}
 use Rattle.wm_tool.specs.declared.status.Status.{Status}
 use Rattle.wm_tool.specs.declared.status.Status.TheVariants.{Done, BadWords, BadScript, BadFrames, Truncated, TooLarge, ReadFault, WriteFault, NoMemory}
-use Rattle.wm_tool.specs.declared.status.Refused.{Refused}
 use Rattle.wm_tool.specs.Drawing.{out_draw}
 use Rattle.wm_tool.specs.Ipc.{message_texts, out_ipc}
-use Rattle.wm_tool.specs.Output.{line_texts, lines_in, out}
-use Rattle.wm_tool.specs.Refusals.{IsBacked}
+use Rattle.wm_script.specs.Out as scripts
+use Rattle.wm_script.specs.Out.{out}
+use Rattle.wm_script.specs.Refusals.{IsBacked}
 use Rattle.wm_script.specs.Script.{script}
+use Rattle.wm_script.specs.declared.refused.Refused.{Refused}
+use Rattle.wm_script.specs.declared.script.Script.{Script}
 
 -- a run was stopped by a fault of the sink, whose count of faults rose, or by want of memory
 abbrev pub HasStopped : ℕ → ℕ → Stop → Type 0
@@ -32,8 +33,8 @@ ending_of (Err status) = status
 
 -- ---- what the bytes alone say
 
-abbrev pub script_ending : Result (List Line) ℕ → Status
-script_ending (Ok lines) = Done []
+abbrev pub script_ending : Result Script ℕ → Status
+script_ending (Ok s) = Done []
 script_ending (Err line) = BadScript line
 
 abbrev pub rest_ending : ℕ → Status
@@ -63,11 +64,11 @@ output Replay bytes refused = out bytes refused
 output Ipc bytes refused = out_ipc bytes refused
 output Draw bytes refused = out_draw bytes refused
 
--- the steps that a run on these bytes takes, each with the text that it runs, where it runs one
-abbrev pub texts_in : Command → List ℕ → List (Option (List ℕ))
-texts_in Replay bytes = line_texts (lines_in (script bytes))
-texts_in Ipc bytes = message_texts (messages bytes)
-texts_in Draw bytes = line_texts (lines_in (script bytes))
+-- the steps that a run on these bytes takes, given which patterns were refused, each with the text that it runs, where it runs one
+abbrev pub texts_in : Command → List ℕ → List Refused → List (Option (List ℕ))
+texts_in Replay bytes refused = scripts.texts_in bytes refused
+texts_in Ipc bytes refused = message_texts (messages bytes)
+texts_in Draw bytes refused = scripts.texts_in bytes refused
 
 -- the bytes are refused before anything is run
 abbrev pub IsRefused : Status → Type 0
@@ -90,7 +91,7 @@ EndsOn c bytes ReadFault = ⊥
 
 -- a list of refusals is fair for these bytes, and backed by the run, in which the build's log grew so
 abbrev pub IsBackedOn : Command → List ℕ → Log → Log → List Refused → Type 0
-IsBackedOn c bytes first log refused = IsBacked (texts_in c bytes) refused first log
+IsBackedOn c bytes first log refused = IsBacked (texts_in c bytes refused) refused first log
 
 -- what a run on these bytes that ended so wrote
 abbrev pub WritesOn : Command → List ℕ → Log → Log → Status → Option (List ℕ) → Option (List ℕ) → Type 0

@@ -17,8 +17,9 @@ use Rattle.wm_talk.specs.Calls.{call_of}
 use Rattle.wm_talk.specs.Frames.{frames}
 use Rattle.wm_talk.specs.Talking.{above_of, after_events, after_reply, NEW}
 use Rattle.wm_talk.specs.Told.{replied, told}
-use Rattle.wm_tool.specs.declared.status.Refused.{Refused}
-use Rattle.wm_tool.specs.Output.{after_entry, entry_of, run_entry, start}
+use Rattle.wm_script.specs.Out.{entry_of}
+use Rattle.wm_script.specs.declared.refused.Refused.{Refused}
+use Rattle.wm_tool.specs.Output.{after_entry, run_entry, start}
 
 -- ---- calls
 

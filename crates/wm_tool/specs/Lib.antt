@@ -4,7 +4,6 @@ pub mod Generating
 pub mod Ipc
 pub mod Output
 pub mod Planning
-pub mod Refusals
 pub mod Running
 pub mod Status
 pub mod Words

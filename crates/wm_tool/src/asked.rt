@@ -7,8 +7,9 @@ ghost use Rattle.wm_core.specs.Look.{look};
 ghost use Rattle.wm_talk.specs.declared.calls.Call.TheVariants as calls;
 ghost use Rattle.wm_talk.specs.declared.got.Got.TheVariants as gots;
 ghost use Rattle.wm_tool.specs.Ipc.{after_call, call_step, got_of, IsFitCall};
-ghost use Rattle.wm_tool.specs.Output.{entry_of, run_entry};
-ghost use Rattle.wm_tool.specs.Refusals.{refusal_at};
+ghost use Rattle.wm_script.specs.Out.{entry_of};
+ghost use Rattle.wm_tool.specs.Output.{run_entry};
+ghost use Rattle.wm_script.specs.Refusals.{refusal_at};
 ghost use Rattle.wm_tool.specs.Running.{Notes};
 
 use crate::judging::run_text;
@@ -16,6 +17,7 @@ use std::alloc::Global;
 use wm_base::{NoMemory, Str};
 use wm_core::{Desk, Query, Step};
 use wm_criteria::Build;
+use wm_script::Refused;
 use wm_talk::{Call, Got};
 
 /// Makes a call on the desk, and says what it gave. Patterns that are refused are listed.
@@ -24,7 +26,7 @@ pub fn make_call<B: Build>(
     desk: &mut Desk,
     call: Call,
     build: &mut B,
-    refused: &mut Vec<crate::status::Refused>,
+    refused: &mut Vec<Refused>,
 ) -> Result<Got, NoMemory>
     requires few { desk.old.steps < 2 ^ 48 }
     requires fit { IsFitCall call }
@@ -49,7 +51,7 @@ fn run<B: Build>(
     desk: &mut Desk,
     text: Str,
     build: &mut B,
-    refused: &mut Vec<crate::status::Refused>,
+    refused: &mut Vec<Refused>,
 ) -> Result<Got, NoMemory>
     requires few { desk.old.steps < 2 ^ 48 }
     requires short { length text < 2 ^ 32 }

@@ -5,16 +5,15 @@ ghost use Rattle.wm_frames.specs.Frame.{IsShort};
 ghost use Rattle.wm_core.specs.DeskValue.{Stands};
 ghost use Rattle.wm_core.specs.History.{History, opening_of};
 ghost use Rattle.wm_criteria.specs.Building.{Log};
-ghost use Rattle.wm_ports.specs.Told.{TakesAll, TakesPart};
 ghost use Rattle.wm_talk.specs.Frames.{frames};
 ghost use Rattle.wm_talk.specs.Talking.{after_reply, NEW};
 ghost use Rattle.wm_talk.specs.Told.{replied};
 ghost use Rattle.wm_tool.specs.Ending.{HasStopped};
 ghost use Rattle.wm_tool.specs.Ipc.{after_call, after_message, call_step, got_of, IsFitCall, message_step, message_texts, replies_from, said, talk_after, where_on};
 ghost use Rattle.wm_tool.specs.Planning.{IsPlain};
-ghost use Rattle.wm_tool.specs.Refusals.{refusal_at, IsBacked};
+ghost use Rattle.wm_script.specs.Refusals.{refusal_at};
 ghost use Rattle.wm_tool.specs.Running.{Finishes, Leads, Notes, Plays, Stops};
-ghost use Rattle.wm_tool.specs.declared.status.Refused.{Refused};
+ghost use Rattle.wm_script.specs.declared.refused.Refused as lists;
 
 use crate::asked::make_call;
 use crate::planning::standard_desk;
@@ -26,6 +25,7 @@ use wm_core::Desk;
 use wm_criteria::Build;
 use wm_frames::{Decoder, Message};
 use wm_ports::{Sink, write_all};
+use wm_script::Refused;
 use wm_talk::{Call, Talk, call_of};
 
 /// Answers the queued messages on the desk of the standard plan, for caller 0, to whom nothing is subscribed yet. Patterns
@@ -34,15 +34,14 @@ pub fn answer_all<B: Build, W: Sink>(
     alloc: Global,
     decoder: &mut Decoder,
     build: &mut B,
-    refused: &mut Vec<crate::status::Refused>,
+    refused: &mut Vec<Refused>,
     sink: &mut W,
 ) -> Result<(), Stop>
     requires few { length decoder.old.queue ≤ 16777216 }
     requires short { AllByRecursion IsShort decoder.old.queue }
     requires none { refused.old.items ≡ [] }
-    ensures ok { OnOk result (TakesAll (W.taken sink.old) (W.taken sink.new) (replies_from (Some NEW) decoder.old.queue refused.new.items [])) }
-    ensures part { OnErr result (TakesPart (W.taken sink.old) (W.taken sink.new) (replies_from (Some NEW) decoder.old.queue refused.new.items [])) }
-    ensures backed { IsBacked (message_texts decoder.old.queue) refused.new.items (B.log build.old) (B.log build.new) }
+    ensures ok { OnOk result (Finishes (W.taken sink.old) (W.taken sink.new) (λ rs. replies_from (Some NEW) decoder.old.queue rs []) refused.new.items (λ rs. message_texts decoder.old.queue) (B.log build.old) (B.log build.new)) }
+    ensures part { OnErr result (Stops (W.taken sink.old) (W.taken sink.new) (λ rs. replies_from (Some NEW) decoder.old.queue rs []) (λ rs. message_texts decoder.old.queue) (B.log build.old) (B.log build.new)) }
     ensures err { IfErr result (HasStopped (W.faults sink.old) (W.faults sink.new)) }
     ensures counted { W.faults sink.old ≤ W.faults sink.new }
 {
@@ -63,7 +62,7 @@ fn answer_queue<B: Build, W: Sink>(
     decoder: &mut Decoder,
     desk: &mut Desk,
     build: &mut B,
-    refused: &mut Vec<crate::status::Refused>,
+    refused: &mut Vec<Refused>,
     talk: &mut Talk,
     piece: &mut Vec<u8>,
     sink: &mut W,
@@ -72,12 +71,12 @@ fn answer_queue<B: Build, W: Sink>(
     requires short { AllByRecursion IsShort decoder.old.queue }
     requires plan { IsPlain desk.old.plan }
     requires empty { piece.old.items ≡ [] }
-    ensures ok { (old : Option (List ℕ)) → (whole : List Refused → List ℕ) → (texts : List (Option (List ℕ))) → (first : Log) →
-        Plays old (W.taken sink.old) desk.old refused.old.items [] (replies_from (Some talk.old) decoder.old.queue) whole texts (message_texts decoder.old.queue) first (B.log build.old) →
+    ensures ok { (old : Option (List ℕ)) → (whole : List lists.Refused → List ℕ) → (texts : List lists.Refused → List (Option (List ℕ))) → (first : Log) →
+        Plays old (W.taken sink.old) desk.old refused.old.items [] (replies_from (Some talk.old) decoder.old.queue) whole (λ rs h. message_texts decoder.old.queue) texts first (B.log build.old) →
         OnOk result (Finishes old (W.taken sink.new) whole refused.new.items texts first (B.log build.new)) }
-    ensures part { (old : Option (List ℕ)) → (whole : List Refused → List ℕ) → (texts : List (Option (List ℕ))) → (first : Log) →
-        Plays old (W.taken sink.old) desk.old refused.old.items [] (replies_from (Some talk.old) decoder.old.queue) whole texts (message_texts decoder.old.queue) first (B.log build.old) →
-        OnErr result (Stops old (W.taken sink.new) whole refused.new.items texts first (B.log build.new)) }
+    ensures part { (old : Option (List ℕ)) → (whole : List lists.Refused → List ℕ) → (texts : List lists.Refused → List (Option (List ℕ))) → (first : Log) →
+        Plays old (W.taken sink.old) desk.old refused.old.items [] (replies_from (Some talk.old) decoder.old.queue) whole (λ rs h. message_texts decoder.old.queue) texts first (B.log build.old) →
+        OnErr result (Stops old (W.taken sink.new) whole texts first (B.log build.new)) }
     ensures err { IfErr result (HasStopped (W.faults sink.old) (W.faults sink.new)) }
     ensures counted { W.faults sink.old ≤ W.faults sink.new }
 {
@@ -101,7 +100,7 @@ fn answer_message<B: Build>(
     desk: &mut Desk,
     message: &Message,
     build: &mut B,
-    refused: &mut Vec<crate::status::Refused>,
+    refused: &mut Vec<Refused>,
     talk: &mut Talk,
     piece: &mut Vec<u8>,
 ) -> Result<bool, NoMemory>
@@ -127,7 +126,7 @@ fn answer_call<B: Build>(
     message: &Message,
     call: Call,
     build: &mut B,
-    refused: &mut Vec<crate::status::Refused>,
+    refused: &mut Vec<Refused>,
     talk: &mut Talk,
     piece: &mut Vec<u8>,
 ) -> Result<(), NoMemory>

@@ -6,14 +6,14 @@ ghost use Rattle.wm_criteria.specs.Building.{Grew};
 ghost use Rattle.wm_criteria.specs.Prepared.{is_built, refused_by};
 ghost use Rattle.wm_criteria.specs.Verdict.{IsVerdict};
 ghost use Rattle.wm_tool.specs.Output.{run_entry};
-ghost use Rattle.wm_tool.specs.Refusals.{refusal_at};
+ghost use Rattle.wm_script.specs.Refusals.{refusal_at};
 ghost use Rattle.wm_tool.specs.Running.{fresh_by, Notes};
 
-use crate::status::Refused;
 use std::alloc::Global;
 use wm_base::NoMemory;
 use wm_core::{Answer, Desk, Step};
 use wm_criteria::{Build, Prepared, Verdict, prepare};
+use wm_script::Refused;
 
 /// Prepares a text that is run at this place of the history. A refused pattern is added to those so far.
 pub fn judge<B: Build>(

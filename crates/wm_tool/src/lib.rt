@@ -11,8 +11,8 @@ mod replay;
 mod run;
 mod status;
 mod telling;
-mod viewing;
 mod words;
 
 pub use run::tool;
-pub use status::{Refused, Status};
+pub use status::Status;
+pub use wm_script::Refused;

@@ -1,35 +1,26 @@
 //! The lines of a script are run, and what they tell is written in pieces.
-ghost use Rattle.std.specs.Prelude.{◌≡◌, ℕ, List, Option, ◌+◌, ◌<◌, ◌≤◌, ◌^◌, [], ◌∷◌, None, Some, All, IfErr, IfOk, OnErr, OnOk, length};
-ghost use Rattle.wm_core.specs.Act.{act_of};
+ghost use Rattle.std.specs.Prelude.{◌≡◌, ℕ, List, Option, ◌+◌, ◌<◌, ◌≤◌, ◌^◌, [], None, IfErr, OnErr, OnOk, length};
+ghost use Rattle.std.specs.List.{AllByRecursion};
 ghost use Rattle.wm_core.specs.DeskValue.{Stands};
-ghost use Rattle.wm_core.specs.Frame.{frame};
-ghost use Rattle.wm_core.specs.Look.{look};
-ghost use Rattle.wm_paint.specs.FrameText.{frame_text};
-ghost use Rattle.wm_core.specs.History.{answer, History, opening_of};
-ghost use Rattle.wm_core.specs.Sizes.{IsFitStep};
-ghost use Rattle.wm_defs.specs.Counts.{Rose};
+ghost use Rattle.wm_core.specs.History.{History, opening_of};
 ghost use Rattle.wm_criteria.specs.Building.{Log};
-ghost use Rattle.wm_ports.specs.Told.{TakesAll, TakesPart};
-ghost use Rattle.wm_lines.specs.Told.{answer_text};
+ghost use Rattle.wm_defs.specs.Counts.{Rose};
+ghost use Rattle.wm_ports.specs.Told.{TakesPart};
+ghost use Rattle.wm_script.specs.Out.{after, out_from, script_out, script_texts, steps_of, texts_from, told};
+ghost use Rattle.wm_script.specs.Refusals.{refusal_at};
+ghost use Rattle.wm_script.specs.Script.{IsFitBind, IsFitLine, IsFitScript};
+ghost use Rattle.wm_script.specs.declared.refused.Refused as lists;
 ghost use Rattle.wm_tool.specs.Ending.{HasStopped};
-ghost use Rattle.wm_tool.specs.Output.{after, entry_of, line_step, line_texts, out_from, query_in, run_entry, start_of, told, view_text};
-ghost use Rattle.wm_tool.specs.Refusals.{refusal_at, IsBacked};
-ghost use Rattle.wm_tool.specs.Running.{Leads, Notes, Plays, Stops, Writes};
-ghost use Rattle.wm_script.specs.Script.{IsFitLine, IsSoundScript};
-ghost use Rattle.wm_tool.specs.declared.status.Refused.{Refused};
+ghost use Rattle.wm_tool.specs.Running.{Finishes, Leads, NotesLine, NotesSome, Plays, Stops, Writes};
 ghost use Rattle.wm_tool.specs.declared.replay.Stop.TheVariants as stops;
 
-use crate::judging::run_text;
-use crate::planning::desk_of;
-use crate::viewing::push_view;
 use std::alloc::{AllocError, Global};
 use wm_base::NoMemory;
-use wm_core::{Desk, Query, Step};
+use wm_binds::Bind;
+use wm_core::Desk;
 use wm_criteria::Build;
-use wm_lines::{push_answer, step_of};
-use wm_paint::frame_text;
 use wm_ports::{Failed, Sink, write_all};
-use wm_script::{Deed, Line};
+use wm_script::{Line, Played, Refused, Script, play};
 
 /// How long a piece of the output is at least before it is written, in bytes.
 const PIECE: usize = 65536;
@@ -65,24 +56,60 @@ impl From<AllocError> for Stop {
     }
 }
 
-/// Runs the lines on the desk of their plan, and writes what they tell. Patterns that are refused are listed.
+/// Runs the lines of a script on the desk of its plan, and writes what they tell. Patterns that are refused are listed.
 pub fn replay<B: Build, W: Sink>(
     alloc: Global,
+    script: Script,
+    build: &mut B,
+    refused: &mut Vec<Refused>,
+    sink: &mut W,
+) -> Result<(), Stop>
+    requires few { length script.lines ≤ 16777216 }
+    requires fit { IsFitScript script }
+    requires none { refused.old.items ≡ [] }
+    ensures ok { OnOk result (Finishes (W.taken sink.old) (W.taken sink.new) (script_out script) refused.new.items (script_texts script) (B.log build.old) (B.log build.new)) }
+    ensures part { OnErr result (Stops (W.taken sink.old) (W.taken sink.new) (script_out script) (script_texts script) (B.log build.old) (B.log build.new)) }
+    ensures err { IfErr result (HasStopped (W.faults sink.old) (W.faults sink.new)) }
+{
+    let Script { plan, binds, lines } = script;
+    let end = match Desk::start(alloc, plan) {
+        Ok(desk) => replay_from(
+            alloc,
+            desk,
+            binds.items(),
+            lines.items(),
+            build,
+            refused,
+            sink,
+        ),
+        Err(error) => Err(Stop::from(error)),
+    };
+    drop(binds);
+    drop(lines);
+    end
+}
+
+/// Runs the lines on this desk, which is new, and drops it.
+fn replay_from<B: Build, W: Sink>(
+    alloc: Global,
+    desk: Desk,
+    binds: &[Bind],
     lines: &[Line],
     build: &mut B,
-    refused: &mut Vec<crate::status::Refused>,
+    refused: &mut Vec<Refused>,
     sink: &mut W,
 ) -> Result<(), Stop>
     requires few { length lines.now ≤ 16777216 }
-    requires sound { IsSoundScript lines.now }
+    requires fit { AllByRecursion IsFitLine lines.now }
+    requires binds { AllByRecursion IsFitBind binds.now }
     requires none { refused.old.items ≡ [] }
-    ensures ok { OnOk result (TakesAll (W.taken sink.old) (W.taken sink.new) (out_from (start_of lines.now) lines.now refused.new.items [])) }
-    ensures part { OnErr result (TakesPart (W.taken sink.old) (W.taken sink.new) (out_from (start_of lines.now) lines.now refused.new.items [])) }
-    ensures backed { IsBacked (line_texts lines.now) refused.new.items (B.log build.old) (B.log build.new) }
+    requires stands { Stands desk [] }
+    ensures ok { OnOk result (Finishes (W.taken sink.old) (W.taken sink.new) (λ rs. out_from (opening_of desk.plan) binds.now lines.now rs []) refused.new.items (λ rs. texts_from (opening_of desk.plan) binds.now lines.now rs []) (B.log build.old) (B.log build.new)) }
+    ensures part { OnErr result (Stops (W.taken sink.old) (W.taken sink.new) (λ rs. out_from (opening_of desk.plan) binds.now lines.now rs []) (λ rs. texts_from (opening_of desk.plan) binds.now lines.now rs []) (B.log build.old) (B.log build.new)) }
     ensures err { IfErr result (HasStopped (W.faults sink.old) (W.faults sink.new)) }
 {
-    let mut desk = desk_of(alloc, lines)?;
-    let end = replay_on(alloc, lines, &mut desk, build, refused, sink);
+    let mut desk = desk;
+    let end = replay_on(alloc, &mut desk, binds, lines, build, refused, sink);
     drop(desk);
     end
 }
@@ -90,23 +117,24 @@ pub fn replay<B: Build, W: Sink>(
 /// Runs the lines on a desk that is new, and writes what they tell.
 fn replay_on<B: Build, W: Sink>(
     alloc: Global,
-    lines: &[Line],
     desk: &mut Desk,
+    binds: &[Bind],
+    lines: &[Line],
     build: &mut B,
-    refused: &mut Vec<crate::status::Refused>,
+    refused: &mut Vec<Refused>,
     sink: &mut W,
 ) -> Result<(), Stop>
     requires few { length lines.now ≤ 16777216 }
-    requires fit { All IsFitLine lines.now }
+    requires fit { AllByRecursion IsFitLine lines.now }
+    requires binds { AllByRecursion IsFitBind binds.now }
     requires none { refused.old.items ≡ [] }
     requires stands { Stands desk.old [] }
-    ensures ok { OnOk result (TakesAll (W.taken sink.old) (W.taken sink.new) (out_from (opening_of desk.old.plan) lines.now refused.new.items [])) }
-    ensures part { OnErr result (TakesPart (W.taken sink.old) (W.taken sink.new) (out_from (opening_of desk.old.plan) lines.now refused.new.items [])) }
-    ensures backed { IsBacked (line_texts lines.now) refused.new.items (B.log build.old) (B.log build.new) }
+    ensures ok { OnOk result (Finishes (W.taken sink.old) (W.taken sink.new) (λ rs. out_from (opening_of desk.old.plan) binds.now lines.now rs []) refused.new.items (λ rs. texts_from (opening_of desk.old.plan) binds.now lines.now rs []) (B.log build.old) (B.log build.new)) }
+    ensures part { OnErr result (Stops (W.taken sink.old) (W.taken sink.new) (λ rs. out_from (opening_of desk.old.plan) binds.now lines.now rs []) (λ rs. texts_from (opening_of desk.old.plan) binds.now lines.now rs []) (B.log build.old) (B.log build.new)) }
     ensures err { IfErr result (HasStopped (W.faults sink.old) (W.faults sink.new)) }
 {
     let mut piece = Vec::new(alloc);
-    run_lines(alloc, lines, desk, build, refused, &mut piece, sink)?;
+    run_lines(alloc, desk, binds, lines, build, refused, &mut piece, sink)?;
     write_all(sink, &piece)?;
     Ok(())
 }
@@ -114,27 +142,29 @@ fn replay_on<B: Build, W: Sink>(
 /// Runs the lines on the desk. What they tell is written, or held in the piece.
 fn run_lines<B: Build, W: Sink>(
     alloc: Global,
-    lines: &[Line],
     desk: &mut Desk,
+    binds: &[Bind],
+    lines: &[Line],
     build: &mut B,
-    refused: &mut Vec<crate::status::Refused>,
+    refused: &mut Vec<Refused>,
     piece: &mut Vec<u8>,
     sink: &mut W,
 ) -> Result<(), Stop>
     requires few { desk.old.steps + length lines.now ≤ 16777216 }
-    requires fit { All IsFitLine lines.now }
-    ensures ok { (old : Option (List ℕ)) → (whole : List Refused → List ℕ) → (texts : List (Option (List ℕ))) → (first : Log) →
-        Plays old (W.taken sink.old) desk.old refused.old.items piece.old.items (out_from (opening_of desk.old.plan) lines.now) whole texts (line_texts lines.now) first (B.log build.old) →
-        OnOk result (Plays old (W.taken sink.new) desk.new refused.new.items piece.new.items (out_from (opening_of desk.old.plan) []) whole texts [] first (B.log build.new)) }
-    ensures part { (old : Option (List ℕ)) → (whole : List Refused → List ℕ) → (texts : List (Option (List ℕ))) → (first : Log) →
-        Plays old (W.taken sink.old) desk.old refused.old.items piece.old.items (out_from (opening_of desk.old.plan) lines.now) whole texts (line_texts lines.now) first (B.log build.old) →
-        OnErr result (Stops old (W.taken sink.new) whole refused.new.items texts first (B.log build.new)) }
+    requires fit { AllByRecursion IsFitLine lines.now }
+    requires binds { AllByRecursion IsFitBind binds.now }
+    ensures ok { (old : Option (List ℕ)) → (whole : List lists.Refused → List ℕ) → (texts : List lists.Refused → List (Option (List ℕ))) → (first : Log) →
+        Plays old (W.taken sink.old) desk.old refused.old.items piece.old.items (out_from (opening_of desk.old.plan) binds.now lines.now) whole (texts_from (opening_of desk.old.plan) binds.now lines.now) texts first (B.log build.old) →
+        OnOk result (Plays old (W.taken sink.new) desk.new refused.new.items piece.new.items (out_from (opening_of desk.old.plan) binds.now []) whole (texts_from (opening_of desk.old.plan) binds.now []) texts first (B.log build.new)) }
+    ensures part { (old : Option (List ℕ)) → (whole : List lists.Refused → List ℕ) → (texts : List lists.Refused → List (Option (List ℕ))) → (first : Log) →
+        Plays old (W.taken sink.old) desk.old refused.old.items piece.old.items (out_from (opening_of desk.old.plan) binds.now lines.now) whole (texts_from (opening_of desk.old.plan) binds.now lines.now) texts first (B.log build.old) →
+        OnErr result (Stops old (W.taken sink.new) whole texts first (B.log build.new)) }
     ensures err { IfErr result (HasStopped (W.faults sink.old) (W.faults sink.new)) }
     ensures counted { W.faults sink.old ≤ W.faults sink.new }
 {
     let mut rest = lines;
     while let [line, after @ ..] = rest {
-        run_line(alloc, desk, line, build, refused, piece)?;
+        run_line(alloc, desk, binds, line, build, refused, piece)?;
         write_long(piece, sink)?;
         rest = after;
     }
@@ -159,117 +189,28 @@ fn write_long<W: Sink>(piece: &mut Vec<u8>, sink: &mut W) -> Result<(), Failed>
 pub(crate) fn run_line<B: Build>(
     alloc: Global,
     desk: &mut Desk,
+    binds: &[Bind],
     line: &Line,
     build: &mut B,
-    refused: &mut Vec<crate::status::Refused>,
+    refused: &mut Vec<Refused>,
     piece: &mut Vec<u8>,
 ) -> Result<(), NoMemory>
     requires few { desk.old.steps < 2 ^ 48 }
     requires fit { IsFitLine line.now }
+    requires binds { AllByRecursion IsFitBind binds.now }
     ensures ok { refusal_at desk.old.steps refused.old.items ≡ None →
-        OnOk result (Leads desk.old desk.new (after line.now refused.new.items) (told (opening_of desk.old.plan) line.now refused.new.items) piece.old.items piece.new.items) }
-    ensures steps { OnOk result (desk.new.steps ≡ desk.old.steps + length (line_step line.now)) }
-    ensures plan { OnOk result (desk.new.plan ≡ desk.old.plan) }
-    ensures notes { Notes desk.old.steps (line_step line.now) refused.old.items refused.new.items (B.log build.old) (B.log build.new) }
+        OnOk result (Leads desk.old desk.new (after (opening_of desk.old.plan) binds.now line.now refused.new.items) (told (opening_of desk.old.plan) binds.now line.now refused.new.items) piece.old.items piece.new.items) }
+    ensures steps { OnOk result (desk.new.steps ≡ desk.old.steps + steps_of line.now.deed) }
+    ensures plan { desk.new.plan ≡ desk.old.plan }
+    ensures notes { OnOk result (NotesLine (opening_of desk.old.plan) binds.now desk.old line.now refused.old.items refused.new.items (B.log build.old) (B.log build.new)) }
+    ensures stopped { OnErr result (NotesSome (opening_of desk.old.plan) binds.now desk.old line.now refused.old.items (B.log build.old) (B.log build.new)) }
 {
-    match &line.deed {
-        Deed::Run(text) => {
-            run_and_tell(alloc, desk, line.who, text.as_str(), build, refused, piece)
-        }
-        Deed::Paint => paint(alloc, desk, piece),
-        deed => match query_in(deed) {
-            Some(query) => look(alloc, desk, line.who, &query, piece),
-            None => match step_of(alloc, deed)? {
-                Some(step) => take(alloc, desk, line.who, step, piece),
-                None => Ok(()),
-            },
-        },
+    refused.reserve(1)?;
+    let place = desk.steps();
+    let Played { text, refused: pattern } = play(alloc, desk, binds, line, build)?;
+    if let Some(pattern) = pattern {
+        refused.push_reserved(Refused { place, pattern });
     }
-}
-
-/// What a line looks at.
-fn query_in(deed: &Deed) -> Option<Query>
-    ensures { result ≡ query_in deed.now }
-{
-    match deed {
-        Deed::Tree => Some(Query::Tree),
-        Deed::Workspaces => Some(Query::Workspaces),
-        Deed::Outputs => Some(Query::Outputs),
-        Deed::Marks => Some(Query::Marks),
-        Deed::Wants { serial, kill } => Some(Query::Wants {
-            serial: *serial,
-            kill: *kill,
-        }),
-        _ => None,
-    }
-}
-
-/// Runs a text for the caller, and adds what that is answered.
-fn run_and_tell<B: Build>(
-    alloc: Global,
-    desk: &mut Desk,
-    who: u32,
-    text: &str,
-    build: &mut B,
-    refused: &mut Vec<crate::status::Refused>,
-    piece: &mut Vec<u8>,
-) -> Result<(), NoMemory>
-    requires few { desk.old.steps < 2 ^ 48 }
-    requires short { length text.now < 2 ^ 32 }
-    ensures ok { refusal_at desk.old.steps refused.old.items ≡ None →
-        OnOk result (Leads desk.old desk.new (λ history. run_entry who refused.new.items history text.now ∷ history)
-        (λ history. answer_text (answer (opening_of desk.old.plan) history (run_entry who refused.new.items history text.now))) piece.old.items piece.new.items) }
-    ensures steps { OnOk result (desk.new.steps ≡ desk.old.steps + 1) }
-    ensures plan { OnOk result (desk.new.plan ≡ desk.old.plan) }
-    ensures notes { Notes desk.old.steps (Some text.now ∷ []) refused.old.items refused.new.items (B.log build.old) (B.log build.new) }
-{
-    let answer = run_text(alloc, desk, who, text, build, refused)?;
-    push_answer(alloc, piece, &answer)
-}
-
-/// Takes a step of the caller, and adds its answer.
-fn take(
-    alloc: Global,
-    desk: &mut Desk,
-    who: u32,
-    step: Step,
-    piece: &mut Vec<u8>,
-) -> Result<(), NoMemory>
-    requires few { desk.old.steps < 2 ^ 48 }
-    requires fit { IsFitStep step }
-    ensures ok { OnOk result (Leads desk.old desk.new (λ history. entry_of who (act_of step) ∷ history)
-        (λ history. answer_text (answer (opening_of desk.old.plan) history (entry_of who (act_of step)))) piece.old.items piece.new.items) }
-    ensures steps { OnOk result (desk.new.steps ≡ desk.old.steps + 1) }
-    ensures plan { OnOk result (desk.new.plan ≡ desk.old.plan) }
-{
-    let answer = desk.step(who, &step);
-    drop(step);
-    push_answer(alloc, piece, &answer?)
-}
-
-/// Adds the frame.
-fn paint(alloc: Global, desk: &Desk, piece: &mut Vec<u8>) -> Result<(), NoMemory>
-    ensures { OnOk result (Leads desk.now desk.now (λ history. history)
-        (λ history. frame_text (frame (opening_of desk.now.plan) history)) piece.old.items piece.new.items) }
-{
-    let frame = desk.frame()?;
-    piece.extend_from_slice(frame_text(alloc, &frame)?.as_bytes())?;
+    piece.extend_from_slice(text.items())?;
     Ok(())
-}
-
-/// Adds what the caller sees.
-fn look(
-    alloc: Global,
-    desk: &Desk,
-    who: u32,
-    query: &Query,
-    piece: &mut Vec<u8>,
-) -> Result<(), NoMemory>
-    ensures { OnOk result (Leads desk.now desk.now (λ history. history)
-        (λ history. view_text (look (opening_of desk.now.plan) history who query.now)) piece.old.items piece.new.items) }
-{
-    let view = desk.look(who, query)?;
-    let told = push_view(alloc, piece, &view);
-    drop(view);
-    told
 }

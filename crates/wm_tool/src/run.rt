@@ -13,14 +13,14 @@ use crate::drawing::draw;
 use crate::generating::sum_up;
 use crate::ipc::answer_all;
 use crate::replay::replay;
-use crate::status::{Refused, Status};
+use crate::status::Status;
 use crate::words::{Command, Order, order_of};
 use std::alloc::Global;
 use wm_base::{List, NoMemory};
 use wm_criteria::Build;
 use wm_frames::{Decoder, FrameFault};
 use wm_ports::{Sink, Source, read_to_limit};
-use wm_script::read_script;
+use wm_script::{Refused, read_script};
 
 /// How long an input is at most, in bytes.
 const MOST: usize = 16_777_216;
@@ -116,9 +116,9 @@ fn replay_script<W: Sink, B: Build>(
     ensures written { WritesOn commands.Replay bytes.now (B.log build.old) (B.log build.new) (ending_of result) (W.taken sink.old) (W.taken sink.new) }
     ensures faults { (old new : ℕ) → HasRisen (ending_of result) old new (W.faults sink.old) (W.faults sink.new) }
 {
-    let lines = read_script(alloc, bytes)?;
+    let script = read_script(alloc, bytes)?;
     let mut refused = Vec::new(alloc);
-    replay(alloc, &lines, build, &mut refused, sink)?;
+    replay(alloc, script, build, &mut refused, sink)?;
     Ok(List::of(refused))
 }
 
@@ -135,9 +135,9 @@ fn draw_script<W: Sink, B: Build>(
     ensures written { WritesOn commands.Draw bytes.now (B.log build.old) (B.log build.new) (ending_of result) (W.taken sink.old) (W.taken sink.new) }
     ensures faults { (old new : ℕ) → HasRisen (ending_of result) old new (W.faults sink.old) (W.faults sink.new) }
 {
-    let lines = read_script(alloc, bytes)?;
+    let script = read_script(alloc, bytes)?;
     let mut refused = Vec::new(alloc);
-    draw(alloc, &lines, build, &mut refused, sink)?;
+    draw(alloc, script, build, &mut refused, sink)?;
     Ok(List::of(refused))
 }
 

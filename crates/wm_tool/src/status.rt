@@ -7,15 +7,7 @@ use crate::replay::Stop;
 use std::fmt;
 use wm_base::{List, NoMemory};
 use wm_ports::ReadFault;
-use wm_script::ScriptRefusal;
-
-/// A step whose text has a pattern that was refused: its place in the history, counted from 0, and the pattern's
-/// number in the text, counted from 0.
-#[derive(Clone, Copy, Debug, PartialEq, Eq)]
-pub struct Refused {
-    pub place: u64,
-    pub pattern: u32,
-}
+use wm_script::{Refused, ScriptRefusal};
 
 /// How a run of the tool ended. Its number is the exit status of the program.
 #[derive(Drop)]

@@ -1,5 +1,5 @@
 use Rattle.std.proofs.Common.{◌≡◌, ◌+◌, ◌≤◌, length}
-use Rattle.wm_script.specs.Script.{lines_of}
+use Rattle.wm_fields.specs.Split.{lines_of}
 use Rattle.wm_binds.specs.Blocks.{blank_draft}
 use Rattle.wm_binds.specs.Letters.{end}
 use Rattle.wm_binds.specs.LettersReading.{read_by}

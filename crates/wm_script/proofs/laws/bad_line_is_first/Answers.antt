@@ -1,5 +1,5 @@
-use Rattle.wm_script.specs.Script.{lines_of}
-use Rattle.wm_script.proofs.LawLemmas.{first_bad}
+use Rattle.wm_fields.specs.Split.{lines_of}
+use Rattle.wm_script.proofs.ReadingLemmas.{first_bad}
 use Rattle.wm_script.proofs.laws.bad_line_is_first.Goals as goal
 
 pub returns : goal.returns

@@ -1,6 +1,6 @@
-use Rattle.wm_script.specs.Script.{lines_of}
-use Rattle.wm_script.proofs.LawLemmas.{says}
+use Rattle.wm_fields.specs.Split.{lines_of}
+use Rattle.wm_script.proofs.ReadingLemmas.{says}
 use Rattle.wm_script.proofs.laws.script_is_its_lines.Goals as goal
 
 pub returns : goal.returns
-returns c = λ bytes lines e. says (lines_of bytes) lines e
+returns c = λ bytes s e. says (lines_of bytes) s e

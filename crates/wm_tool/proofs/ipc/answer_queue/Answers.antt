@@ -23,7 +23,7 @@ returns-in_err-write_all-clause-part g c = λ old whole texts first p.
     let now = g.W.Sink.taken c.loop-message.sink in
     let desk = c.loop-message.desk in
     on_err c.from_residual-in_err-write_all.result
-    (fails old now (g.W.Sink.taken c.write_all.new.sink) c.answer_message-answered.new.desk c.answer_message-answered.new.refused.items c.answer_message-answered.new.piece.items (replies_from (where_on c.in_ok-goes_on.goes_on c.answer_message-answered.new.talk) c.next.new.self.queue) whole texts (message_texts c.next.new.self.queue) first (g.B.Build.log c.answer_message-answered.new.build)
+    (fails old now (g.W.Sink.taken c.write_all.new.sink) c.answer_message-answered.new.desk c.answer_message-answered.new.refused.items c.answer_message-answered.new.piece.items (replies_from (where_on c.in_ok-goes_on.goes_on c.answer_message-answered.new.talk) c.next.new.self.queue) whole (λ rs h. message_texts c.next.new.self.queue) texts first (g.B.Build.log c.answer_message-answered.new.build)
     (plays_message old now desk c.loop-message.refused.items c.answer_message-answered.new.refused.items [] whole texts first (g.B.Build.log c.loop-message.build) (g.B.Build.log c.answer_message-answered.new.build)
     c.loop-message.talk c.in-Some.message c.loop-message.decoder.queue c.next.new.self.queue c.in-Some.ensures.queue (c.loop-message.invariant.plays old whole texts first p) c.answer_message-answered.ensures.notes
     c.answer_message-answered.new.desk (where_on c.in_ok-goes_on.goes_on c.answer_message-answered.new.talk) c.answer_message-answered.new.piece.items c.loop-message.invariant.plan
@@ -37,9 +37,9 @@ returns-then-not-goes_on-clause-ok g c = λ old whole texts first p.
     let now = g.W.Sink.taken c.loop-message.sink in
     let desk = c.loop-message.desk in
     let new = g.W.Sink.taken c.write_all.new.sink in
-    finishes old new c.answer_message-answered.new.desk c.answer_message-answered.new.refused.items (replies_from None c.next.new.self.queue) whole texts (message_texts c.next.new.self.queue) first (g.B.Build.log c.answer_message-answered.new.build) (λ rs history. refl)
-    (writes old now new c.answer_message-answered.new.desk c.answer_message-answered.new.refused.items c.answer_message-answered.new.piece.items (replies_from None c.next.new.self.queue) whole texts (message_texts c.next.new.self.queue) first (g.B.Build.log c.answer_message-answered.new.build)
-    (subst (λ w. Plays old now c.answer_message-answered.new.desk c.answer_message-answered.new.refused.items c.answer_message-answered.new.piece.items (replies_from w c.next.new.self.queue) whole texts (message_texts c.next.new.self.queue) first (g.B.Build.log c.answer_message-answered.new.build)) (ap (λ on. where_on on c.answer_message-answered.new.talk) c.if-not-goes_on.true)
+    finishes old new c.answer_message-answered.new.desk c.answer_message-answered.new.refused.items (replies_from None c.next.new.self.queue) whole (λ rs h. message_texts c.next.new.self.queue) texts first (g.B.Build.log c.answer_message-answered.new.build) (λ rs history. refl)
+    (writes old now new c.answer_message-answered.new.desk c.answer_message-answered.new.refused.items c.answer_message-answered.new.piece.items (replies_from None c.next.new.self.queue) whole (λ rs h. message_texts c.next.new.self.queue) texts first (g.B.Build.log c.answer_message-answered.new.build)
+    (subst (λ w. Plays old now c.answer_message-answered.new.desk c.answer_message-answered.new.refused.items c.answer_message-answered.new.piece.items (replies_from w c.next.new.self.queue) whole (λ rs h. message_texts c.next.new.self.queue) texts first (g.B.Build.log c.answer_message-answered.new.build)) (ap (λ on. where_on on c.answer_message-answered.new.talk) c.if-not-goes_on.true)
     (plays_message old now desk c.loop-message.refused.items c.answer_message-answered.new.refused.items [] whole texts first (g.B.Build.log c.loop-message.build) (g.B.Build.log c.answer_message-answered.new.build)
     c.loop-message.talk c.in-Some.message c.loop-message.decoder.queue c.next.new.self.queue c.in-Some.ensures.queue (c.loop-message.invariant.plays old whole texts first p) c.answer_message-answered.ensures.notes
     c.answer_message-answered.new.desk (where_on c.in_ok-goes_on.goes_on c.answer_message-answered.new.talk) c.answer_message-answered.new.piece.items c.loop-message.invariant.plan
@@ -59,8 +59,8 @@ loop-message-preserved g c =
       short = (subst (AllByRecursion IsShort) c.in-Some.ensures.queue kept.short).1;
       empty = c.clear.ensures.items;
       plays = λ old whole texts first p.
-          writes old now (g.W.Sink.taken c.write_all.new.sink) c.answer_message-answered.new.desk c.answer_message-answered.new.refused.items c.answer_message-answered.new.piece.items (replies_from (Some c.answer_message-answered.new.talk) c.next.new.self.queue) whole texts (message_texts c.next.new.self.queue) first (g.B.Build.log c.answer_message-answered.new.build)
-          (subst (λ w. Plays old now c.answer_message-answered.new.desk c.answer_message-answered.new.refused.items c.answer_message-answered.new.piece.items (replies_from w c.next.new.self.queue) whole texts (message_texts c.next.new.self.queue) first (g.B.Build.log c.answer_message-answered.new.build)) (ap (λ on. where_on on c.answer_message-answered.new.talk) c.if-not-goes_on.false)
+          writes old now (g.W.Sink.taken c.write_all.new.sink) c.answer_message-answered.new.desk c.answer_message-answered.new.refused.items c.answer_message-answered.new.piece.items (replies_from (Some c.answer_message-answered.new.talk) c.next.new.self.queue) whole (λ rs h. message_texts c.next.new.self.queue) texts first (g.B.Build.log c.answer_message-answered.new.build)
+          (subst (λ w. Plays old now c.answer_message-answered.new.desk c.answer_message-answered.new.refused.items c.answer_message-answered.new.piece.items (replies_from w c.next.new.self.queue) whole (λ rs h. message_texts c.next.new.self.queue) texts first (g.B.Build.log c.answer_message-answered.new.build)) (ap (λ on. where_on on c.answer_message-answered.new.talk) c.if-not-goes_on.false)
           (plays_message old now desk c.loop-message.refused.items c.answer_message-answered.new.refused.items [] whole texts first (g.B.Build.log c.loop-message.build) (g.B.Build.log c.answer_message-answered.new.build)
           c.loop-message.talk c.in-Some.message c.loop-message.decoder.queue c.next.new.self.queue c.in-Some.ensures.queue (c.loop-message.invariant.plays old whole texts first p) c.answer_message-answered.ensures.notes
           c.answer_message-answered.new.desk (where_on c.in_ok-goes_on.goes_on c.answer_message-answered.new.talk) c.answer_message-answered.new.piece.items c.loop-message.invariant.plan
@@ -74,8 +74,8 @@ loop-message-preserved g c =
 pub returns-clause-ok : goal.returns-clause-ok
 returns-clause-ok g c = λ old whole texts first p.
     let now = g.W.Sink.taken c.loop-message.sink in
-    finishes old now c.loop-message.desk c.loop-message.refused.items (replies_from (Some c.loop-message.talk) []) whole texts (message_texts []) first (g.B.Build.log c.loop-message.build) (λ rs history. refl)
-    (subst (λ queue. Plays old now c.loop-message.desk c.loop-message.refused.items [] (replies_from (Some c.loop-message.talk) queue) whole texts (message_texts queue) first (g.B.Build.log c.loop-message.build))
+    finishes old now c.loop-message.desk c.loop-message.refused.items (replies_from (Some c.loop-message.talk) []) whole (λ rs h. message_texts []) texts first (g.B.Build.log c.loop-message.build) (λ rs history. refl)
+    (subst (λ queue. Plays old now c.loop-message.desk c.loop-message.refused.items [] (replies_from (Some c.loop-message.talk) queue) whole (λ rs h. message_texts queue) texts first (g.B.Build.log c.loop-message.build))
     c.in_default.ensures.none (c.loop-message.invariant.plays old whole texts first p))
 
 pub answer_message-answered-requires : goal.answer_message-answered-requires

@@ -1,9 +1,7 @@
 use Rattle.std.proofs.Common.{◌-◌, ◌∙◌, ap, arith, drop, length, sym, subst, take}
 use Rattle.wm_core.specs.History.{opening_of}
-use Rattle.std.proofs.lemmas.List.Elements.{All-take, All-drop}
-use Rattle.wm_tool.specs.Output.{line_texts, out_from}
+use Rattle.wm_script.specs.Out.{out_from, texts_from}
 use Rattle.wm_tool.specs.Running.{Plays}
-use Rattle.wm_script.specs.Script.{IsFitLine}
 use Rattle.wm_tool.proofs.LineLemmas.{none_left, one_step, plays_line, stops_line}
 use Rattle.wm_tool.proofs.RunLemmas.{fails, on_err, writes}
 use Rattle.wm_tool.proofs.replay.run_lines.Goals as goal
@@ -13,18 +11,20 @@ returns-in_err-run_line-clause-part g c = λ old whole texts first p.
     let now = g.W.Sink.taken c.loop-rest.sink in
     let desk = c.loop-rest.desk in
     on_err c.from_residual.result
-    (stops_line (opening_of c.args.desk.now.plan) old now desk c.loop-rest.refused.items c.run_line.new.refused.items c.loop-rest.piece.items whole texts first (g.B.Build.log c.loop-rest.build) (g.B.Build.log c.run_line.new.build)
-    c.line-item.result _ c.loop-rest.rest.now c.in-len1-up.len_at_least c.line-item.is (c.loop-rest.invariant.plays old whole texts first p) c.run_line.ensures.notes)
+    (stops_line (opening_of c.args.desk.now.plan) c.args.binds.now old now desk c.loop-rest.refused.items c.loop-rest.piece.items whole texts first (g.B.Build.log c.loop-rest.build) (g.B.Build.log c.run_line.new.build)
+    c.line-item.result _ c.loop-rest.rest.now c.in-len1-up.len_at_least c.line-item.is (ap opening_of c.loop-rest.invariant.plan) (c.loop-rest.invariant.plays old whole texts first p) c.in_err-run_line.ensures.stopped)
 
 pub returns-in_err-write_long-clause-part : goal.returns-in_err-write_long-clause-part
 returns-in_err-write_long-clause-part g c = λ old whole texts first p.
     let now = g.W.Sink.taken c.loop-rest.sink in
     let desk = c.loop-rest.desk in
+    let start = opening_of c.args.desk.now.plan in
+    let left = take (length c.loop-rest.rest.now - 1) (drop 1 c.loop-rest.rest.now) in
     on_err c.from_residual-in_err-write_long.result
-    (fails old now (g.W.Sink.taken c.write_long.new.sink) c.run_line.new.desk c.run_line.new.refused.items c.run_line.new.piece.items (out_from (opening_of c.args.desk.now.plan) (take (length c.loop-rest.rest.now - 1) (drop 1 c.loop-rest.rest.now))) whole texts (line_texts (take (length c.loop-rest.rest.now - 1) (drop 1 c.loop-rest.rest.now))) first (g.B.Build.log c.run_line.new.build)
-    (plays_line (opening_of c.args.desk.now.plan) old now desk c.loop-rest.refused.items c.run_line.new.refused.items c.loop-rest.piece.items whole texts first (g.B.Build.log c.loop-rest.build) (g.B.Build.log c.run_line.new.build)
-    c.line-item.result _ c.loop-rest.rest.now c.in-len1-up.len_at_least c.line-item.is (c.loop-rest.invariant.plays old whole texts first p) c.run_line.ensures.notes
-    c.run_line.new.desk c.run_line.new.piece.items (ap opening_of (sym c.loop-rest.invariant.plan)) c.in_ok-run_line.ensures.ok c.in_ok-run_line.ensures.steps)
+    (fails old now (g.W.Sink.taken c.write_long.new.sink) c.run_line.new.desk c.run_line.new.refused.items c.run_line.new.piece.items (out_from start c.args.binds.now left) whole (texts_from start c.args.binds.now left) texts first (g.B.Build.log c.run_line.new.build)
+    (plays_line start c.args.binds.now old now desk c.loop-rest.refused.items c.loop-rest.piece.items whole texts first (g.B.Build.log c.loop-rest.build) (g.B.Build.log c.run_line.new.build)
+    c.line-item.result _ c.loop-rest.rest.now c.in-len1-up.len_at_least c.line-item.is (ap opening_of c.loop-rest.invariant.plan) (c.loop-rest.invariant.plays old whole texts first p)
+    c.run_line.new.refused.items c.run_line.new.desk c.run_line.new.piece.items c.in_ok-run_line.ensures.notes c.in_ok-run_line.ensures.ok c.in_ok-run_line.ensures.steps)
     c.in_err-write_long.ensures.part)
 
 pub loop-rest-preserved : goal.loop-rest-preserved
@@ -32,20 +32,22 @@ loop-rest-preserved g c =
     let now = g.W.Sink.taken c.loop-rest.sink in
     let desk = c.loop-rest.desk in
     let kept = c.loop-rest.invariant in
+    let start = opening_of c.args.desk.now.plan in
+    let left = take (length c.loop-rest.rest.now - 1) (drop 1 c.loop-rest.rest.now) in
     record {
-      few = omega (arith, kept.few, c.in_ok-run_line.ensures.steps, one_step c.line-item.result, c.in-len1-up.len_at_least);
-      fit = All-take IsFitLine _ _ (All-drop IsFitLine 1 c.loop-rest.rest.now kept.fit);
-      plan = c.in_ok-run_line.ensures.plan ∙ kept.plan;
+      few = omega (arith, kept.few, c.in_ok-run_line.ensures.steps, one_step c.line-item.result.deed, c.in-len1-up.len_at_least);
+      plan = c.run_line.ensures.plan ∙ kept.plan;
       plays = λ old whole texts first p.
-          writes old now (g.W.Sink.taken c.write_long.new.sink) c.run_line.new.desk c.run_line.new.refused.items c.run_line.new.piece.items (out_from (opening_of c.args.desk.now.plan) (take (length c.loop-rest.rest.now - 1) (drop 1 c.loop-rest.rest.now))) whole texts (line_texts (take (length c.loop-rest.rest.now - 1) (drop 1 c.loop-rest.rest.now))) first (g.B.Build.log c.run_line.new.build)
-          (plays_line (opening_of c.args.desk.now.plan) old now desk c.loop-rest.refused.items c.run_line.new.refused.items c.loop-rest.piece.items whole texts first (g.B.Build.log c.loop-rest.build) (g.B.Build.log c.run_line.new.build)
-          c.line-item.result _ c.loop-rest.rest.now c.in-len1-up.len_at_least c.line-item.is (c.loop-rest.invariant.plays old whole texts first p) c.run_line.ensures.notes
-          c.run_line.new.desk c.run_line.new.piece.items (ap opening_of (sym c.loop-rest.invariant.plan)) c.in_ok-run_line.ensures.ok c.in_ok-run_line.ensures.steps)
+          writes old now (g.W.Sink.taken c.write_long.new.sink) c.run_line.new.desk c.run_line.new.refused.items c.run_line.new.piece.items (out_from start c.args.binds.now left) whole (texts_from start c.args.binds.now left) texts first (g.B.Build.log c.run_line.new.build)
+          (plays_line start c.args.binds.now old now desk c.loop-rest.refused.items c.loop-rest.piece.items whole texts first (g.B.Build.log c.loop-rest.build) (g.B.Build.log c.run_line.new.build)
+          c.line-item.result _ c.loop-rest.rest.now c.in-len1-up.len_at_least c.line-item.is (ap opening_of kept.plan) (kept.plays old whole texts first p)
+          c.run_line.new.refused.items c.run_line.new.desk c.run_line.new.piece.items c.in_ok-run_line.ensures.notes c.in_ok-run_line.ensures.ok c.in_ok-run_line.ensures.steps)
           c.write_long.new.piece.items c.in_ok-write_long.ensures.ok;
       counted = omega (arith, kept.counted, c.write_long.ensures.counted);
     }
 
 pub returns-clause-ok : goal.returns-clause-ok
 returns-clause-ok g c = λ old whole texts first p.
-    subst (λ rest. Plays old (g.W.Sink.taken c.loop-rest.sink) c.loop-rest.desk c.loop-rest.refused.items c.loop-rest.piece.items (out_from (opening_of c.args.desk.now.plan) rest) whole texts (line_texts rest) first (g.B.Build.log c.loop-rest.build))
+    let start = opening_of c.args.desk.now.plan in
+    subst (λ rest. Plays old (g.W.Sink.taken c.loop-rest.sink) c.loop-rest.desk c.loop-rest.refused.items c.loop-rest.piece.items (out_from start c.args.binds.now rest) whole (texts_from start c.args.binds.now rest) texts first (g.B.Build.log c.loop-rest.build))
     (none_left c.loop-rest.rest.now c.in_default.len_below) (c.loop-rest.invariant.plays old whole texts first p)

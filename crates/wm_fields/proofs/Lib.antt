@@ -1,0 +1,4 @@
+pub mod FieldLemmas
+pub mod PropertyLemmas
+pub mod SplitLemmas
+pub mod TextLemmas

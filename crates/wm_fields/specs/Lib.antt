@@ -1,0 +1,4 @@
+pub mod Fields
+pub mod Properties
+pub mod Quoted
+pub mod Split
