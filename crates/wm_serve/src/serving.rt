@@ -82,7 +82,16 @@ pub fn serve<
         Err(status) => return status,
     };
     match options.rehearse {
-        None => serve_doors(alloc, rt, plan, options.hold_ms, doors, builds, frames, clock),
+        None => serve_doors(
+            alloc,
+            rt,
+            plan,
+            options.hold_ms,
+            doors,
+            builds,
+            frames,
+            clock,
+        ),
         Some(n) => rehearse_whole(alloc, rt, plan, options.hold_ms, n, builds, frames, clock),
     }
 }
