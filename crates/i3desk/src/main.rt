@@ -13,6 +13,7 @@ use std::rt::Files;
 use std::sync::Wait;
 use std::thread::Threads;
 use wm_crew::ServeStatus;
+use wm_options::options_of;
 use wm_ports::{StdSink, StdSource};
 use wm_serve::serve;
 use wm_sockets::RealClock;
@@ -24,10 +25,10 @@ const VERSION: &str = "i3desk 1.0.0";
 const HELP: &str = "\
 i3desk: the desktop of i3, served on Unix sockets.
 
-usage: i3desk < CONFIGURATION               serve clients until one says `exit`
-       i3desk --rehearse N < CONFIGURATION  let N callers and N modelled clients, 1 to 8, act in memory
-       i3desk --help                        write this text
-       i3desk --version                     write the version
+usage: i3desk [--hold MS] < CONFIGURATION               serve clients until one says `exit`
+       i3desk [--hold MS] --rehearse N < CONFIGURATION  let N callers and N modelled clients, 1 to 8, act in memory
+       i3desk --help                                    write this text
+       i3desk --version                                 write the version
 
 It listens in the folder in which it was started:
   i3desk.ipc      clients that speak i3-ipc, at most 8 at a time, as `i3-msg -s i3desk.ipc 'focus left'`
@@ -36,8 +37,8 @@ Only the user who started it may connect. Each further client waits until anothe
 
 The configuration is one of i3, whose outputs, borders, gaps, modes, workspaces and saved layouts count; an empty one means one
 output of 1920x1080 pixels. The frames are written to standard output, one after another as they are painted. A frame
-shows an arrangement only once each window whose size it changes has given a buffer for it or was closed, or 200 milliseconds
-have passed. At the end come the summary of all steps and the tree.
+shows an arrangement only once each window whose size it changes has given a buffer for it or was closed, or MS milliseconds
+have passed, 1 to 10000, and 200 where the words do not say it. At the end come the summary of all steps and the tree.
 
 Exit status: 0 done, 2 bad words, 3 bad configuration, 6 input too large, 7 read fault, 8 write fault, 9 no memory, 10 too many
 outputs, 11 a listener failed, 12 history full.";
@@ -85,13 +86,17 @@ fn answer<R: Threads + Wait + Files + Net + Sync>(
     }
 }
 
-/// Serves by the words, with doors on the sockets where there are none. Whatever comes, the sockets' files are removed.
+/// Serves by the words, with doors on the sockets unless they ask for a rehearsal. Whatever comes, the sockets' files are removed.
 fn run<R: Threads + Wait + Files + Net + Sync>(
     rt: &HostRuntime,
     system: &R,
     words: &[String],
 ) -> Result<ServeStatus, AllocError> {
-    let sockets = Sockets::open(rt, system, words.is_empty());
+    let Ok(options) = options_of(rt.alloc(), words) else {
+        return Ok(ServeStatus::NoMemory);
+    };
+    let wanted = options.is_some_and(|options| options.rehearse.is_none());
+    let sockets = Sockets::open(rt, system, wanted);
     let status = run_at(rt, system, words, &sockets);
     sockets.remove(system);
     status

@@ -6,4 +6,3 @@ pub mod Running
 pub mod Said
 pub mod Serving
 pub mod Summary
-pub mod Words

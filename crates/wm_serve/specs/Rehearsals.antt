@@ -50,8 +50,8 @@ IsUnused builds builds' from to clock clock' = (builds' ≡ builds) × (to ≡ f
 
 -- Either the configuration was refused, and nothing was done; or it was read to its end and gives a plan, and then there was
 -- no memory for a desk, and nothing was done, or actors rehearsed on one at the opening of the plan.
-pub data IsRehearsed {B : Type 0} (log : B → Log) (n : ℕ) (read read' : Option (List ℕ)) (read_faults read_faults' : ℕ) (builds builds' : List B) (from to : Screen)
+pub data IsRehearsed {B : Type 0} (log : B → Log) (n hold : ℕ) (read read' : Option (List ℕ)) (read_faults read_faults' : ℕ) (builds builds' : List B) (from to : Screen)
     (clock clock' : Option (List ℕ)) (result : ServeStatus) : Type 0 where
-  Refused : IsRefused result read read' read_faults read_faults' → IsUnused builds builds' from to clock clock' → IsRehearsed log n read read' read_faults read_faults' builds builds' from to clock clock' result
-  Not_started : (plan : Plan) → IsPlanRead read read' plan → result ≡ ended.NoMemory → IsUnused builds builds' from to clock clock' → IsRehearsed log n read read' read_faults read_faults' builds builds' from to clock clock' result
-  Has_run : (plan : Plan) → IsPlanRead read read' plan → RanRehearsal log plan n 200 builds builds' from to clock clock' result → IsRehearsed log n read read' read_faults read_faults' builds builds' from to clock clock' result
+  Refused : IsRefused result read read' read_faults read_faults' → IsUnused builds builds' from to clock clock' → IsRehearsed log n hold read read' read_faults read_faults' builds builds' from to clock clock' result
+  Not_started : (plan : Plan) → IsPlanRead read read' plan → result ≡ ended.NoMemory → IsUnused builds builds' from to clock clock' → IsRehearsed log n hold read read' read_faults read_faults' builds builds' from to clock clock' result
+  Has_run : (plan : Plan) → IsPlanRead read read' plan → RanRehearsal log plan n hold builds builds' from to clock clock' result → IsRehearsed log n hold read read' read_faults read_faults' builds builds' from to clock clock' result

@@ -81,9 +81,9 @@ pub record Ran {L A B : Type 0} (link_told : L → Option LinkTold) (link_faults
 
 -- Either the configuration was refused, and nothing was done; or it was read to its end and gives a plan, and then there was
 -- no memory for a desk, and nothing was done, or actors ran on one at the opening of the plan, with 8 doors for clients that
--- speak i3-ipc, and deadlines after 200 milliseconds.
-pub data IsServed {L A B : Type 0} (link_told : L → Option LinkTold) (link_faults : L → ℕ) (told : A → Option (ListenTold L)) (faults : A → ℕ) (log : B → Log)
+-- speak i3-ipc, and deadlines after so many milliseconds.
+pub data IsServed {L A B : Type 0} (link_told : L → Option LinkTold) (link_faults : L → ℕ) (told : A → Option (ListenTold L)) (faults : A → ℕ) (log : B → Log) (hold : ℕ)
     (read read' : Option (List ℕ)) (read_faults read_faults' : ℕ) (from to : Outside A B) (result : ServeStatus) : Type 0 where
-  Refused : IsRefused result read read' read_faults read_faults' → to ≡ from → IsServed link_told link_faults told faults log read read' read_faults read_faults' from to result
-  Not_started : (plan : Plan) → IsPlanRead read read' plan → result ≡ status.NoMemory → to ≡ from → IsServed link_told link_faults told faults log read read' read_faults read_faults' from to result
-  Has_run : (plan : Plan) → IsPlanRead read read' plan → Ran link_told link_faults told faults log plan 8 200 from to result → IsServed link_told link_faults told faults log read read' read_faults read_faults' from to result
+  Refused : IsRefused result read read' read_faults read_faults' → to ≡ from → IsServed link_told link_faults told faults log hold read read' read_faults read_faults' from to result
+  Not_started : (plan : Plan) → IsPlanRead read read' plan → result ≡ status.NoMemory → to ≡ from → IsServed link_told link_faults told faults log hold read read' read_faults read_faults' from to result
+  Has_run : (plan : Plan) → IsPlanRead read read' plan → Ran link_told link_faults told faults log plan 8 hold from to result → IsServed link_told link_faults told faults log hold read read' read_faults read_faults' from to result

@@ -8,7 +8,6 @@ mod rehearsed;
 mod rehearsing;
 mod serving;
 mod summing;
-mod words;
 
 pub use desk::run_desk;
 pub use rehearsing::rehearse;

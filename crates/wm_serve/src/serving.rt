@@ -1,5 +1,5 @@
 //! The server from end to end.
-ghost use Rattle.std.specs.Prelude.{◌≡◌, ◌⊎◌, ◌↔◌, ◌≤◌, ◌*◌, ◌+◌, ℕ, [], List, None, Some, length, IfErr, IfOk};
+ghost use Rattle.std.specs.Prelude.{◌≡◌, ◌⊎◌, ◌≤◌, ◌*◌, ◌+◌, ℕ, [], List, None, Some, length, map, string_bytes, IfErr, IfOk};
 ghost use Rattle.wm_actors.specs.Pictured.{screen};
 ghost use Rattle.wm_core.specs.Entries.{history_of};
 ghost use Rattle.wm_core.specs.History.{opening_of};
@@ -7,26 +7,26 @@ ghost use Rattle.wm_core.specs.declared.step.Step as steps;
 ghost use Rattle.wm_crew.specs.Running.{outside};
 ghost use Rattle.wm_crew.specs.declared.status.ServeStatus.TheVariants as status;
 ghost use Rattle.wm_layouts.specs.Plan.{IsSound};
+ghost use Rattle.wm_options.specs.Options.{options_of};
 ghost use Rattle.wm_serve.specs.Rehearsals.{IsRehearsed, RanRehearsal};
 ghost use Rattle.wm_serve.specs.Serving.{IsEnded, IsPlanRead, IsRefused, IsServed, IsSummed, Ran};
 ghost use Rattle.wm_serve.specs.Summary.{summary};
-ghost use Rattle.wm_serve.specs.Words.{order_of};
-ghost use Rattle.wm_serve.specs.declared.words.Order.TheVariants as orders;
 ghost use Rattle.wm_turn.specs.declared.view.Entry.{Entry};
 
 use crate::desk::run_desk;
 use crate::rehearsing::rehearse;
 use crate::summing::summary;
-use crate::words::{Order, order_of};
 use std::alloc::Global;
 use std::sync::Wait;
 use std::thread::Threads;
+use wm_base::NoMemory;
 use wm_binds::{Config, ConfigRefusal};
 use wm_book::Kept;
 use wm_core::Desk;
 use wm_crew::ServeStatus;
 use wm_criteria::Build;
 use wm_layouts::Plan;
+use wm_options::options_of;
 use wm_ports::{Clock, Link, Listen, ReadFault, Sink, Source, read_to_limit, write_all};
 
 /// How long a configuration is at most, in bytes.
@@ -35,13 +35,11 @@ const MOST: usize = 1_048_576;
 /// How many of the doors give clients that speak i3-ipc.
 const IPC: usize = 8;
 
-/// For how many milliseconds a transaction may wait.
-const HOLD: u64 = 200;
-
-/// Serves clients by these words: none, or `--rehearse` and a digit from 1 to 8. The configuration that the source gives is
-/// read to its end, and the desk opens with its plan. Without words the first 8 doors give clients that speak i3-ipc, and the other 16 clients
-/// that speak lines; with `--rehearse` no door is used. Frames are written as they come, and a summary at the end. It may
-/// wait, and need not return.
+/// Serves clients by these words: `--hold` and a number of milliseconds from 1 to 10,000, for which a transaction may wait, 200
+/// where it is missing, and `--rehearse` and a number from 1 to 8. The configuration that the source gives is read to its end,
+/// and the desk opens with its plan. The first 8 doors give clients that speak i3-ipc, and the other 16 clients that speak
+/// lines; with `--rehearse` no door is used. Frames are written as they come, and a summary at the end. It may wait, and need
+/// not return.
 pub fn serve<
     R: Threads + Wait + Sync,
     I: Source,
@@ -62,27 +60,39 @@ pub fn serve<
 ) -> ServeStatus
     requires doors { length doors.old.items ≡ 24 }
     requires builds { length builds.old ≡ 24 }
-    ensures words { result ≡ status.BadWords ↔ order_of words.now ≡ None }
-    ensures unread { result ≡ status.BadWords → source.new ≡ source.old }
-    ensures served { order_of words.now ≡ Some orders.Serve → IsServed L.told L.faults A.told A.faults B.log
+    ensures words { result ≡ status.BadWords → options_of (map string_bytes words.now) ≡ None }
+    ensures refused { options_of (map string_bytes words.now) ≡ None → ((result ≡ status.BadWords) ⊎ (result ≡ status.NoMemory))
+        × (source.new ≡ source.old) × (doors.new ≡ doors.old) × (builds.new ≡ builds.old) × (frames.new ≡ frames.old) × (clock.new ≡ clock.old) }
+    ensures served { (hold : ℕ) → options_of (map string_bytes words.now) ≡ Some (record { hold_ms = hold; rehearse = None }) → IsServed L.told L.faults A.told A.faults B.log hold
         (I.rest source.old) (I.rest source.new) (I.faults source.old) (I.faults source.new)
         (outside doors.old.items builds.old (S.taken frames.old) (S.faults frames.old) (C.told clock.old))
         (outside doors.new.items builds.new (S.taken frames.new) (S.faults frames.new) (C.told clock.new)) result }
-    ensures unused { (n : ℕ) → order_of words.now ≡ Some (orders.Rehearse n) → doors.new ≡ doors.old }
-    ensures rehearsed { (n : ℕ) → order_of words.now ≡ Some (orders.Rehearse n) → IsRehearsed B.log n
+    ensures unused { (hold n : ℕ) → options_of (map string_bytes words.now) ≡ Some (record { hold_ms = hold; rehearse = Some n }) → doors.new ≡ doors.old }
+    ensures rehearsed { (hold n : ℕ) → options_of (map string_bytes words.now) ≡ Some (record { hold_ms = hold; rehearse = Some n }) → IsRehearsed B.log n hold
         (I.rest source.old) (I.rest source.new) (I.faults source.old) (I.faults source.new) builds.old builds.new
         (screen (S.taken frames.old) (S.faults frames.old)) (screen (S.taken frames.new) (S.faults frames.new)) (C.told clock.old) (C.told clock.new) result }
 {
-    let Some(order) = order_of(words) else {
-        return ServeStatus::BadWords;
+    let options = match options_of(alloc, words) {
+        Ok(Some(options)) => options,
+        Ok(None) => return ServeStatus::BadWords,
+        Err(NoMemory) => return ServeStatus::NoMemory,
     };
     let plan = match configured(alloc, source) {
         Ok(plan) => plan,
         Err(status) => return status,
     };
-    match order {
-        Order::Serve => serve_doors(alloc, rt, plan, doors, builds, frames, clock),
-        Order::Rehearse(n) => rehearse_whole(alloc, rt, plan, n, builds, frames, clock),
+    match options.rehearse {
+        None => serve_doors(
+            alloc,
+            rt,
+            plan,
+            options.hold_ms,
+            doors,
+            builds,
+            frames,
+            clock,
+        ),
+        Some(n) => rehearse_whole(alloc, rt, plan, options.hold_ms, n, builds, frames, clock),
     }
 }
 
@@ -121,6 +131,7 @@ fn serve_doors<
     alloc: Global,
     rt: &R,
     plan: Plan,
+    hold_ms: u64,
     doors: &mut Vec<A>,
     builds: &mut [B],
     frames: &mut S,
@@ -129,14 +140,14 @@ fn serve_doors<
     requires doors { length doors.old.items ≤ 4094 }
     requires builds { length builds.old ≡ length doors.old.items }
     requires sound { IsSound plan }
-    ensures { ((result ≡ status.NoMemory) × (doors.new ≡ doors.old) × (builds.new ≡ builds.old) × (frames.new ≡ frames.old) × (clock.new ≡ clock.old)) ⊎ Ran L.told L.faults A.told A.faults B.log plan 8 200
+    ensures { ((result ≡ status.NoMemory) × (doors.new ≡ doors.old) × (builds.new ≡ builds.old) × (frames.new ≡ frames.old) × (clock.new ≡ clock.old)) ⊎ Ran L.told L.faults A.told A.faults B.log plan 8 hold_ms
         (outside doors.old.items builds.old (S.taken frames.old) (S.faults frames.old) (C.told clock.old))
         (outside doors.new.items builds.new (S.taken frames.new) (S.faults frames.new) (C.told clock.new)) result }
 {
     let Ok(desk) = Desk::start(alloc, plan) else {
         return ServeStatus::NoMemory;
     };
-    match run_desk(alloc, rt, desk, doors, IPC, builds, frames, clock, HOLD) {
+    match run_desk(alloc, rt, desk, doors, IPC, builds, frames, clock, hold_ms) {
         Ok((desk, status)) => close_down(alloc, desk, status, frames),
         Err(desk) => {
             drop(desk);
@@ -168,6 +179,7 @@ fn rehearse_whole<R: Threads + Wait + Sync, S: Sink + Send, C: Clock + Send, B: 
     alloc: Global,
     rt: &R,
     plan: Plan,
+    hold_ms: u64,
     n: u32,
     builds: &mut [B],
     frames: &mut S,
@@ -177,11 +189,11 @@ fn rehearse_whole<R: Threads + Wait + Sync, S: Sink + Send, C: Clock + Send, B: 
     requires builds { 2 * n ≤ length builds.old }
     requires sound { IsSound plan }
     ensures words { result ≡ status.BadWords → ⊥ }
-    ensures ran { ((result ≡ status.NoMemory) × (builds.new ≡ builds.old) × (frames.new ≡ frames.old) × (clock.new ≡ clock.old)) ⊎ RanRehearsal B.log plan n 200 builds.old builds.new
+    ensures ran { ((result ≡ status.NoMemory) × (builds.new ≡ builds.old) × (frames.new ≡ frames.old) × (clock.new ≡ clock.old)) ⊎ RanRehearsal B.log plan n hold_ms builds.old builds.new
         (screen (S.taken frames.old) (S.faults frames.old)) (screen (S.taken frames.new) (S.faults frames.new)) (C.told clock.old) (C.told clock.new) result }
 {
     let (builds, _) = builds.split_at_mut(2 * n as usize);
-    let (desk, status) = rehearse(alloc, rt, plan, n, builds, frames, clock, HOLD);
+    let (desk, status) = rehearse(alloc, rt, plan, n, builds, frames, clock, hold_ms);
     match desk {
         Some(desk) => sum_up(alloc, desk, frames),
         None => status,

@@ -62,8 +62,7 @@ line_leads desk next binds l refusal before refused piece text grown plays none 
     let start = opening_of desk.plan in
     let tells = plays history stands in
     let same : refusal_at (length history) refused ≡ refusal =
-    ap (λ n. refusal_at n refused) (sym stands.counted) ∙ (ap (refusal_at desk.steps) grown ∙ noted_is desk.steps refusal before none) in
-    (
+    ap (λ n. refusal_at n refused) (sym stands.counted) ∙ (ap (refusal_at desk.steps) grown ∙ noted_is desk.steps refusal before none) in (
       subst (λ r. Stands next (after_effect (effect_with start binds l.who r history l.deed) history)) (sym same) tells.stands,
       ap (λ t. piece ++ t) (tells.told ∙ ap (λ r. effect_text start history (effect_with start binds l.who r history l.deed)) (sym same)),
     )

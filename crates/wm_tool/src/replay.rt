@@ -207,7 +207,10 @@ pub(crate) fn run_line<B: Build>(
 {
     refused.reserve(1)?;
     let place = desk.steps();
-    let Played { text, refused: pattern } = play(alloc, desk, binds, line, build)?;
+    let Played {
+        text,
+        refused: pattern,
+    } = play(alloc, desk, binds, line, build)?;
     if let Some(pattern) = pattern {
         refused.push_reserved(Refused { place, pattern });
     }

@@ -17,7 +17,7 @@ returns-in-Some-clause-ran g c =
       left = screen (g.S.Sink.taken c.rehearse-desk.new.frames) (g.S.Sink.faults c.rehearse-desk.new.frames);
       desk = Some c.in-Some.desk;
       ended = c.rehearse-desk.result.1;
-      ran = rehearsed_as g.B.Build.log c.args.plan c.args.n 200 _ _ _ _ _ _ _ _ _ _ c.split_at_mut-builds.ensures.front c.in-Some.is r;
+      ran = rehearsed_as g.B.Build.log c.args.plan c.args.n c.args.hold_ms _ _ _ _ _ _ _ _ _ _ c.split_at_mut-builds.ensures.front c.in-Some.is r;
       builds_are = ap (λ bs. c.rehearse-desk.new.builds ++ bs) c.split_at_mut-builds.ensures.back;
       summed = λ history is. subst (λ plan. IsSummed c.sum_up.result (summary (opening_of plan) (history_of history))
           (screen (g.S.Sink.taken c.rehearse-desk.new.frames) (g.S.Sink.faults c.rehearse-desk.new.frames)) (screen (g.S.Sink.taken c.sum_up.new.frames) (g.S.Sink.faults c.sum_up.new.frames)))
@@ -34,7 +34,7 @@ returns-in-None-clause-ran g c =
       left = screen (g.S.Sink.taken c.rehearse-desk.new.frames) (g.S.Sink.faults c.rehearse-desk.new.frames);
       desk = None;
       ended = c.rehearse-desk.result.1;
-      ran = rehearsed_as g.B.Build.log c.args.plan c.args.n 200 _ _ _ _ _ _ _ _ _ _ c.split_at_mut-builds.ensures.front c.in-None.is r;
+      ran = rehearsed_as g.B.Build.log c.args.plan c.args.n c.args.hold_ms _ _ _ _ _ _ _ _ _ _ c.split_at_mut-builds.ensures.front c.in-None.is r;
       builds_are = ap (λ bs. c.rehearse-desk.new.builds ++ bs) c.split_at_mut-builds.ensures.back;
       summed = tt;
       unsummed = (refl, refl);

@@ -27,16 +27,21 @@ pub returns-in_err-write_all-clause-part : goal.returns-in_err-write_all-clause-
 returns-in_err-write_all-clause-part g c =
     let drawn = c.in_ok-play_lines.ensures.ok _ _ _ (begins _ _ _ _ _ _ _ c.requires.none refl c.requires.stands) in
     let is = drawn_is (opening_of c.args.desk.now.plan) c.args.binds.now c.args.lines.now _ _ _ _ _ _ c.in_ok-bytes.bytes.items (ap opening_of (sym c.in_ok-play_lines.ensures.plan)) drawn c.in_ok-bytes.ensures in
-    on_err c.from_residual-in_err-write_all.result
-    (c.play_lines.new.refused.items, backed_now _ _ (g.W.Sink.taken c.args.sink.now) _ _ _ _ _ _ _ _ _ drawn, subst (TakesPart (g.W.Sink.taken c.args.sink.now) (g.W.Sink.taken c.write_all.new.sink)) is
-    (subst (TakesPart (g.W.Sink.taken c.args.sink.now) (g.W.Sink.taken c.write_all.new.sink)) c.deref.ensures.value c.in_err-write_all.ensures.part))
+    on_err c.from_residual-in_err-write_all.result (
+      c.play_lines.new.refused.items,
+      backed_now _ _ (g.W.Sink.taken c.args.sink.now) _ _ _ _ _ _ _ _ _ drawn,
+      subst (TakesPart (g.W.Sink.taken c.args.sink.now) (g.W.Sink.taken c.write_all.new.sink)) is
+          (subst (TakesPart (g.W.Sink.taken c.args.sink.now) (g.W.Sink.taken c.write_all.new.sink)) c.deref.ensures.value c.in_err-write_all.ensures.part),
+    )
 
 pub returns-clause-ok : goal.returns-clause-ok
 returns-clause-ok g c =
     let drawn = c.in_ok-play_lines.ensures.ok _ _ _ (begins _ _ _ _ _ _ _ c.requires.none refl c.requires.stands) in
-    let is = drawn_is (opening_of c.args.desk.now.plan) c.args.binds.now c.args.lines.now _ _ _ _ _ _ c.in_ok-bytes.bytes.items (ap opening_of (sym c.in_ok-play_lines.ensures.plan)) drawn c.in_ok-bytes.ensures in
-    (backed_now _ _ (g.W.Sink.taken c.args.sink.now) _ _ _ _ _ _ _ _ _ drawn, subst (TakesAll (g.W.Sink.taken c.args.sink.now) (g.W.Sink.taken c.write_all.new.sink)) is
-    (subst (TakesAll (g.W.Sink.taken c.args.sink.now) (g.W.Sink.taken c.write_all.new.sink)) c.deref.ensures.value c.in_ok-write_all.ensures.ok))
+    let is = drawn_is (opening_of c.args.desk.now.plan) c.args.binds.now c.args.lines.now _ _ _ _ _ _ c.in_ok-bytes.bytes.items (ap opening_of (sym c.in_ok-play_lines.ensures.plan)) drawn c.in_ok-bytes.ensures in (
+      backed_now _ _ (g.W.Sink.taken c.args.sink.now) _ _ _ _ _ _ _ _ _ drawn,
+      subst (TakesAll (g.W.Sink.taken c.args.sink.now) (g.W.Sink.taken c.write_all.new.sink)) is
+          (subst (TakesAll (g.W.Sink.taken c.args.sink.now) (g.W.Sink.taken c.write_all.new.sink)) c.deref.ensures.value c.in_ok-write_all.ensures.ok),
+    )
 
 -- want of memory is no fault of the sink
 pub returns-in_err-play_lines-clause-err : goal.returns-in_err-play_lines-clause-err

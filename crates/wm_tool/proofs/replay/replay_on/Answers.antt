@@ -14,8 +14,7 @@ returns-in_err-write_all-clause-part g c =
 
 pub returns-clause-ok : goal.returns-clause-ok
 returns-clause-ok g c =
-    let played = c.in_ok-run_lines.ensures.ok _ _ _ _ (begins _ _ _ _ _ _ _ c.requires.none c.new-piece.ensures.items c.requires.stands) in
-    (
+    let played = c.in_ok-run_lines.ensures.ok _ _ _ _ (begins _ _ _ _ _ _ _ c.requires.none c.new-piece.ensures.items c.requires.stands) in (
       backed_now _ _ (g.W.Sink.taken c.write_all.new.sink) _ _ _ _ _ _ _ _ _ played,
       ends _ _ (g.W.Sink.taken c.write_all.new.sink) _ _ _ _ _ (λ rs history. refl) played.runs (subst (TakesAll (g.W.Sink.taken c.run_lines.new.sink) (g.W.Sink.taken c.write_all.new.sink)) c.deref.ensures.value c.in_ok-write_all.ensures.ok),
     )
