@@ -2,6 +2,7 @@
 # Times i3replay over scripts of 100,000 and of 200,000 lines: maps, closings, layouts and paints in turn, with
 # some 100 windows open. Prints both times, their ratio, lines a second, and the peak memory with its bound,
 # and fails where the ratio is above 2.3 or the memory above 12 times the input and 64 MiB.
+# Then times it over 16 MiB of empty lines, spaces and comments, which have to take less than a second.
 # usage: bench/replay.sh [PROGRAM]
 set -eu
 . "$(dirname "$0")/program.sh"
@@ -20,6 +21,7 @@ lines() {
 
 lines 100000 "$folder/100000"
 lines 200000 "$folder/200000"
+awk 'BEGIN { size = 16777216; while (size > 120) { print ""; print "      "; print "# nothing but words"; size -= 28 } }' >"$folder/nothing"
 python3 - "$program" "$folder" <<'PROGRAM'
 import os, resource, subprocess, sys, time
 
@@ -45,5 +47,7 @@ ratio = second / first
 print("100,000 lines: %.2f s" % first)
 print("200,000 lines: %.2f s, %.2f times as long, %d lines a second" % (second, ratio, 200000 / second))
 print("peak memory: %.1f MiB, at most %.1f" % (peak / 2**20, bound / 2**20))
-sys.exit(0 if ratio <= 2.3 and peak <= bound else 1)
+nothing, size = run("nothing")
+print("%.1f MiB that say nothing: %.2f s" % (size / 2**20, nothing))
+sys.exit(0 if ratio <= 2.3 and peak <= bound and nothing < 1 else 1)
 PROGRAM

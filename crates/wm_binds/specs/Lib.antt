@@ -9,4 +9,5 @@ pub mod LettersReading
 pub mod Lines
 pub mod Naming
 pub mod Reading
+pub mod Table
 pub mod Words

@@ -1,8 +1,7 @@
 //! What was read so far, and what a line adds to it.
-ghost use Rattle.std.specs.Prelude.{◌≡◌, ◌<◌, ◌++◌, ◌∷◌, [], IfOk, IfSome, OnOk, Ok, length};
+ghost use Rattle.std.specs.Prelude.{◌≡◌, ◌++◌, ◌∷◌, [], IfOk, OnOk, Ok};
 ghost use Rattle.std.specs.List.{list_any};
 ghost use Rattle.std.specs.Str.{bytes_eq};
-ghost use Rattle.wm_binds.specs.Binds.{has_key_of, place_of, put_at, with_bind};
 ghost use Rattle.wm_binds.specs.Blocks.{at_top, blank_draft, bound, default_mode, in_bar, in_mode, listed, opened, with_output, IsStep};
 ghost use Rattle.wm_binds.specs.Reading.{entered};
 ghost use Rattle.wm_binds.specs.declared.draft.LineRefusal.TheVariants as faults;
@@ -10,6 +9,7 @@ ghost use Rattle.wm_layouts.specs.Plan.{is_taken};
 
 use crate::config::Bind;
 use crate::entry::Entry;
+use crate::table::BindTable;
 use crate::words::{are_same, past_blanks};
 use std::alloc::{AllocError, AllocFailed, Global};
 use std::mem;
@@ -37,7 +37,7 @@ pub struct Draft {
     pub modes: List<Text>,
     pub homes: List<(Text, Text)>,
     pub layouts: List<(Text, SavedLayout)>,
-    pub binds: List<Bind>,
+    pub binds: BindTable,
     pub block: Block,
 }
 
@@ -75,58 +75,6 @@ pub fn push<T: Drop>(alloc: Global, list: &mut List<T>, item: T) -> Result<(), O
     items.push(item)?;
     drop(mem::replace(list, List::of(items)));
     Ok(())
-}
-
-/// Adds a binding, in the place of one of the same mode and chord.
-#[tactic(auto, using(crate::proofs::BindLemmas::with_bind_at))]
-fn put_bind(alloc: Global, binds: &mut List<Bind>, bind: Bind) -> Result<(), OutOfMemory>
-    ensures { OnOk result (binds.new ≡ with_bind bind binds.old) }
-{
-    let mut items = mem::replace(binds, List::of(Vec::new(alloc))).into_vec();
-    put_at(&mut items, bind)?;
-    drop(mem::replace(binds, List::of(items)));
-    Ok(())
-}
-
-/// Puts a binding in the place of one of the same mode and chord, or behind all.
-fn put_at(binds: &mut Vec<Bind>, bind: Bind) -> Result<(), OutOfMemory>
-    ensures { OnOk result (binds.new.items ≡ put_at (place_of bind binds.old.items) bind binds.old.items) }
-{
-    match place_of(binds, &bind) {
-        Some(place) => {
-            binds[place] = bind;
-            Ok(())
-        }
-        None => {
-            binds.push(bind)?;
-            Ok(())
-        }
-    }
-}
-
-/// The place of the first binding of the same mode and chord.
-#[tactic(auto, using(crate::proofs::BindLemmas::from_first, crate::proofs::BindLemmas::one_more))]
-fn place_of(binds: &[Bind], bind: &Bind) -> Option<usize>
-    ensures value { result ≡ place_of bind.now binds.now }
-    ensures within { IfSome result (λ place. place < length binds.now) }
-{
-    let mut place = 0usize;
-    let mut rest = binds;
-    while let [first, after @ ..] = rest {
-        if has_key_of(bind, first) {
-            return Some(place);
-        }
-        place += 1;
-        rest = after;
-    }
-    None
-}
-
-/// Whether they are of one mode and one chord.
-fn has_key_of(bind: &Bind, other: &Bind) -> bool
-    ensures { result ≡ has_key_of bind.now other.now }
-{
-    other.mode.as_str() == bind.mode.as_str() && other.chord.as_str() == bind.chord.as_str()
 }
 
 /// Whether one of the texts is this one.
@@ -169,7 +117,7 @@ impl Draft {
             modes: List::of(Vec::new(alloc)),
             homes: List::of(Vec::new(alloc)),
             layouts: List::of(Vec::new(alloc)),
-            binds: List::of(Vec::new(alloc)),
+            binds: BindTable::new(alloc),
             block: Block::Top,
         }
     }
@@ -245,7 +193,7 @@ impl Draft {
     ) -> Result<(), LineRefusal>
         ensures { IsStep (Ok (bound self.old mode chord text)) self.new result }
     {
-        put_bind(alloc, &mut self.binds, Bind { mode, chord, text })?;
+        self.binds.put(alloc, Bind { mode, chord, text })?;
         Ok(())
     }
 

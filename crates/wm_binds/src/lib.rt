@@ -11,9 +11,11 @@ mod names;
 mod naming;
 mod plan_lines;
 mod reading;
+mod table;
 mod words;
 
 pub use config::{Bind, Config, ConfigRefusal};
 pub use draft::{Draft, LineRefusal, is_among, push};
 pub use layout_lines::layout_of;
+pub use table::BindTable;
 pub use words::text_of;

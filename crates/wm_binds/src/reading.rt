@@ -185,7 +185,10 @@ fn finished(alloc: Global, text: &str, draft: Draft) -> Result<Config, NoMemory>
         env,
         config,
     };
-    Ok(Config { plan, binds })
+    Ok(Config {
+        plan,
+        binds: binds.into_list(),
+    })
 }
 
 /// The outputs, or DP-1 of 1920x1080 at 0,0 where there are none.

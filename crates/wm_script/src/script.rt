@@ -113,7 +113,11 @@ fn script_of(alloc: Global, reading: Reading) -> Result<Script, OutOfMemory>
         env,
         config: Str::of(String::new(alloc)),
     };
-    Ok(Script { plan, binds, lines })
+    Ok(Script {
+        plan,
+        binds: binds.into_list(),
+        lines,
+    })
 }
 
 /// The outputs, or those of the standard plan where there are none.

@@ -1,6 +1,7 @@
 -- One line of a script is played: what it adds to the history, and what it tells.
 use Rattle.std.proofs.Common.{◌≡◌, ◌∙◌, refl, ap, sym, subst, ℕ, suc, ◌+◌, ◌-◌, get_or, ◌<◌, ◌≤◌, List, [], ◌∷◌, ◌++◌, Option, None, Some, length, take, drop, arith}
 use Rattle.std.proofs.lemmas.List.{take_all}
+use Rattle.std.specs.List.{AllByRecursion}
 use Rattle.wm_binds.specs.declared.config.Bind.{Bind}
 use Rattle.wm_core.specs.DeskValue.{DeskValue, Stands}
 use Rattle.wm_core.specs.History.{History, Start, opening_of}
@@ -76,6 +77,11 @@ none_left (l ∷ rest) few = absurd (omega (arith, few))
 pub rest_is : {A : Type 0} (g d : A) (rest : List A) → 1 ≤ length rest → g ≡ get_or rest 0 d → rest ≡ g ∷ take (length rest - 1) (drop 1 rest)
 rest_is g d [] some is = absurd (omega arith)
 rest_is g d (l ∷ rest) some is = ap (λ x. x ∷ rest) (sym is) ∙ ap (λ xs. g ∷ xs) (sym (take_all (suc (length rest) - 1) rest (omega arith)))
+
+-- what holds of each line holds of each that is left
+pub rest_fit : {A : Type 0} (P : A → Type 0) (rest : List A) → 1 ≤ length rest → AllByRecursion P rest → AllByRecursion P (take (length rest - 1) (drop 1 rest))
+rest_fit P [] some all = absurd (omega arith)
+rest_fit P (l ∷ rest) some all = subst (AllByRecursion P) (sym (take_all (suc (length rest) - 1) rest (omega arith))) all.1
 
 -- ---- one line is played
 

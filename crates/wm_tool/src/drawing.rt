@@ -4,6 +4,7 @@ ghost use Rattle.std.specs.List.{AllByRecursion};
 ghost use Rattle.wm_core.specs.DeskValue.{Stands};
 ghost use Rattle.wm_core.specs.History.{History, opening_of};
 ghost use Rattle.wm_criteria.specs.Building.{Log};
+ghost use Rattle.wm_layouts.specs.Plan.{IsSound};
 ghost use Rattle.wm_script.specs.Out.{script_texts, texts_from};
 ghost use Rattle.wm_script.specs.Script.{IsFitBind, IsFitLine, IsFitScript};
 ghost use Rattle.wm_script.specs.declared.refused.Refused as lists;
@@ -17,6 +18,7 @@ use wm_base::NoMemory;
 use wm_binds::Bind;
 use wm_core::Desk;
 use wm_criteria::Build;
+use wm_layouts::Plan;
 use wm_paint::Canvas;
 use wm_ports::{Sink, write_all};
 use wm_script::{Line, Refused, Script};
@@ -38,27 +40,24 @@ pub fn draw<B: Build, W: Sink>(
     ensures err { IfErr result (HasStopped (W.faults sink.old) (W.faults sink.new)) }
 {
     let Script { plan, binds, lines } = script;
-    let end = match Desk::start(alloc, plan) {
-        Ok(desk) => draw_from(
-            alloc,
-            desk,
-            binds.items(),
-            lines.items(),
-            build,
-            refused,
-            sink,
-        ),
-        Err(error) => Err(Stop::from(error)),
-    };
+    let end = draw_plan(
+        alloc,
+        plan,
+        binds.items(),
+        lines.items(),
+        build,
+        refused,
+        sink,
+    );
     drop(binds);
     drop(lines);
     end
 }
 
-/// Runs the lines on this desk, which is new, writes the picture of the frame that they leave, and drops the desk.
-fn draw_from<B: Build, W: Sink>(
+/// Runs the lines on the desk of a plan, and writes the picture of the frame that they leave.
+fn draw_plan<B: Build, W: Sink>(
     alloc: Global,
-    desk: Desk,
+    plan: Plan,
     binds: &[Bind],
     lines: &[Line],
     build: &mut B,
@@ -68,13 +67,13 @@ fn draw_from<B: Build, W: Sink>(
     requires few { length lines.now ≤ 16777216 }
     requires fit { AllByRecursion IsFitLine lines.now }
     requires binds { AllByRecursion IsFitBind binds.now }
+    requires sound { IsSound plan }
     requires none { refused.old.items ≡ [] }
-    requires stands { Stands desk [] }
-    ensures ok { OnOk result (Finishes (W.taken sink.old) (W.taken sink.new) (λ rs. drawn_from (opening_of desk.plan) binds.now lines.now rs []) refused.new.items (λ rs. texts_from (opening_of desk.plan) binds.now lines.now rs []) (B.log build.old) (B.log build.new)) }
-    ensures part { OnErr result (Stops (W.taken sink.old) (W.taken sink.new) (λ rs. drawn_from (opening_of desk.plan) binds.now lines.now rs []) (λ rs. texts_from (opening_of desk.plan) binds.now lines.now rs []) (B.log build.old) (B.log build.new)) }
+    ensures ok { OnOk result (Finishes (W.taken sink.old) (W.taken sink.new) (λ rs. drawn_from (opening_of plan) binds.now lines.now rs []) refused.new.items (λ rs. texts_from (opening_of plan) binds.now lines.now rs []) (B.log build.old) (B.log build.new)) }
+    ensures part { OnErr result (Stops (W.taken sink.old) (W.taken sink.new) (λ rs. drawn_from (opening_of plan) binds.now lines.now rs []) (λ rs. texts_from (opening_of plan) binds.now lines.now rs []) (B.log build.old) (B.log build.new)) }
     ensures err { IfErr result (HasStopped (W.faults sink.old) (W.faults sink.new)) }
 {
-    let mut desk = desk;
+    let mut desk = Desk::start(alloc, plan)?;
     let end = draw_on(alloc, &mut desk, binds, lines, build, refused, sink);
     drop(desk);
     end

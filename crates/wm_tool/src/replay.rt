@@ -1,17 +1,18 @@
 //! The lines of a script are run, and what they tell is written in pieces.
-ghost use Rattle.std.specs.Prelude.{◌≡◌, ℕ, List, Option, ◌+◌, ◌<◌, ◌≤◌, ◌^◌, [], None, IfErr, OnErr, OnOk, length};
+ghost use Rattle.std.specs.Prelude.{◌≡◌, ℕ, List, Option, ◌+◌, ◌<◌, ◌≤◌, ◌^◌, ◌++◌, [], None, IfErr, OnErr, OnOk, length, vec_capacity, vec_len};
 ghost use Rattle.std.specs.List.{AllByRecursion};
 ghost use Rattle.wm_core.specs.DeskValue.{Stands};
 ghost use Rattle.wm_core.specs.History.{History, opening_of};
 ghost use Rattle.wm_criteria.specs.Building.{Log};
 ghost use Rattle.wm_defs.specs.Counts.{Rose};
+ghost use Rattle.wm_layouts.specs.Plan.{IsSound};
 ghost use Rattle.wm_ports.specs.Told.{TakesPart};
 ghost use Rattle.wm_script.specs.Out.{after, out_from, script_out, script_texts, steps_of, texts_from, told};
 ghost use Rattle.wm_script.specs.Refusals.{refusal_at};
 ghost use Rattle.wm_script.specs.Script.{IsFitBind, IsFitLine, IsFitScript};
 ghost use Rattle.wm_script.specs.declared.refused.Refused as lists;
 ghost use Rattle.wm_tool.specs.Ending.{HasStopped};
-ghost use Rattle.wm_tool.specs.Running.{Finishes, Leads, NotesLine, NotesSome, Plays, Stops, Writes};
+ghost use Rattle.wm_tool.specs.Running.{Finishes, Leads, noted_at, NotesLine, NotesSome, Plays, Stops, Writes};
 ghost use Rattle.wm_tool.specs.declared.replay.Stop.TheVariants as stops;
 
 use std::alloc::{AllocError, Global};
@@ -19,6 +20,7 @@ use wm_base::NoMemory;
 use wm_binds::Bind;
 use wm_core::Desk;
 use wm_criteria::Build;
+use wm_layouts::Plan;
 use wm_ports::{Failed, Sink, write_all};
 use wm_script::{Line, Played, Refused, Script, play};
 
@@ -72,27 +74,24 @@ pub fn replay<B: Build, W: Sink>(
     ensures err { IfErr result (HasStopped (W.faults sink.old) (W.faults sink.new)) }
 {
     let Script { plan, binds, lines } = script;
-    let end = match Desk::start(alloc, plan) {
-        Ok(desk) => replay_from(
-            alloc,
-            desk,
-            binds.items(),
-            lines.items(),
-            build,
-            refused,
-            sink,
-        ),
-        Err(error) => Err(Stop::from(error)),
-    };
+    let end = replay_plan(
+        alloc,
+        plan,
+        binds.items(),
+        lines.items(),
+        build,
+        refused,
+        sink,
+    );
     drop(binds);
     drop(lines);
     end
 }
 
-/// Runs the lines on this desk, which is new, and drops it.
-fn replay_from<B: Build, W: Sink>(
+/// Runs the lines on the desk of a plan, and writes what they tell.
+fn replay_plan<B: Build, W: Sink>(
     alloc: Global,
-    desk: Desk,
+    plan: Plan,
     binds: &[Bind],
     lines: &[Line],
     build: &mut B,
@@ -102,13 +101,13 @@ fn replay_from<B: Build, W: Sink>(
     requires few { length lines.now ≤ 16777216 }
     requires fit { AllByRecursion IsFitLine lines.now }
     requires binds { AllByRecursion IsFitBind binds.now }
+    requires sound { IsSound plan }
     requires none { refused.old.items ≡ [] }
-    requires stands { Stands desk [] }
-    ensures ok { OnOk result (Finishes (W.taken sink.old) (W.taken sink.new) (λ rs. out_from (opening_of desk.plan) binds.now lines.now rs []) refused.new.items (λ rs. texts_from (opening_of desk.plan) binds.now lines.now rs []) (B.log build.old) (B.log build.new)) }
-    ensures part { OnErr result (Stops (W.taken sink.old) (W.taken sink.new) (λ rs. out_from (opening_of desk.plan) binds.now lines.now rs []) (λ rs. texts_from (opening_of desk.plan) binds.now lines.now rs []) (B.log build.old) (B.log build.new)) }
+    ensures ok { OnOk result (Finishes (W.taken sink.old) (W.taken sink.new) (λ rs. out_from (opening_of plan) binds.now lines.now rs []) refused.new.items (λ rs. texts_from (opening_of plan) binds.now lines.now rs []) (B.log build.old) (B.log build.new)) }
+    ensures part { OnErr result (Stops (W.taken sink.old) (W.taken sink.new) (λ rs. out_from (opening_of plan) binds.now lines.now rs []) (λ rs. texts_from (opening_of plan) binds.now lines.now rs []) (B.log build.old) (B.log build.new)) }
     ensures err { IfErr result (HasStopped (W.faults sink.old) (W.faults sink.new)) }
 {
-    let mut desk = desk;
+    let mut desk = Desk::start(alloc, plan)?;
     let end = replay_on(alloc, &mut desk, binds, lines, build, refused, sink);
     drop(desk);
     end
@@ -211,9 +210,17 @@ pub(crate) fn run_line<B: Build>(
         text,
         refused: pattern,
     } = play(alloc, desk, binds, line, build)?;
+    note(refused, place, pattern);
+    piece.extend_from_slice(text.items())?;
+    Ok(())
+}
+
+/// Lists the pattern that was refused at a place, if one was. There is room for it.
+fn note(refused: &mut Vec<Refused>, place: u64, pattern: Option<u32>)
+    requires { vec_len refused.old < vec_capacity refused.old }
+    ensures { refused.new.items ≡ refused.old.items ++ noted_at place pattern }
+{
     if let Some(pattern) = pattern {
         refused.push_reserved(Refused { place, pattern });
     }
-    piece.extend_from_slice(text.items())?;
-    Ok(())
 }

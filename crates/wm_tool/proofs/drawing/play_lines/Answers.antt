@@ -2,9 +2,10 @@ use Rattle.std.proofs.Common.{◌∙◌, ap, arith, subst}
 use Rattle.wm_core.specs.History.{opening_of}
 use Rattle.wm_script.specs.Out.{texts_from}
 use Rattle.wm_tool.specs.Drawing.{drawn_from}
+use Rattle.wm_script.specs.Script.{IsFitLine}
 use Rattle.wm_tool.specs.Running.{Draws}
 use Rattle.wm_tool.proofs.DrawLemmas.{draws_line, stops_line}
-use Rattle.wm_tool.proofs.LineLemmas.{none_left, one_step}
+use Rattle.wm_tool.proofs.LineLemmas.{none_left, one_step, rest_fit}
 use Rattle.wm_tool.proofs.RunLemmas.{on_err}
 use Rattle.wm_tool.proofs.drawing.play_lines.Goals as goal
 
@@ -19,6 +20,7 @@ loop-rest-preserved g c =
     let kept = c.loop-rest.invariant in
     record {
       few = omega (arith, kept.few, c.in_ok-run_line.ensures.steps, one_step c.line-item.result.deed, c.in-len1-up.len_at_least);
+      fit = rest_fit IsFitLine c.loop-rest.rest.now c.in-len1-up.len_at_least kept.fit;
       plan = c.run_line.ensures.plan ∙ kept.plan;
       draws = λ whole texts first p.
           draws_line (opening_of c.args.desk.now.plan) c.args.binds.now c.loop-rest.desk c.loop-rest.refused.items whole texts first (g.B.Build.log c.loop-rest.build) (g.B.Build.log c.run_line.new.build)

@@ -1,8 +1,9 @@
 use Rattle.std.proofs.Common.{◌-◌, ◌∙◌, ap, arith, drop, length, sym, subst, take}
 use Rattle.wm_core.specs.History.{opening_of}
 use Rattle.wm_script.specs.Out.{out_from, texts_from}
+use Rattle.wm_script.specs.Script.{IsFitLine}
 use Rattle.wm_tool.specs.Running.{Plays}
-use Rattle.wm_tool.proofs.LineLemmas.{none_left, one_step, plays_line, stops_line}
+use Rattle.wm_tool.proofs.LineLemmas.{none_left, one_step, plays_line, rest_fit, stops_line}
 use Rattle.wm_tool.proofs.RunLemmas.{fails, on_err, writes}
 use Rattle.wm_tool.proofs.replay.run_lines.Goals as goal
 
@@ -36,6 +37,7 @@ loop-rest-preserved g c =
     let left = take (length c.loop-rest.rest.now - 1) (drop 1 c.loop-rest.rest.now) in
     record {
       few = omega (arith, kept.few, c.in_ok-run_line.ensures.steps, one_step c.line-item.result.deed, c.in-len1-up.len_at_least);
+      fit = rest_fit IsFitLine c.loop-rest.rest.now c.in-len1-up.len_at_least kept.fit;
       plan = c.run_line.ensures.plan ∙ kept.plan;
       plays = λ old whole texts first p.
           writes old now (g.W.Sink.taken c.write_long.new.sink) c.run_line.new.desk c.run_line.new.refused.items c.run_line.new.piece.items (out_from start c.args.binds.now left) whole (texts_from start c.args.binds.now left) texts first (g.B.Build.log c.run_line.new.build)
