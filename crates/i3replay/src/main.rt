@@ -22,10 +22,14 @@ usage: i3replay replay < SCRIPT    write the answers and frames of a script
        i3replay --help             write this text
        i3replay --version          write the version
 
-A script has one of these on each line. Those of the plan come first:
+A script has one of these on each line, with spaces between words; empty lines and those that begin with `#` say nothing.
+`version 1` may stand first. Those of the plan come before all others:
   output NAME X,Y WxH                     an output, at most eight; without one DP-1, 1000x800 at 0,0
   border none | pixel N | normal N        the border of containers
   gaps inner N | outer N                  the gaps of workspaces
+  mode NAME                               a binding mode beside `default`
+  bind MODE CHORD COMMAND                 what a chord runs in a mode
+  layout NAME JSON                        a saved layout, for `append_layout NAME`
 and then:
   map INK WxH PROPERTY=\"T\" ..             open a window: six hexadecimal digits, its buffer's size, and its properties
   title ID \"T\"                            give it another title
@@ -35,6 +39,7 @@ and then:
   output-remove NAME                      remove it
   reserve NAME TOP RIGHT BOTTOM LEFT      keep its edges free
   run TEXT                                run the commands of a text, as `run layout splitv`
+  key CHORD                               press a chord, in the mode that was set last
   tick \"T\"                                tell a text to all who watch the desk
   paint                                   write the frame
   tree, workspaces, outputs, marks        write what i3-ipc replies to GET_TREE, GET_WORKSPACES, GET_OUTPUTS, GET_MARKS
@@ -46,8 +51,8 @@ and then:
 Each of these is of caller 0, or of another one with `@WHO ` in front. A frame shows an arrangement only
 once each window whose size it changes has given a buffer for it or was closed, or its deadline came.
 
-All commands are done but `append_layout`, which changes nothing and is answered with `not built yet`. Each message of i3-ipc has
-its reply, and the events that were subscribed follow the reply to the message that they came with; types above 12 have none.
+Each message of i3-ipc has its reply, and the events that were subscribed follow the reply to the message that they came
+with; types above 12 have none.
 
 `generate` reads nothing. N is a number of 1 to 10 digits, at most 4294967295, and COUNT one of 1 to 5 digits, at most 20000. It
 writes how many steps were taken, how many layout transactions have ended, how many steps had come when the last of them

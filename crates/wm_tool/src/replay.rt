@@ -22,7 +22,7 @@ use wm_core::Desk;
 use wm_criteria::Build;
 use wm_layouts::Plan;
 use wm_ports::{Failed, Sink, write_all};
-use wm_script::{Line, Played, Refused, Script, play};
+use wm_script::{Line, Refused, Script, play};
 
 /// How long a piece of the output is at least before it is written, in bytes.
 const PIECE: usize = 65536;
@@ -206,12 +206,9 @@ pub(crate) fn run_line<B: Build>(
 {
     refused.reserve(1)?;
     let place = desk.steps();
-    let Played {
-        text,
-        refused: pattern,
-    } = play(alloc, desk, binds, line, build)?;
-    note(refused, place, pattern);
-    piece.extend_from_slice(text.items())?;
+    let played = play(alloc, desk, binds, line, build)?;
+    note(refused, place, played.refused);
+    piece.extend_from_slice(played.text.items())?;
     Ok(())
 }
 
