@@ -1,5 +1,5 @@
 -- One line of a script is played: what it adds to the history, and what it tells.
-use Rattle.std.proofs.Common.{◌≡◌, ◌∙◌, refl, ap, sym, subst, ℕ, suc, ◌+◌, ◌-◌, get_or, ◌<◌, ◌≤◌, List, [], ◌∷◌, ◌++◌, Option, None, Some, length, take, drop, arith}
+use Rattle.std.proofs.Common.{◌≡◌, ◌∙◌, refl, ap, sym, subst, ℕ, suc, ◌+◌, ◌-◌, get_or, ◌<◌, ◌≤◌, List, [], ◌∷◌, ◌++◌, Option, None, length, take, drop, arith}
 use Rattle.std.proofs.lemmas.List.{take_all}
 use Rattle.std.specs.List.{AllByRecursion}
 use Rattle.wm_binds.specs.declared.config.Bind.{Bind}
@@ -13,7 +13,7 @@ use Rattle.wm_script.specs.declared.line.Deed.{Deed}
 use Rattle.wm_script.specs.declared.line.Deed.TheVariants as deed
 use Rattle.wm_script.specs.declared.line.Line.{Line}
 use Rattle.wm_script.specs.declared.refused.Refused.{Refused}
-use Rattle.wm_tool.specs.Running.{Leads, Notes, NotesLine, NotesSome, Plays, Stops, noted_at}
+use Rattle.wm_tool.specs.Running.{Leads, NotesLine, NotesSome, Plays, Stops, noted_at}
 use Rattle.wm_tool.proofs.RefusalLemmas.{noted_is, refusal_same}
 use Rattle.wm_tool.proofs.RunLemmas.{plays_step, stops_step}
 

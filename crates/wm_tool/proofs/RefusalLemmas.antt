@@ -1,6 +1,6 @@
 -- Lists of refusals: what is at a place, and what one more changes.
-use Rattle.std.proofs.Common.{◌≡◌, ◌∙◌, refl, ap, sym, subst, ℕ, zero, suc, ◌+◌, ◌<◌, ◌≤◌, ◌⊎◌, inl, inr, Bool, true, false, cond, eqb, List, [], ◌∷◌, ◌++◌, length, drop, take, Option, None, Some, is_some, arith}
-use Rattle.std.specs.Prelude.{slice_get, IsTrue, option_and_then, option_map}
+use Rattle.std.proofs.Common.{◌≡◌, ◌∙◌, refl, ap, sym, subst, ℕ, zero, suc, ◌+◌, ◌<◌, ◌≤◌, inl, inr, Bool, true, false, cond, eqb, List, [], ◌∷◌, ◌++◌, length, Option, None, Some, is_some, arith}
+use Rattle.std.specs.Prelude.{IsTrue, option_and_then}
 use Rattle.std.specs.List.{AllByRecursion}
 use Rattle.std.specs.Option.{option_to_list}
 use Rattle.std.proofs.lemmas.Bool.{eqb-true}
@@ -8,7 +8,7 @@ use Rattle.std.proofs.lemmas.Bool.Decides.{Decides-eqb}
 use Rattle.std.proofs.lemmas.List.{append-nil}
 use Rattle.std.proofs.lemmas.Grind.{flat_map-append}
 use Rattle.wm_criteria.specs.Building.{Grew, Log}
-use Rattle.wm_criteria.specs.Patterns.{pattern_at, patterns_of, unless_plain}
+use Rattle.wm_criteria.specs.Patterns.{pattern_at, unless_plain}
 use Rattle.wm_criteria.specs.Verdict.{IsVerdict, refused_patterns}
 use Rattle.wm_criteria.specs.declared.verdict.Verdict.{Verdict}
 use Rattle.wm_criteria.specs.declared.verdict.Verdict.TheVariants.{Ready, Bad, PatternRefused}

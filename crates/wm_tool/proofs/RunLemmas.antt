@@ -1,5 +1,5 @@
 -- A desk takes steps one after another, and what they tell is written in pieces.
-use Rattle.std.proofs.Common.{◌≡◌, ◌∙◌, refl, ap, ap₂, sym, subst, ℕ, zero, suc, ◌+◌, inl, inr, List, [], ◌∷◌, ◌++◌, Option, None, Some, Result, Ok, Err, length, take, drop, arith, length-append, append_assoc}
+use Rattle.std.proofs.Common.{◌≡◌, ◌∙◌, refl, ap, ap₂, sym, subst, ℕ, suc, ◌+◌, inl, inr, List, [], ◌∷◌, ◌++◌, Option, None, Some, Result, Ok, Err, length, take, drop, arith, length-append, append_assoc}
 use Rattle.std.specs.Prelude.{IfErr, IfOk, IsErrAnd, OnErr, OnOk}
 use Rattle.std.proofs.lemmas.List.{append-nil, drop_all, take_all, take-append-drop}
 use Rattle.wm_core.specs.DeskValue.{DeskValue, Stands}

@@ -1,5 +1,5 @@
 -- What a run on a script wrote when it has ended.
-use Rattle.std.proofs.Common.{◌≡◌, ◌∙◌, refl, ap, subst, sym, ℕ, List, [], Option, Result, Ok, Err}
+use Rattle.std.proofs.Common.{◌≡◌, refl, subst, sym, ℕ, List, [], Option, Result, Ok, Err}
 use Rattle.std.specs.Prelude.{IsErrAnd}
 use Rattle.wm_criteria.specs.Building.{Log}
 use Rattle.wm_ports.specs.Told.{TakesAll}
@@ -16,7 +16,7 @@ use Rattle.wm_tool.specs.declared.status.Status.{Status}
 use Rattle.wm_tool.specs.declared.words.Command.TheVariants as commands
 use Rattle.wm_tool.specs.Drawing.{drawn_of}
 use Rattle.wm_tool.specs.Ending.{WritesOn, ending_of, texts_in}
-use Rattle.wm_tool.specs.Running.{Finishes, Stops}
+use Rattle.wm_tool.specs.Running.{Stops}
 use Rattle.wm_tool.specs.Status.{of_script, of_stop}
 use Rattle.wm_tool.proofs.EndLemmas.{nothing_taken}
 use Rattle.wm_tool.proofs.RunLemmas.{nothing_backed}

@@ -1,5 +1,5 @@
 -- How runs end, and why.
-use Rattle.std.specs.Prelude.{◌≡◌, ℕ, zero, suc, ◌<◌, ◌≤◌, ◌⊎◌, List, [], ◌∷◌, Option, None, Some, Result, Ok, Err, length, ⊤}
+use Rattle.std.specs.Prelude.{◌≡◌, ℕ, zero, suc, ◌<◌, ◌≤◌, ◌⊎◌, List, [], Option, None, Some, Result, Ok, Err, length, ⊤}
 use Rattle.wm_defs.specs.Counts.{Rose}
 use Rattle.wm_criteria.specs.Building.{Log}
 use Rattle.wm_frames.specs.Reading.{Ending, ending, messages, rest, magic, too_long}

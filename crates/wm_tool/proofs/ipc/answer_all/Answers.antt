@@ -2,8 +2,7 @@ use Rattle.std.proofs.Common.{[], Some, refl, subst}
 use Rattle.wm_talk.specs.Talking.{NEW}
 use Rattle.wm_tool.specs.Ipc.{message_texts, replies_from}
 use Rattle.wm_tool.specs.Running.{Finishes, Stops}
-use Rattle.wm_tool.proofs.EndLemmas.{nothing_taken}
-use Rattle.wm_tool.proofs.RunLemmas.{begins, err_weaker, nothing_backed, ok_weaker, on_err}
+use Rattle.wm_tool.proofs.RunLemmas.{begins, err_weaker, ok_weaker}
 use Rattle.wm_tool.proofs.ipc.answer_all.Goals as goal
 
 pub returns-clause-ok : goal.returns-clause-ok

@@ -1,4 +1,4 @@
-use Rattle.std.proofs.Common.{arith, ◌≡◌, ◌∙◌, ◌++◌, refl, subst, sym, ap}
+use Rattle.std.proofs.Common.{arith, ◌≡◌, ◌++◌, refl, subst, sym}
 use Rattle.wm_core.specs.History.{opening_of}
 use Rattle.wm_script.specs.Out.{after, texts_run, told}
 use Rattle.wm_script.proofs.PlayLemmas.{short_binds}
