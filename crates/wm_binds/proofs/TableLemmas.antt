@@ -97,7 +97,6 @@ neither : (a b : Bool) → (a || b) ≡ false → (a ≡ false) × (b ≡ false)
 neither true b e = cc
 neither false b e = (refl, e)
 
-
 put_last : (k : Key) (b : Bind) (keys : List Key) (binds : List Bind) → IsKey k b → AreKeys keys binds → list_any (same_key k) keys ≡ false → binds ++ b ∷ [] ≡ with_bind b binds
 put_last k b [] [] this keyed none = refl
 put_last k b [] (o ∷ bs) this keyed none = absurd keyed
