@@ -40,7 +40,7 @@ number_is : (most n : ℕ) (ds rest : List ℕ) → take_while is_ascii_digit (d
 number_is most n ds rest whole some few value within =
     rw (whole, le-leb 1 (length ds) some, le-leb (length ds) 20 few, value, le-leb n most within, drop-append_seam ds rest) refl
 
-number_read : (most n : ℕ) (rest : List ℕ) → n ≤ most → n < 2 ^ 64 → take_while is_ascii_digit rest ≡ [] → number_at most (decimal n ++ rest) ≡ Some (n, rest)
+pub number_read : (most n : ℕ) (rest : List ℕ) → n ≤ most → n < 2 ^ 64 → take_while is_ascii_digit rest ≡ [] → number_at most (decimal n ++ rest) ≡ Some (n, rest)
 number_read most n rest within small end =
     number_is most n (decimal n) rest (whole_digits (decimal n) rest (digits_decimal numerals n small) end) (decimal_nonempty n small)
     (length-decimal-le 20 n (omega arith) (omega (arith, small)) small) (digits_value-decimal numerals n small) within

@@ -1,0 +1,6 @@
+//! Laws of the lines that tell answers.
+#![tactic(auto)]
+
+mod answers;
+
+pub use answers::a_printed_answer_reads_back;
