@@ -1,7 +1,7 @@
 #!/bin/sh
 # Takes how long i3desk reads configurations of 256 KiB, 512 KiB and 1 MiB of each kind: the same bindings again and again; as many
-# bindings of their own as have room; 1,000 names that are set, and lines with them; one line of that length. The last line of
-# each is none of a configuration, so that the program ends there.
+# bindings of their own as have room; as many modes; 1,000 names that are set, and lines with them; one line of that length. The
+# last line of each is none of a configuration, so that the program ends there.
 # usage: bench/configs.sh [I3DESK]
 set -eu
 . "$(dirname "$0")/serving.sh"
@@ -32,6 +32,10 @@ def own(size):
     return cut(("bindsym Mod4+key%d workspace %d\n" % (n, n) for n in itertools.count()), size)
 
 
+def modes(size):
+    return cut(('mode "mode%d" {\n}\n' % n for n in itertools.count()), size)
+
+
 def named(size):
     names = ["set $name%03d value%03d\n" % (n, n) for n in range(1000)]
     uses = ("bindsym Mod4+%d workspace $name%03d\n" % (n % 30, n % 1000) for n in itertools.count())
@@ -57,7 +61,7 @@ def took(text):
     return min(times)
 
 
-for name, make in [("the same bindings", same), ("bindings of their own", own), ("1,000 names", named), ("one line", long)]:
+for name, make in [("the same bindings", same), ("bindings of their own", own), ("modes", modes), ("1,000 names", named), ("one line", long)]:
     times = [took(make(size << 10)) for size in [256, 512, 1024]]
     print("%s: %s ms, 1 MiB %.2f and %.2f times as long as a half and a quarter"
           % (name, ", ".join("%.1f" % (t * 1000) for t in times), times[2] / times[1], times[2] / times[0]), flush=True)

@@ -1,13 +1,15 @@
 -- A configuration whose names are kept by their letters is read as one whose names are kept in a list.
-use Rattle.std.proofs.Common.{◌≡◌, ◌∙◌, refl, ap, sym, subst, Bool, true, false, cond, ℕ, ◌+◌, List, [], ◌∷◌, Option, None, Some, Result, Ok, Err}
+use Rattle.std.proofs.Common.{◌≡◌, ◌∙◌, refl, ap, sym, subst, Bool, true, false, cond, ℕ, ◌+◌, ◌≤◌, ◌<◌, List, [], ◌∷◌, Option, None, Some, Result, Ok, Err, arith}
+use Rattle.std.proofs.lemmas.Bool.{le-leb, leb-true}
+use Rattle.std.specs.Prelude.{◌-◌, nat_le, length}
 use Rattle.std.specs.Str.{is_utf8}
 use Rattle.wm_fields.specs.Split.{lines_of}
 use Rattle.wm_binds.specs.Blocks.{blank_draft}
 use Rattle.wm_binds.specs.Letters.{Letters, end, put_name}
-use Rattle.wm_binds.specs.LettersReading.{Finds, letters_after, line_by, read_by, set_or_entered_by, text_by}
+use Rattle.wm_binds.specs.LettersReading.{Finds, IsTooLong, letters_after, line_by, read_by, set_or_entered_by, text_by}
 use Rattle.wm_binds.specs.Lines.{entry_of}
 use Rattle.wm_binds.specs.Naming.{longest, replaced, set_at, set_line}
-use Rattle.wm_binds.specs.Reading.{after_line, after_text, config, config_of, entered, finished, go_on, names_after, or_outside, read_from, refusal_at, set_or_entered, with_draft, with_names}
+use Rattle.wm_binds.specs.Reading.{after_line, after_text, config, config_of, entered, finished, go_on, names_after, or_outside, read_from, read_in, refusal_at, set_or_entered, with_draft}
 use Rattle.wm_binds.specs.declared.config.ConfigRefusal.{ConfigRefusal}
 use Rattle.wm_binds.specs.declared.config.ConfigRefusal.TheVariants as refusals
 use Rattle.wm_binds.specs.declared.draft.Block.{Block}
@@ -17,6 +19,20 @@ use Rattle.wm_binds.specs.declared.draft.LineRefusal.{LineRefusal}
 use Rattle.wm_binds.specs.declared.draft.LineRefusal.TheVariants as faults
 use Rattle.wm_binds.specs.declared.naming.Name.{Name}
 use Rattle.wm_binds.proofs.NameLemmas.{finds_none, finds_put, replaced_by, set_by, set_has}
+
+-- a text for which there is room is read
+pub read_within : {A : Type 0} (draft : Draft) (text : List ℕ) (go : Draft → Result A LineRefusal) → length text ≤ draft.room → read_in draft text go ≡ go (record draft { room = draft.room - length text })
+read_within draft text go room = ap (λ t. cond t (go (record draft { room = draft.room - length text })) (Err faults.Outside)) (le-leb (length text) draft.room room)
+
+-- one for which there is none is refused, unless there was no memory
+pub read_beyond : {A : Type 0} (draft : Draft) (text : List ℕ) (go : Draft → Result A LineRefusal) (e : LineRefusal) → IsTooLong draft.room text e → (e ≡ faults.NoMemory → ⊥) → read_in draft text go ≡ Err e
+read_beyond draft text go faults.Outside long known = by (nat_le (length text) draft.room) refl
+  where
+    by : (t : Bool) → nat_le (length text) draft.room ≡ t → cond t (go (record draft { room = draft.room - length text })) (Err faults.Outside) ≡ Err faults.Outside
+    by true e = let small = leb-true (length text) draft.room e in let no : ⊥ = omega (arith, small, long) in absurd no
+    by false e = refl
+read_beyond draft text go faults.Full long known = absurd long
+read_beyond draft text go faults.NoMemory long known = absurd (known refl)
 
 -- both give the same draft, and letters that find what the names say; or both refuse alike
 abbrev Agree : Result (Letters × Draft) LineRefusal → Result (List Name × Draft) LineRefusal → Type 0
@@ -29,15 +45,24 @@ draft_agrees : (letters : Letters) (names : List Name) (r : Result Draft LineRef
 draft_agrees letters names (Ok draft) finds = (finds, refl)
 draft_agrees letters names (Err e) finds = refl
 
+-- both have room for a text, or none has
+value_agrees : (draft : Draft) (value : List ℕ) (letters : Letters) (names : List Name) → Finds letters names
+    → Agree (read_in draft value (λ d. Ok (letters, d))) (read_in draft value (λ d. Ok (names, d)))
+value_agrees draft value letters names finds = by (nat_le (length value) draft.room)
+  where
+    by : (t : Bool) → Agree (cond t (Ok (letters, record draft { room = draft.room - length value })) (Err faults.Outside)) (cond t (Ok (names, record draft { room = draft.room - length value })) (Err faults.Outside))
+    by true = (finds, refl)
+    by false = refl
+
 set_agrees : (letters : Letters) (names : List Name) (draft : Draft) (text : List ℕ) (o : Option Name) → set_at (longest names) text ≡ o → Finds letters names
-    → Agree (with_names draft (or_outside o (λ n. Ok (put_name n.name n.value letters)))) (with_names draft (or_outside o (λ n. Ok (n ∷ names))))
+    → Agree (or_outside o (λ n. read_in draft n.value (λ d. Ok (put_name n.name n.value letters, d)))) (or_outside o (λ n. read_in draft n.value (λ d. Ok (n ∷ names, d))))
 set_agrees letters names draft text None e finds = refl
-set_agrees letters names draft text (Some n) e finds = (finds_put letters names n (set_has (longest names) text n e) finds, refl)
+set_agrees letters names draft text (Some n) e finds = value_agrees draft n.value (put_name n.name n.value letters) (n ∷ names) (finds_put letters names n (set_has (longest names) text n e) finds)
 
 name_agrees : (letters : Letters) (names : List Name) (draft : Draft) (b : Block) (text : List ℕ) → Finds letters names
-    → Agree (with_names draft (letters_after letters b text)) (with_names draft (names_after names b text))
+    → Agree (letters_after letters draft b text) (names_after names draft b text)
 name_agrees letters names draft block.Top text finds =
-    subst (λ o. Agree (with_names draft (or_outside o (λ n. Ok (put_name n.name n.value letters)))) (with_names draft (names_after names block.Top text)))
+    subst (λ o. Agree (or_outside o (λ n. read_in draft n.value (λ d. Ok (put_name n.name n.value letters, d)))) (names_after names draft block.Top text))
     (sym (set_by letters names text finds)) (set_agrees letters names draft text (set_at (longest names) text) refl finds)
 name_agrees letters names draft (block.Mode name) text finds = refl
 name_agrees letters names draft block.Bar text finds = refl
@@ -45,8 +70,9 @@ name_agrees letters names draft block.Bar text finds = refl
 either_agrees : (letters : Letters) (names : List Name) (draft : Draft) (text : List ℕ) (o : Option (List ℕ)) → Finds letters names
     → Agree (set_or_entered_by letters draft text o) (set_or_entered names draft text o)
 either_agrees letters names draft text None finds =
-    subst (λ t. Agree (with_draft letters (or_outside (entry_of t) (entered draft draft.block))) (set_or_entered names draft text None))
-    (sym (replaced_by letters names text finds)) (draft_agrees letters names (or_outside (entry_of (replaced (longest names) text)) (entered draft draft.block)) finds)
+    subst (λ t. Agree (with_draft letters (read_in draft t (λ d. or_outside (entry_of t) (entered d d.block)))) (set_or_entered names draft text None))
+    (sym (replaced_by letters names text finds))
+    (draft_agrees letters names (read_in draft (replaced (longest names) text) (λ d. or_outside (entry_of (replaced (longest names) text)) (entered d d.block))) finds)
 either_agrees letters names draft text (Some rest) finds = name_agrees letters names draft draft.block rest finds
 
 text_agrees : (letters : Letters) (names : List Name) (draft : Draft) (b : Block) (text : List ℕ) → Finds letters names

@@ -1,6 +1,6 @@
 -- What is read is within the limits of a plan.
 use Rattle.std.proofs.Common.{◌≡◌, ◌∙◌, refl, ap, sym, subst, Bool, true, false, ◌||◌, cond, ℕ, ◌+◌, ◌≤◌, List, [], ◌∷◌, ◌++◌, length, length-append, Option, None, Some, Result, Ok, Err, arith}
-use Rattle.std.specs.Prelude.{codes, nat_lt}
+use Rattle.std.specs.Prelude.{◌-◌, codes, nat_le, nat_lt}
 use Rattle.std.specs.Str.{bytes_eq, is_utf8}
 use Rattle.std.proofs.lemmas.Bool.{ltb-true}
 use Rattle.std.proofs.lemmas.Slice.Eq.{bytes_eq-Decides}
@@ -15,7 +15,7 @@ use Rattle.wm_binds.proofs.ReadingLemmas.{read_is}
 use Rattle.wm_binds.specs.Blocks.{at_block, at_top, blank_draft, in_bar, in_mode, with_output}
 use Rattle.wm_binds.specs.Fit.{IsFitDraft, IsFitEntry, IsFitLayout}
 use Rattle.wm_binds.specs.Lines.{entry_of}
-use Rattle.wm_binds.specs.Naming.{longest, replaced, set_line}
+use Rattle.wm_binds.specs.Naming.{longest, replaced, set_at, set_line}
 use Rattle.wm_binds.specs.Reading as reading
 use Rattle.wm_binds.specs.Words.{past_blanks}
 use Rattle.wm_binds.specs.declared.draft.Block.{Block}
@@ -136,14 +136,32 @@ draft_keeps : (names : List Name) (r : Result Draft LineRefusal) → IfRead IsFi
 draft_keeps names (Ok d) fit = fit
 draft_keeps names (Err e) fit = tt
 
-names_keep : (d : Draft) (r : Result (List Name) LineRefusal) → IsFitDraft d → IfRead FitAfter (reading.with_names d r)
-names_keep d (Ok names) fit = fit
-names_keep d (Err e) fit = tt
+with_room : (d : Draft) (n : ℕ) → IsFitDraft d → IsFitDraft (record d { room = n })
+with_room d n fit = record { few = fit.few; fit = fit.fit; names = fit.names; border = fit.border; inner = fit.inner; outer = fit.outer; layouts = fit.layouts }
+
+-- what is read is kept where what is done with it is
+read_in_keeps : {A : Type 0} (P : A → Type 0) (d : Draft) (text : List ℕ) (go : Draft → Result A LineRefusal) → IsFitDraft d → ((e : Draft) → IsFitDraft e → IfRead P (go e)) → IfRead P (reading.read_in d text go)
+read_in_keeps P d text go fit keeps = by (nat_le (length text) d.room)
+  where
+    by : (t : Bool) → IfRead P (cond t (go (record d { room = d.room - length text })) (Err faults.Outside))
+    by true = keeps (record d { room = d.room - length text }) (with_room d (d.room - length text) fit)
+    by false = tt
+
+set_keeps : (names : List Name) (d : Draft) (o : Option Name) → IsFitDraft d → IfRead FitAfter (reading.or_outside o (λ n. reading.read_in d n.value (λ e. Ok (n ∷ names, e))))
+set_keeps names d None fit = tt
+set_keeps names d (Some n) fit = read_in_keeps FitAfter d n.value (λ e. Ok (n ∷ names, e)) fit (λ e kept. kept)
+
+names_keep : (names : List Name) (d : Draft) (b : Block) (text : List ℕ) → IsFitDraft d → IfRead FitAfter (reading.names_after names d b text)
+names_keep names d block.Top text fit = set_keeps names d (set_at (longest names) text) fit
+names_keep names d (block.Mode name) text fit = tt
+names_keep names d block.Bar text fit = tt
 
 either_keeps : (names : List Name) (d : Draft) (text : List ℕ) (o : Option (List ℕ)) → IsFitDraft d → IfRead FitAfter (reading.set_or_entered names d text o)
 either_keeps names d text None fit =
-    draft_keeps names (reading.or_outside (entry_of (replaced (longest names) text)) (reading.entered d d.block)) (outside_keeps d (entry_of (replaced (longest names) text)) fit (entry_if (replaced (longest names) text)))
-either_keeps names d text (Some rest) fit = names_keep d (reading.names_after names d.block rest) fit
+    draft_keeps names (reading.read_in d (replaced (longest names) text) (λ e. reading.or_outside (entry_of (replaced (longest names) text)) (reading.entered e e.block)))
+    (read_in_keeps IsFitDraft d (replaced (longest names) text) (λ e. reading.or_outside (entry_of (replaced (longest names) text)) (reading.entered e e.block)) fit
+    (λ e kept. outside_keeps e (entry_of (replaced (longest names) text)) kept (entry_if (replaced (longest names) text))))
+either_keeps names d text (Some rest) fit = names_keep names d d.block rest fit
 
 text_keeps : (names : List Name) (d : Draft) (b : Block) (text : List ℕ) → IsFitDraft d → IfRead FitAfter (reading.after_text names d b text)
 text_keeps names d block.Top text fit = either_keeps names d text (set_line text) fit

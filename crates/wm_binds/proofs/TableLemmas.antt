@@ -1,5 +1,5 @@
--- Bindings are found by their keys.
-use Rattle.std.proofs.Common.{◌≡◌, ◌∙◌, refl, ap, ap₂, sym, subst, Bool, true, false, not, ◌&&◌, ◌||◌, cond, ℕ, suc, ◌+◌, ◌<◌, List, [], ◌∷◌, ◌++◌, length, arith}
+-- Bindings and names are found by their keys.
+use Rattle.std.proofs.Common.{◌≡◌, ◌∙◌, refl, ap, ap₂, sym, subst, Bool, true, false, not, ◌&&◌, ◌||◌, cond, ℕ, suc, ◌+◌, ◌<◌, List, [], ◌∷◌, ◌++◌, length, map, arith}
 use Rattle.std.specs.Prelude.{slice_set, String, string_bytes}
 use Rattle.std.specs.List.{list_any, position_or_len}
 use Rattle.std.specs.Str.{bytes_eq}
@@ -8,6 +8,7 @@ use Rattle.indexmap.specs.IndexSet.{insert_key}
 use Rattle.std.specs.declared.alloc.Global.{Global}
 use Rattle.std.proofs.lemmas.Slice.Eq.{bytes_eq-Decides}
 use Rattle.wm_binds.specs.Binds.{has_key_of, with_bind}
+use Rattle.wm_binds.specs.Blocks.{with_name}
 use Rattle.wm_binds.specs.Table.{AreKeys, IsKey}
 use Rattle.wm_binds.specs.declared.config.Bind.{Bind}
 
@@ -121,3 +122,44 @@ pub keyed_new : (k : Key) (b : Bind) (keys : List Key) (binds items : List Bind)
 keyed_new k b keys binds items found this keyed same e f =
     subst (λ ks. AreKeys ks (items ++ b ∷ [])) (sym (ap (λ t. cond t keys (keys ++ k ∷ [])) (is_new found (list_any (same_key k) keys) e f)))
     (subst (λ xs. AreKeys (keys ++ k ∷ []) (xs ++ b ∷ [])) (sym same) (keyed_last k b keys binds this keyed))
+
+-- ---- names
+
+-- a name is among names where its bytes are among theirs
+pub name_among : (name : List ℕ) (keys : List (String Global)) (names : List (List ℕ)) → map string_bytes keys ≡ names → list_any (λ k. bytes_eq name (string_bytes k)) keys ≡ list_any (bytes_eq name) names
+name_among name keys names same = by keys ∙ ap (list_any (bytes_eq name)) same
+  where
+    by : (ks : List (String Global)) → list_any (λ k. bytes_eq name (string_bytes k)) ks ≡ list_any (bytes_eq name) (map string_bytes ks)
+    by [] = refl
+    by (k ∷ ks) = ap (λ t. bytes_eq name (string_bytes k) || t) (by ks)
+
+-- so they are of a key of that name
+key_among : (key : String Global) (name : List ℕ) (keys : List (String Global)) (names : List (List ℕ)) → string_bytes key ≡ name → map string_bytes keys ≡ names → list_any (string_eq key) keys ≡ list_any (bytes_eq name) names
+key_among key name keys names this same = ap (λ n. list_any (λ k. bytes_eq n (string_bytes k)) keys) this ∙ name_among name keys names same
+
+-- a name whose key is none of these comes last
+pub name_new : (key : String Global) (name : List ℕ) (keys : List (String Global)) (names : List (List ℕ)) (found : Bool) → string_bytes key ≡ name → map string_bytes keys ≡ names → found ≡ not (list_any (string_eq key) keys) → found ≡ true
+    → with_name name names ≡ names ++ name ∷ []
+name_new key name keys names found this same e f =
+    ap (λ t. cond t names (names ++ name ∷ [])) (sym (key_among key name keys names this same) ∙ is_new found (list_any (string_eq key) keys) e f)
+
+-- and so does its key
+pub key_new : (key : String Global) (name : List ℕ) (keys : List (String Global)) (names : List (List ℕ)) (found : Bool) → string_bytes key ≡ name → map string_bytes keys ≡ names → found ≡ not (list_any (string_eq key) keys) → found ≡ true
+    → map string_bytes (insert_key string_eq keys key) ≡ names ++ name ∷ []
+key_new key name keys names found this same e f =
+    ap (λ t. map string_bytes (cond t keys (keys ++ key ∷ []))) (is_new found (list_any (string_eq key) keys) e f)
+    ∙ by keys ∙ ap₂ (λ ns n. ns ++ n ∷ []) same this
+  where
+    by : (ks : List (String Global)) → map string_bytes (ks ++ key ∷ []) ≡ map string_bytes ks ++ string_bytes key ∷ []
+    by [] = refl
+    by (k ∷ ks) = ap (λ t. string_bytes k ∷ t) (by ks)
+
+-- a name whose key is one of these is there
+pub name_again : (key : String Global) (name : List ℕ) (keys : List (String Global)) (names : List (List ℕ)) (found : Bool) → string_bytes key ≡ name → map string_bytes keys ≡ names → found ≡ not (list_any (string_eq key) keys) → found ≡ false
+    → with_name name names ≡ names
+name_again key name keys names found this same e f =
+    ap (λ t. cond t names (names ++ name ∷ [])) (sym (key_among key name keys names this same) ∙ not_new found (list_any (string_eq key) keys) e f)
+
+-- the keys stay then
+pub key_again : (key : String Global) (keys : List (String Global)) (found : Bool) → found ≡ not (list_any (string_eq key) keys) → found ≡ false → insert_key string_eq keys key ≡ keys
+key_again key keys found e f = ap (λ t. cond t keys (keys ++ key ∷ [])) (not_new found (list_any (string_eq key) keys) e f)

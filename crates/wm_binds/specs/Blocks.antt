@@ -15,7 +15,8 @@ use Rattle.wm_binds.specs.declared.draft.LineRefusal.TheVariants.{Outside, Full,
 use Rattle.wm_binds.specs.declared.entry.Entry.{Entry}
 use Rattle.wm_binds.specs.declared.entry.Entry.TheVariants.{Nothing, Passed, Bar, Mode, Close, Key, Border, Inner, Outer, Home, Output, Layout}
 
--- before the first line: no outputs yet, a normal border of 2, no gaps, no modes, no homes, no layouts and no bindings
+-- before the first line: no outputs yet, a normal border of 2, no gaps, no modes, no homes, no layouts and no bindings, and room for
+-- as many bytes as an input may have
 abbrev pub blank_draft : Draft
 blank_draft = record {
   outputs = [];
@@ -27,14 +28,19 @@ blank_draft = record {
   layouts = [];
   binds = [];
   block = block.Top;
+  room = 16777216;
 }
 
 abbrev pub default_mode : List ℕ
 default_mode = codes "default"
 
+-- a name comes last, unless it is there already
+abbrev pub with_name : List ℕ → List (List ℕ) → List (List ℕ)
+with_name name names = if list_any (bytes_eq name) names then names else names ++ name ∷ []
+
 -- a mode is listed once, and the default one never
 abbrev pub with_mode : List ℕ → List (List ℕ) → List (List ℕ)
-with_mode name modes = if bytes_eq name default_mode || list_any (bytes_eq name) modes then modes else modes ++ name ∷ []
+with_mode name modes = if bytes_eq name default_mode then modes else with_name name modes
 
 abbrev pub at_block : Draft → Block → Draft
 at_block draft b = record draft { block = b }

@@ -1,11 +1,11 @@
 -- The configuration once more, with its names kept by their letters.
-use Rattle.std.specs.Prelude.{◌≡◌, ℕ, ◌+◌, if◌then◌else◌, List, [], ◌∷◌, Option, None, Some, Result, Ok, Err}
+use Rattle.std.specs.Prelude.{◌≡◌, ℕ, ◌+◌, ◌<◌, if◌then◌else◌, List, [], ◌∷◌, length, Option, None, Some, Result, Ok, Err}
 use Rattle.std.specs.Str.{is_utf8}
 use Rattle.wm_binds.specs.Blocks.{in_bar}
 use Rattle.wm_binds.specs.Letters.{Letters, found, put_name}
 use Rattle.wm_binds.specs.Lines.{entry_of}
 use Rattle.wm_binds.specs.Naming.{longest, replaced, set_at, set_line}
-use Rattle.wm_binds.specs.Reading.{at_end, entered, go_on, or_outside, with_draft, with_names}
+use Rattle.wm_binds.specs.Reading.{at_end, entered, go_on, or_outside, read_in, with_draft}
 use Rattle.wm_binds.specs.declared.config.ConfigRefusal.{ConfigRefusal}
 use Rattle.wm_binds.specs.declared.draft.Block.{Block}
 use Rattle.wm_binds.specs.declared.draft.Block.TheVariants as block
@@ -18,18 +18,18 @@ use Rattle.wm_binds.specs.declared.naming.Name.{Name}
 pub record Finds (letters : Letters) (names : List Name) : Type 0 where
   pub same : (text : List ℕ) → found letters text ≡ longest names text
 
--- the letters after a line that sets a name
-abbrev pub letters_after : Letters → Block → List ℕ → Result Letters LineRefusal
-letters_after letters block.Top text = or_outside (set_at (found letters) text) (λ n. Ok (put_name n.name n.value letters))
-letters_after letters other text = Err faults.Outside
+-- the letters and the draft after a line that sets a name
+abbrev pub letters_after : Letters → Draft → Block → List ℕ → Result (Letters × Draft) LineRefusal
+letters_after letters draft block.Top text = or_outside (set_at (found letters) text) (λ n. read_in draft n.value (λ d. Ok (put_name n.name n.value letters, d)))
+letters_after letters draft other text = Err faults.Outside
 
 -- the draft after one that sets none
 abbrev pub draft_after : Letters → Draft → List ℕ → Result Draft LineRefusal
-draft_after letters draft text = or_outside (entry_of (replaced (found letters) text)) (entered draft draft.block)
+draft_after letters draft text = read_in draft (replaced (found letters) text) (λ d. or_outside (entry_of (replaced (found letters) text)) (entered d d.block))
 
 abbrev pub set_or_entered_by : Letters → Draft → List ℕ → Option (List ℕ) → Result (Letters × Draft) LineRefusal
 set_or_entered_by letters draft text None = with_draft letters (draft_after letters draft text)
-set_or_entered_by letters draft text (Some rest) = with_names draft (letters_after letters draft.block rest)
+set_or_entered_by letters draft text (Some rest) = letters_after letters draft draft.block rest
 
 abbrev pub text_by : Letters → Draft → Block → List ℕ → Result (Letters × Draft) LineRefusal
 text_by letters draft block.Bar text = Ok (letters, in_bar draft text)
@@ -44,11 +44,18 @@ abbrev pub read_by : ℕ → Letters → Draft → List (List ℕ) → Result Dr
 read_by count letters draft [] = at_end count draft draft.block
 read_by count letters draft (text ∷ texts) = go_on (count + 1) (line_by letters draft text) (λ letters draft. read_by (count + 1) letters draft texts)
 
--- what was done is what the definition does, or want of memory
-abbrev pub IsPut : Result Letters LineRefusal → Letters → Result Unit LineRefusal → Type 0
-IsPut d letters (Ok done) = d ≡ Ok letters
-IsPut d letters (Err e) = (e ≡ faults.NoMemory → ⊥) → d ≡ Err e
+-- why a text is not read: it has more bytes than that, or there was no memory
+abbrev pub IsTooLong : ℕ → List ℕ → LineRefusal → Type 0
+IsTooLong room text faults.Outside = room < length text
+IsTooLong room text faults.Full = ⊥
+IsTooLong room text faults.NoMemory = Unit {0}
 
+-- why a name is not set: its value has more bytes than that, or there was no memory
+abbrev pub IsValueTooLong : ℕ → Option Name → LineRefusal → Type 0
+IsValueTooLong room None e = e ≡ faults.NoMemory
+IsValueTooLong room (Some n) e = IsTooLong room n.value e
+
+-- what was done is what the definition does, or want of memory
 abbrev pub IsLine : Result (Letters × Draft) LineRefusal → Letters → Draft → Result Unit LineRefusal → Type 0
 IsLine d letters draft (Ok done) = d ≡ Ok (letters, draft)
 IsLine d letters draft (Err e) = (e ≡ faults.NoMemory → ⊥) → d ≡ Err e

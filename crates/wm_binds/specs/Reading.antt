@@ -1,5 +1,5 @@
 -- The configuration: its lines in their order, and the plan and the bindings that they give.
-use Rattle.std.specs.Prelude.{◌≡◌, ℕ, ◌+◌, if◌then◌else◌, List, [], ◌∷◌, Option, None, Some, Result, Ok, Err, codes, pos}
+use Rattle.std.specs.Prelude.{◌≡◌, ℕ, ◌+◌, ◌-◌, nat_le, if◌then◌else◌, List, [], ◌∷◌, Option, None, Some, Result, Ok, Err, codes, length, pos}
 use Rattle.std.specs.Str.{is_utf8}
 use Rattle.wm_base.specs.declared.errors.Limit.TheVariants as limits
 use Rattle.wm_base.specs.declared.plan.OutputPlan.{OutputPlan}
@@ -29,29 +29,29 @@ abbrev pub or_outside : {A B : Type 0} → Option A → (A → Result B LineRefu
 or_outside None f = Err faults.Outside
 or_outside (Some x) f = f x
 
+-- a text is read where there is room for it, and takes that room; one for which there is none is outside
+abbrev pub read_in : {A : Type 0} → Draft → List ℕ → (Draft → Result A LineRefusal) → Result A LineRefusal
+read_in draft text go = if nat_le (length text) draft.room then go (record draft { room = draft.room - length text }) else Err faults.Outside
+
 -- what a line that sets no name adds, in the block in which it stands
 abbrev pub entered : Draft → Block → Entry → Result Draft LineRefusal
 entered draft block.Top entry = at_top draft entry
 entered draft (block.Mode name) entry = in_mode draft name entry
 entered draft block.Bar entry = Ok draft
 
--- names stand at the top alone
-abbrev pub names_after : List Name → Block → List ℕ → Result (List Name) LineRefusal
-names_after names block.Top text = or_outside (set_at (longest names) text) (λ n. Ok (n ∷ names))
-names_after names other text = Err faults.Outside
+-- names stand at the top alone; of a line that sets one its value is read
+abbrev pub names_after : List Name → Draft → Block → List ℕ → Result (List Name × Draft) LineRefusal
+names_after names draft block.Top text = or_outside (set_at (longest names) text) (λ n. read_in draft n.value (λ d. Ok (n ∷ names, d)))
+names_after names draft other text = Err faults.Outside
 
 abbrev pub with_draft : {N : Type 0} → N → Result Draft LineRefusal → Result (N × Draft) LineRefusal
 with_draft names (Ok draft) = Ok (names, draft)
 with_draft names (Err e) = Err e
 
-abbrev pub with_names : {N : Type 0} → Draft → Result N LineRefusal → Result (N × Draft) LineRefusal
-with_names draft (Ok names) = Ok (names, draft)
-with_names draft (Err e) = Err e
-
 -- a line outside blocks of bars: it sets a name, or its own names are replaced and it says something
 abbrev pub set_or_entered : List Name → Draft → List ℕ → Option (List ℕ) → Result (List Name × Draft) LineRefusal
-set_or_entered names draft text None = with_draft names (or_outside (entry_of (replaced (longest names) text)) (entered draft draft.block))
-set_or_entered names draft text (Some rest) = with_names draft (names_after names draft.block rest)
+set_or_entered names draft text None = with_draft names (read_in draft (replaced (longest names) text) (λ d. or_outside (entry_of (replaced (longest names) text)) (entered d d.block)))
+set_or_entered names draft text (Some rest) = names_after names draft draft.block rest
 
 -- the names and the draft after a line that is UTF-8
 abbrev pub after_text : List Name → Draft → Block → List ℕ → Result (List Name × Draft) LineRefusal

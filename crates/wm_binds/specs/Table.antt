@@ -1,5 +1,5 @@
--- The keys by which bindings are found.
-use Rattle.std.specs.Prelude.{◌≡◌, List, [], ◌∷◌, ⊤, String, string_bytes}
+-- The keys by which bindings and modes are found.
+use Rattle.std.specs.Prelude.{◌≡◌, ℕ, List, [], ◌∷◌, map, ⊤, String, string_bytes}
 use Rattle.std.specs.declared.alloc.Global.{Global}
 use Rattle.wm_binds.specs.declared.config.Bind.{Bind}
 
@@ -13,3 +13,11 @@ AreKeys [] [] = ⊤
 AreKeys [] (b ∷ bs) = ⊥
 AreKeys (k ∷ ks) [] = ⊥
 AreKeys (k ∷ ks) (b ∷ bs) = IsKey k b × AreKeys ks bs
+
+-- it has the bytes of the name
+abbrev pub IsNamed : String Global → List ℕ → Type 0
+IsNamed key name = string_bytes key ≡ name
+
+-- they have the bytes of the names, each at its place
+abbrev pub AreNames : List (String Global) → List (List ℕ) → Type 0
+AreNames keys names = map string_bytes keys ≡ names

@@ -1,7 +1,5 @@
 //! What was read so far, and what a line adds to it.
 ghost use Rattle.std.specs.Prelude.{◌≡◌, ◌++◌, ◌∷◌, [], IfOk, OnOk, Ok};
-ghost use Rattle.std.specs.List.{list_any};
-ghost use Rattle.std.specs.Str.{bytes_eq};
 ghost use Rattle.wm_binds.specs.Blocks.{at_top, blank_draft, bound, default_mode, in_bar, in_mode, listed, opened, with_output, IsStep};
 ghost use Rattle.wm_binds.specs.Reading.{entered};
 ghost use Rattle.wm_binds.specs.declared.draft.LineRefusal.TheVariants as faults;
@@ -9,6 +7,7 @@ ghost use Rattle.wm_layouts.specs.Plan.{is_taken};
 
 use crate::config::Bind;
 use crate::entry::Entry;
+use crate::modes::ModeTable;
 use crate::table::BindTable;
 use crate::words::{are_same, past_blanks};
 use std::alloc::{AllocError, AllocFailed, Global};
@@ -18,6 +17,9 @@ use wm_saved::SavedLayout;
 
 /// How many outputs a plan has at most.
 const MAX_OUTPUTS: usize = 8;
+
+/// How many bytes the lines have at most together, as they are read: as many as an input.
+const MAX_READ: usize = 16_777_216;
 
 /// Where a line stands: at the top, in the block of a mode, or in that of a bar.
 #[derive(Drop)]
@@ -34,11 +36,14 @@ pub struct Draft {
     pub border: Border,
     pub inner: u32,
     pub outer: u32,
-    pub modes: List<Text>,
+    pub modes: ModeTable,
     pub homes: List<(Text, Text)>,
     pub layouts: List<(Text, SavedLayout)>,
     pub binds: BindTable,
     pub block: Block,
+    /// How many bytes of lines may still be read, as they are with their names replaced; of a line that sets a name its
+    /// value counts.
+    pub room: usize,
 }
 
 /// Why a line was refused.
@@ -67,6 +72,14 @@ impl From<AllocError> for LineRefusal {
     }
 }
 
+impl<T: Drop> From<AllocFailed<T>> for LineRefusal {
+    ghost from_gives = { λ _ e. e ≡ faults.NoMemory };
+
+    fn from(_error: AllocFailed<T>) -> LineRefusal {
+        LineRefusal::NoMemory
+    }
+}
+
 /// Adds an item at the end.
 pub fn push<T: Drop>(alloc: Global, list: &mut List<T>, item: T) -> Result<(), OutOfMemory>
     ensures { OnOk result (list.new ≡ list.old ++ item ∷ []) }
@@ -75,13 +88,6 @@ pub fn push<T: Drop>(alloc: Global, list: &mut List<T>, item: T) -> Result<(), O
     items.push(item)?;
     drop(mem::replace(list, List::of(items)));
     Ok(())
-}
-
-/// Whether one of the texts is this one.
-pub fn is_among(texts: &[Text], text: &Text) -> bool
-    ensures { result ≡ list_any (bytes_eq text.now) texts.now }
-{
-    texts.iter().any(|other| text.as_str() == other.as_str())
 }
 
 /// Whether one of the outputs has the name.
@@ -114,11 +120,12 @@ impl Draft {
             border: Border::Normal(2),
             inner: 0,
             outer: 0,
-            modes: List::of(Vec::new(alloc)),
+            modes: ModeTable::new(alloc),
             homes: List::of(Vec::new(alloc)),
             layouts: List::of(Vec::new(alloc)),
             binds: BindTable::new(alloc),
             block: Block::Top,
+            room: MAX_READ,
         }
     }
 
@@ -201,10 +208,10 @@ impl Draft {
     pub fn add_mode(&mut self, alloc: Global, name: &Text) -> Result<(), OutOfMemory>
         ensures { OnOk result (self.new ≡ listed self.old name.now) }
     {
-        if name.as_str() != "default" && !is_among(self.modes.items(), name) {
-            push(alloc, &mut self.modes, name.clone()?)?;
+        if name.as_str() == "default" {
+            return Ok(());
         }
-        Ok(())
+        self.modes.put(alloc, name)
     }
 
     /// The block of the mode begins.

@@ -7,6 +7,7 @@ mod entry;
 mod layout_lines;
 mod line;
 mod mode_lines;
+mod modes;
 mod names;
 mod naming;
 mod plan_lines;
@@ -15,7 +16,8 @@ mod table;
 mod words;
 
 pub use config::{Bind, Config, ConfigRefusal};
-pub use draft::{Draft, LineRefusal, is_among, push};
+pub use draft::{Draft, LineRefusal, push};
 pub use layout_lines::layout_of;
+pub use modes::ModeTable;
 pub use table::BindTable;
 pub use words::text_of;

@@ -1,17 +1,16 @@
 //! Names in a line: what stands in their place, and lines that set one.
-ghost use Rattle.std.specs.Prelude.{◌≡◌, ◌++◌, IfOk, OnOk};
+ghost use Rattle.std.specs.Prelude.{◌≡◌, ◌++◌, ◌≤◌, length, IfErr, IfOk, IfSome, OnOk};
 ghost use Rattle.std.specs.Option.{option_copied};
 ghost use Rattle.wm_binds.specs.Letters.{found};
+ghost use Rattle.wm_binds.specs.LettersReading.{IsTooLong, IsValueTooLong};
 ghost use Rattle.wm_binds.specs.Naming.{name_length, put_in, replaced, set_at, set_line, value_of};
 
+use crate::draft::LineRefusal;
 use crate::names::Names;
 use crate::words::{gap, past_blanks, word, word_then};
-use std::alloc::Global;
-use wm_base::{List, NoMemory, Text};
+use std::alloc::{AllocError, Global};
+use wm_base::{List, Text};
 use wm_fields::behind;
-
-/// How many bytes of values a configuration may put in, all together.
-pub const MOST_PUT_IN: usize = 16_777_216;
 
 /// A name without its `$`, and what stands in its place.
 #[derive(Drop)]
@@ -27,14 +26,16 @@ pub fn set_line(text: &[u8]) -> Option<&[u8]>
     word_then(past_blanks(text), b"set")
 }
 
-/// The text with the values of its names, of which `room` bytes may be put in. What is put in is not read again.
+/// The text with the values of its names, where that has so many bytes at most. What is put in is not read again.
 pub fn replaced(
     alloc: Global,
     names: &Names,
-    room: &mut usize,
+    room: usize,
     text: &[u8],
-) -> Result<Vec<u8>, NoMemory>
-    ensures { IfOk result (λ bytes. bytes.items ≡ replaced (found names.now) text.now) }
+) -> Result<Vec<u8>, LineRefusal>
+    ensures value { IfOk result (λ bytes. bytes.items ≡ replaced (found names.now) text.now) }
+    ensures room { IfOk result (λ bytes. length bytes.items ≤ room) }
+    ensures cause { IfErr result (IsTooLong room (replaced (found names.now) text.now)) }
 {
     let mut bytes = Vec::new(alloc);
     let mut skipped = 0usize;
@@ -43,9 +44,12 @@ pub fn replaced(
         if skipped > 0 {
             skipped -= 1;
         } else if *c == b'$' {
-            skipped = put_in(names, room, after, &mut bytes)?;
+            skipped = put_in(names, after, &mut bytes)?;
         } else {
             bytes.push(*c)?;
+        }
+        if bytes.len() > room {
+            return Err(LineRefusal::Outside);
         }
         rest = after;
     }
@@ -53,18 +57,12 @@ pub fn replaced(
 }
 
 /// Adds what stands in the place of a `$` with this text behind it, and says how many bytes the name has.
-fn put_in(
-    names: &Names,
-    room: &mut usize,
-    text: &[u8],
-    said: &mut Vec<u8>,
-) -> Result<usize, NoMemory>
+fn put_in(names: &Names, text: &[u8], said: &mut Vec<u8>) -> Result<usize, AllocError>
     ensures said { OnOk result (said.new.items ≡ said.old.items ++ put_in (found names.now text.now)) }
     ensures length { IfOk result (λ length. length ≡ name_length (found names.now text.now)) }
 {
     match names.longest(text) {
         Some((length, value)) => {
-            *room = room.checked_sub(value.len()).ok_or(NoMemory)?;
             said.extend_from_slice(value)?;
             Ok(length)
         }
@@ -75,14 +73,16 @@ fn put_in(
     }
 }
 
-/// `$NAME VALUE`, to the end of the line. The value has its names replaced.
+/// `$NAME VALUE`, to the end of the line. The value has its names replaced, and so many bytes at most.
 pub fn name_set(
     alloc: Global,
     names: &Names,
-    room: &mut usize,
+    room: usize,
     text: &[u8],
-) -> Result<Option<Name>, NoMemory>
-    ensures { IfOk result (λ name. name ≡ set_at (found names.now) text.now) }
+) -> Result<Option<Name>, LineRefusal>
+    ensures name { IfOk result (λ name. name ≡ set_at (found names.now) text.now) }
+    ensures room { IfOk result (λ name. IfSome name (λ n. length n.value ≤ room)) }
+    ensures cause { IfErr result (IsValueTooLong room (set_at (found names.now) text.now)) }
 {
     let Some(text) = behind(text, b"$") else {
         return Ok(None);
@@ -96,15 +96,17 @@ pub fn name_set(
     }
 }
 
-/// The name with its value, which is all to the end of the line.
+/// The name with its value, which is all to the end of the line, and has so many bytes at most.
 fn with_value(
     alloc: Global,
     names: &Names,
-    room: &mut usize,
+    room: usize,
     name: Text,
     text: &[u8],
-) -> Result<Option<Name>, NoMemory>
-    ensures { IfOk result (λ set. set ≡ value_of (found names.now) name text.now) }
+) -> Result<Option<Name>, LineRefusal>
+    ensures set { IfOk result (λ set. set ≡ value_of (found names.now) name text.now) }
+    ensures room { IfOk result (λ set. IfSome set (λ n. length n.value ≤ room)) }
+    ensures cause { IfErr result (IsValueTooLong room (value_of (found names.now) name text.now)) }
 {
     if name.as_str().is_empty() || text.is_empty() {
         return Ok(None);
@@ -114,9 +116,9 @@ fn with_value(
             name,
             value: List::of(value),
         })),
-        Err(error) => {
+        Err(refusal) => {
             drop(name);
-            Err(error)
+            Err(refusal)
         }
     }
 }

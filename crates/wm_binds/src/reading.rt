@@ -2,7 +2,7 @@
 ghost use Rattle.std.specs.Prelude.{◌≡◌, IfOk};
 ghost use Rattle.wm_binds.specs.Blocks.{blank_draft, IsStep};
 ghost use Rattle.wm_binds.specs.Letters.{end};
-ghost use Rattle.wm_binds.specs.LettersReading.{draft_after, letters_after, line_by, read_by, set_or_entered_by, IsLine, IsPut};
+ghost use Rattle.wm_binds.specs.LettersReading.{draft_after, letters_after, line_by, read_by, set_or_entered_by, IsLine};
 ghost use Rattle.wm_binds.specs.Naming.{set_line};
 ghost use Rattle.wm_binds.specs.Reading.{at_end, config, config_of, or_one_output, refusal_at, IsRead};
 ghost use Rattle.wm_layouts.specs.Plan.{IsSound};
@@ -12,7 +12,7 @@ use crate::config::{Config, ConfigRefusal};
 use crate::draft::{Block, Draft, LineRefusal};
 use crate::line::entry_of;
 use crate::names::Names;
-use crate::naming::{MOST_PUT_IN, Name, name_set, replaced, set_line};
+use crate::naming::{Name, name_set, replaced, set_line};
 use crate::words::text_of;
 use std::alloc::Global;
 use wm_base::{Edges, Limit, List, NoMemory, OutputPlan, Rect, Str, Text};
@@ -37,13 +37,13 @@ fn refusal_at(line: u64, refusal: LineRefusal) -> ConfigRefusal
 fn take_entry(
     alloc: Global,
     names: &Names,
-    room: &mut usize,
     draft: &mut Draft,
     text: &[u8],
 ) -> Result<(), LineRefusal>
     ensures { IsStep (draft_after names.now draft.old text.now) draft.new result }
 {
-    let text = replaced(alloc, names, room, text)?;
+    let text = replaced(alloc, names, draft.room, text)?;
+    draft.room -= text.len();
     match entry_of(alloc, &text)? {
         Some(entry) => draft.enter(alloc, entry),
         None => Err(LineRefusal::Outside),
@@ -54,17 +54,17 @@ fn take_entry(
 fn take_name(
     alloc: Global,
     names: &mut Names,
-    room: &mut usize,
-    draft: &Draft,
+    draft: &mut Draft,
     text: &[u8],
 ) -> Result<(), LineRefusal>
-    ensures { IsPut (letters_after names.old draft.now.block text.now) names.new result }
+    ensures { IsLine (letters_after names.old draft.old draft.old.block text.now) names.new draft.new result }
 {
     let Block::Top = draft.block else {
         return Err(LineRefusal::Outside);
     };
-    match name_set(alloc, names, room, text)? {
+    match name_set(alloc, names, draft.room, text)? {
         Some(Name { name, value }) => {
+            draft.room -= value.items().len();
             names.put_name(alloc, name.as_str().as_bytes(), value)?;
             Ok(())
         }
@@ -76,7 +76,6 @@ fn take_name(
 fn take_line(
     alloc: Global,
     names: &mut Names,
-    room: &mut usize,
     draft: &mut Draft,
     text: &[u8],
 ) -> Result<(), LineRefusal>
@@ -89,22 +88,21 @@ fn take_line(
         draft.pass(text);
         return Ok(());
     }
-    take_text(alloc, names, room, draft, text)
+    take_text(alloc, names, draft, text)
 }
 
 /// Adds what a line outside the block of a bar says.
 fn take_text(
     alloc: Global,
     names: &mut Names,
-    room: &mut usize,
     draft: &mut Draft,
     text: &[u8],
 ) -> Result<(), LineRefusal>
     ensures { IsLine (set_or_entered_by names.old draft.old text.now (set_line text.now)) names.new draft.new result }
 {
     match set_line(text) {
-        Some(rest) => take_name(alloc, names, room, draft, rest),
-        None => take_entry(alloc, names, room, draft, text),
+        Some(rest) => take_name(alloc, names, draft, rest),
+        None => take_entry(alloc, names, draft, text),
     }
 }
 
@@ -114,14 +112,13 @@ fn read_lines(alloc: Global, bytes: &[u8]) -> Result<Draft, ConfigRefusal>
     ensures { IsRead (read_by 0 end blank_draft (lines_of bytes.now)) result }
 {
     let mut names = Names::new();
-    let mut room = MOST_PUT_IN;
     let mut draft = Draft::new(alloc);
     let mut count = 0u64;
     let mut rest = bytes;
     while !rest.is_empty() {
         let (text, after) = first_line(rest);
         count += 1;
-        if let Err(refusal) = take_line(alloc, &mut names, &mut room, &mut draft, text) {
+        if let Err(refusal) = take_line(alloc, &mut names, &mut draft, text) {
             return Err(refusal_at(count, refusal));
         }
         rest = after;
@@ -169,11 +166,12 @@ fn finished(alloc: Global, text: &str, draft: Draft) -> Result<Config, NoMemory>
         layouts,
         binds,
         block: _,
+        room: _,
     } = draft;
     let config = Str::of(String::from_str(alloc, text)?);
     let outputs = or_one_output(alloc, outputs)?;
     let env = Env {
-        modes,
+        modes: modes.into_list(),
         layouts,
         homes,
     };

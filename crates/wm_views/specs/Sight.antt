@@ -14,9 +14,9 @@ pub record AreMaps (parts : List Placed) (recency : List ConId) (m : SightMaps) 
   pub rects : (w : Wanted) (c : ConId) → rect_kept w (value_at m.rects c) ≡ rect_at w c parts
   pub places : (c : ConId) → value_at m.places c ≡ place_from 0 c recency
 
--- the focused node, workspace and urgent windows are the tree's, and the maps, where there are any, have what is in the arrangement and in the tree
+-- the focused workspace, the focused node, where it is kept, and the urgent windows are the tree's, and the maps, where there are any, have what is in the arrangement and in the tree
 pub record IsSight (s : Sight) : Type 0 where
-  pub focus : s.focused ≡ focused s.tree.now
+  pub focus : IfSome s.focused (λ c. c ≡ focused s.tree.now)
   pub shown_is : s.shown ≡ shown s.tree.now
   pub urgent : (c : ConId) → holds s.urgent c ≡ lists c s.tree.now.urgent
   pub maps : IfSome s.maps (λ m. AreMaps s.arrangement.now.parts s.tree.now.recency m)

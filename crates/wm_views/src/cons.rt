@@ -75,7 +75,7 @@ fn any_con(
     let deco_rect = counted_from(above.rect, sight.title(part.id));
     let sticky = con.state.sticky;
     set_con(&mut view, deco_rect, marks, con.share, above.shares, sticky);
-    let focused = part.id == sight.focused;
+    let focused = sight.is_focused(part.id);
     let urgent = sight.is_urgent(part.id) || has_urgent(sight, kids);
     set_place(&mut view, sight.area(part.id), focused, urgent);
     Ok(view)
@@ -205,7 +205,7 @@ pub fn space_view(
     let mut view = laid(alloc, part.id.0, name, "workspace", space.layout)?;
     let visible = part.id == output.shown;
     set_space(&mut view, number(space.name.as_str()), on, visible);
-    let focused = part.id == sight.focused;
+    let focused = sight.is_focused(part.id);
     let urgent = has_urgent(sight, kids) || has_urgent(sight, floats);
     set_place(&mut view, sight.area(part.id), focused, urgent);
     Ok(view)

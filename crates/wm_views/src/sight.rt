@@ -1,6 +1,8 @@
 //! A tree with its arrangement, and what is looked up in them by id.
 ghost use Rattle.std.specs.Prelude.{◌≡◌, IfOk};
+ghost use Rattle.wm_forest.specs.Look.{same};
 ghost use Rattle.wm_forest.specs.Recency.{lists};
+ghost use Rattle.wm_tree.specs.TreeValue.{focused};
 ghost use Rattle.wm_base.specs.declared.ids.ConId.{ConId};
 ghost use Rattle.wm_views.specs.Maps.{area, rect_at, rect_kept, value_at};
 ghost use Rattle.wm_views.specs.declared.maps.Wanted.TheVariants.{Areas, Contents, Titles};
@@ -22,21 +24,21 @@ pub struct SightMaps {
     pub places: IdMap<usize>,
 }
 
-/// A tree with its arrangement, its focused node and workspace, and the ids of the urgent windows. What else is looked
-/// up by id is in maps, where there are any, and else looked for.
+/// A tree with its arrangement, its focused workspace, and the ids of the urgent windows. The focused node is looked for
+/// where it is not kept. What else is looked up by id is in maps, where there are any, and else looked for.
 #[derive(Drop)]
 pub struct Sight<'a> {
     pub tree: &'a Tree,
     pub arrangement: &'a Arrangement,
-    pub focused: ConId,
+    pub focused: Option<ConId>,
     pub shown: ConId,
     pub urgent: IdMap<()>,
     pub maps: Option<SightMaps>,
 }
 
 impl<'a> Sight<'a> {
-    /// A tree and its arrangement in which few ids are looked up: no maps are made.
-    pub fn plain(
+    /// A tree and its arrangement of which only workspaces are looked at: no maps are made, and no focused node is kept.
+    pub fn bare(
         alloc: Global,
         tree: &'a Tree,
         arrangement: &'a Arrangement,
@@ -49,11 +51,26 @@ impl<'a> Sight<'a> {
         Ok(Sight {
             tree,
             arrangement,
-            focused: tree.focused(),
+            focused: None,
             shown: tree.shown(),
             urgent,
             maps: None,
         })
+    }
+
+    /// A tree and its arrangement in which few ids are looked up: no maps are made.
+    pub fn plain(
+        alloc: Global,
+        tree: &'a Tree,
+        arrangement: &'a Arrangement,
+    ) -> Result<Sight<'a>, NoMemory>
+        ensures sight { IfOk result (λ sight. IsSight sight) }
+        ensures tree { IfOk result (λ sight. sight.tree.now ≡ tree.now) }
+        ensures parts { IfOk result (λ sight. sight.arrangement.now ≡ arrangement.now) }
+    {
+        let mut sight = Sight::bare(alloc, tree, arrangement)?;
+        sight.focused = Some(tree.focused());
+        Ok(sight)
     }
 
     /// A tree and its arrangement in which many ids are looked up.
@@ -96,6 +113,17 @@ impl<'a> Sight<'a> {
                 w: 0,
                 h: 0,
             },
+        }
+    }
+
+    /// Whether the id is that of the focused node.
+    pub fn is_focused(&self, id: ConId) -> bool
+        requires { IsSight self.now }
+        ensures { result ≡ same id (focused self.now.tree.now) }
+    {
+        match self.focused {
+            Some(focused) => id == focused,
+            None => id == self.tree.focused(),
         }
     }
 
