@@ -1,6 +1,6 @@
 //! Answers of clients and looks on a desk with 20, 200 or 4,000 open windows, and what each took.
 ghost use Rattle.std.specs.Prelude.{◌<◌, ◌^◌, IfOk};
-ghost use Rattle.wm_core.specs.Sizes.{IsFitStep};
+ghost use Rattle.wm_history.specs.Sizes.{IsFitStep};
 
 use crate::fault::Fault;
 use crate::states::ask_all;
@@ -83,7 +83,7 @@ fn time_on_desk(rt: &HostRuntime, windows: u32, call: Call) -> Result<u128, Faul
     took
 }
 
-fn started(alloc: Global) -> Result<Desk, NoMemory> {
+pub(crate) fn started(alloc: Global) -> Result<Desk, NoMemory> {
     Desk::start(alloc, Plan::standard(alloc)?)
 }
 

@@ -1,8 +1,9 @@
-//! The program bench_calls: what calls of a tree and answers of a desk take.
+//! The program bench_calls: what calls of a tree and answers of a desk take, and the steps that a number makes.
 #![tactic(auto)]
 
 mod desk;
 mod fault;
+mod script;
 mod states;
 mod texts;
 mod tree;
@@ -19,7 +20,7 @@ fn main(rt: HostRuntime) -> ExitCode {
     }
 }
 
-/// Takes the words `tree 400 raise`, `desk 200 give` and the like.
+/// Takes the words `tree 400 raise`, `desk 200 give`, `script 1 20000` and the like.
 fn bench(rt: &HostRuntime) -> Result<(), Fault> {
     let words = words(rt)?;
     let [of, count, call] = words.as_slice() else {
@@ -28,6 +29,7 @@ fn bench(rt: &HostRuntime) -> Result<(), Fault> {
     match of.as_str() {
         "tree" => tree::bench(rt.alloc(), count, call),
         "desk" => desk::bench(rt, count, call),
+        "script" => script::write(rt, count, call),
         _ => Err(Fault::BadWords),
     }
 }

@@ -1,5 +1,5 @@
 //! A desk that a configuration opens, and the lines that are taken on it.
-ghost use Rattle.wm_core.specs.Sizes.{IsFitStep};
+ghost use Rattle.wm_history.specs.Sizes.{IsFitStep};
 ghost use Rattle.wm_layouts.specs.Plan.{IsSound};
 
 use crate::seen::{push_seen, push_told};

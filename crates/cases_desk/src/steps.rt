@@ -1,8 +1,8 @@
 //! The steps of lines: those that a client sends, texts, keys, and windows that bring a text.
 ghost use Rattle.std.specs.Prelude.{◌≡◌, IfOk, IsTrue};
 ghost use Rattle.std.specs.List.{list_all};
-ghost use Rattle.wm_core.specs.Sizes.{IsFitStep, IsFitThen};
-ghost use Rattle.wm_core.specs.declared.step.Choice.{Choice};
+ghost use Rattle.wm_history.specs.Sizes.{IsFitStep, IsFitThen};
+ghost use Rattle.wm_history.specs.declared.step.Choice.{Choice};
 ghost use Rattle.wm_criteria.specs.Prepared.{is_built};
 
 use case_data::{Fault, Words};

@@ -1,7 +1,7 @@
 //! What another caller does: steps as words, each of them so many times.
 ghost use Rattle.std.specs.Prelude.{IfOk};
 ghost use Rattle.wm_book.specs.Carried.{IsBack, IsReady};
-ghost use Rattle.wm_core.specs.Sizes.{IsFitStep};
+ghost use Rattle.wm_history.specs.Sizes.{IsFitStep};
 
 use case_data::{Fault, Words, string_of};
 use std::alloc::{AllocError, Global};

@@ -1,6 +1,6 @@
 //! The stored steps of a desk, taken again on a new one.
 ghost use Rattle.std.specs.Prelude.{◌≡◌, ◌≤◌, IfOk, IsTrue};
-ghost use Rattle.wm_core.specs.Sizes.{IsFitStep};
+ghost use Rattle.wm_history.specs.Sizes.{IsFitStep};
 ghost use Rattle.wm_layouts.specs.Sizes.{IsFitSize};
 
 use case_data::Fault;

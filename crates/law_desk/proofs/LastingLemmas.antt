@@ -5,26 +5,26 @@ use Rattle.wm_base.specs.declared.geometry.Edges.{Edges}
 use Rattle.wm_base.specs.declared.ids.ConId.{ConId}
 use Rattle.wm_base.specs.declared.plan.OutputPlan.{OutputPlan}
 use Rattle.wm_base.specs.declared.properties.Props.{Props}
-use Rattle.wm_core.proofs.GoneLemmas.{owned_containers, some_part, still_containers}
+use Rattle.wm_history.proofs.GoneLemmas.{owned_containers, some_part, still_containers}
 use Rattle.wm_core.proofs.OpeningLemmas.{fit_plans}
-use Rattle.wm_core.specs.Act.{Act, CommandText, KeyChoice, Run, Map, Close, Retitle, Urgent, Gone, OutputAdd, OutputRemove, Reserve, Key, Tick, Ack, Give, Deadline}
-use Rattle.wm_core.specs.declared.step.Answer.{Answer}
-use Rattle.wm_core.specs.declared.step.Answer.TheVariants as answers
+use Rattle.wm_history.specs.Act.{Act, CommandText, KeyChoice, Run, Map, Close, Retitle, Urgent, Gone, OutputAdd, OutputRemove, Reserve, Key, Tick, Ack, Give, Deadline}
+use Rattle.wm_history.specs.declared.step.Answer.{Answer}
+use Rattle.wm_history.specs.declared.step.Answer.TheVariants as answers
 use Rattle.wm_apply.specs.Batches.{outcome}
 use Rattle.wm_apply.specs.Quiet.{is_quiet}
-use Rattle.wm_core.specs.Effect.{ack_said, come_to, done_or_refused, effect, has_no_pixels, idled, key_effect, limit_at, limit_of, map_effect, mapped, mapped_id, raised_unless_full, ran, refused, run_effect, telling, then_outcome, window_answer}
-use Rattle.wm_core.specs.Keys.{bound, chosen}
+use Rattle.wm_history.specs.Effect.{ack_said, come_to, done_or_refused, effect, has_no_pixels, idled, key_effect, limit_at, limit_of, map_effect, mapped, mapped_id, raised_unless_full, ran, refused, run_effect, telling, then_outcome, window_answer}
+use Rattle.wm_history.specs.Keys.{bound, chosen}
 use Rattle.wm_json.specs.declared.views.EventBody.{EventBody}
 use Rattle.wm_swallow.specs.Swallowing.{filled_at, swallower}
-use Rattle.wm_core.specs.History.{Entry, Start, mode, opening_of, tree}
+use Rattle.wm_history.specs.History.{Entry, Start, mode, opening_of, tree}
 use Rattle.wm_criteria.specs.declared.verdict.Verdict.{Verdict}
 use Rattle.wm_criteria.specs.declared.verdict.Verdict.TheVariants.{Ready, Bad, PatternRefused}
 use Rattle.wm_layouts.specs.declared.plan.Env.{Env}
 use Rattle.wm_txn.specs.History as commits
 use Rattle.wm_base.specs.declared.ids.Buffer.{Buffer}
 use Rattle.law_desk.specs.LastingLaws.{IsInOrder}
-use Rattle.wm_core.specs.Outputs.{add_answer, added, remove_answer, removed, reserve_answer, reserved, reserved_at, unless_full}
-use Rattle.wm_core.specs.Windows.{AreContainers, is_window, owned, retitled, with_urgency, with_urgent, without_urgent, without_windows}
+use Rattle.wm_history.specs.Outputs.{add_answer, added, remove_answer, removed, reserve_answer, reserved, reserved_at, unless_full}
+use Rattle.wm_history.specs.Windows.{AreContainers, is_window, owned, retitled, with_urgency, with_urgent, without_urgent, without_windows}
 use Rattle.wm_floats.specs.Fullscreen.{fills_alone}
 use Rattle.law_fullscreen.proofs.SingleLemmas.{has_of, single_of, single_opening}
 use Rattle.law_lasting.proofs.LastSteps.{has_added, has_closed, has_detached, has_mapped, has_removed, has_reserved, has_swallowed, has_titled, has_urgent}

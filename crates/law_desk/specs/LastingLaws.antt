@@ -1,6 +1,6 @@
 -- What lasts through every history: the tree is sound, its scratchpad is in order, and workspaces have one fullscreen container.
 use Rattle.std.specs.Prelude.{List}
-use Rattle.wm_core.specs.History.{Entry, Start, opening_of, tree}
+use Rattle.wm_history.specs.History.{Entry, Start, opening_of, tree}
 use Rattle.law_fullscreen.specs.Fullscreen.{HasOne}
 use Rattle.law_lasting.specs.Scratchpad.{HasScratchpad}
 use Rattle.wm_layouts.specs.declared.plan.Plan.{Plan}

@@ -2,8 +2,8 @@
 use Rattle.std.proofs.Common.{◌≡◌, refl, ◌≤◌, ◌<◌, List, [], ◌∷◌, ◌++◌, Some, codes, arith}
 use Rattle.std.specs.Fmt.{decimal}
 use Rattle.wm_base.specs.declared.errors.Limit.TheVariants as limits
-use Rattle.wm_core.specs.declared.step.Answer.{Answer}
-use Rattle.wm_core.specs.declared.step.Answer.TheVariants as answers
+use Rattle.wm_history.specs.declared.step.Answer.{Answer}
+use Rattle.wm_history.specs.declared.step.Answer.TheVariants as answers
 use Rattle.wm_habits.proofs.WrittenLemmas.{number_read}
 use Rattle.wm_lines.specs.Told.{answer_text}
 use Rattle.law_lines.specs.Answers.{IsPlain, answer_of}

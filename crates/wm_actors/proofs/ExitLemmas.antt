@@ -2,9 +2,9 @@
 use Rattle.std.proofs.Common.{◌≡◌, ◌∙◌, refl, ap, sym, subst, ℕ, Bool, true, false, ◌||◌, List, [], ◌∷◌, Option, None, Some, IfSome, IsTrue, arith, codes}
 use Rattle.std.specs.List.{slice_get}
 use Rattle.std.specs.Option.{is_some, option_and_then, option_map, unwrap_or}
-use Rattle.wm_core.specs.Act.{Act}
-use Rattle.wm_core.specs.Act as act
-use Rattle.wm_core.specs.History.{History, Start, opening_of, stopped}
+use Rattle.wm_history.specs.Act.{Act}
+use Rattle.wm_history.specs.Act as act
+use Rattle.wm_history.specs.History.{History, Start, opening_of, stopped}
 use Rattle.wm_core.specs.Passes.{Pass}
 use Rattle.wm_criteria.specs.Patterns.{pattern_at, patterns_of, unless_plain}
 use Rattle.wm_criteria.specs.Verdict.{IsVerdict}

@@ -2,8 +2,8 @@
 use Rattle.std.proofs.Common.{◌≡◌, ◌∙◌, refl, ap, sym, subst, ℕ, ◌+◌, inl, inr, Bool, true, false, List, [], ◌∷◌, ◌++◌, length, take, Option, None, Some, Result, Ok, Err, IsErrAnd, IsSomeAnd, OnErr, append_assoc, length-append, arith}
 use Rattle.std.proofs.Math.Seq.{take-append-add}
 use Rattle.std.proofs.lemmas.List.{append-nil, take_all}
-use Rattle.wm_core.specs.Frame.{frame}
-use Rattle.wm_core.specs.History.{History, Start, opening_of, stopped}
+use Rattle.wm_history.specs.Frame.{frame}
+use Rattle.wm_history.specs.History.{History, Start, opening_of, stopped}
 use Rattle.wm_core.specs.Passes.{Looked, Pass, Saw}
 use Rattle.wm_core.specs.declared.asked.Asked.{Asked}
 use Rattle.wm_core.specs.declared.asked.Asked.TheVariants as asked

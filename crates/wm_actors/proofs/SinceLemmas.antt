@@ -1,11 +1,11 @@
 -- What calls of a door make of a pass, and what lasts.
 use Rattle.std.proofs.Common.{◌≡◌, ◌∙◌, refl, ap, sym, subst, List, [], ◌∷◌, ◌++◌, length, Some, IsSomeAnd, append_assoc}
 use Rattle.std.specs.Prelude.{⊤}
-use Rattle.wm_core.specs.Act.{Act}
-use Rattle.wm_core.specs.History.{Entry, History, Start, opening_of}
+use Rattle.wm_history.specs.Act.{Act}
+use Rattle.wm_history.specs.History.{Entry, History, Start, opening_of}
 use Rattle.wm_core.specs.Passes.{Begins, Looked, Pass, Saw, Took}
 use Rattle.wm_core.specs.declared.asked.Asked.{Asked}
-use Rattle.wm_core.specs.declared.step.Answer.{Answer}
+use Rattle.wm_history.specs.declared.step.Answer.{Answer}
 use Rattle.wm_session.specs.Places.{at_length, entry_at}
 use Rattle.wm_session.proofs.WalkLemmas.{at_length_later, begins_more, begins_same, entry_later}
 use Rattle.wm_turn.specs.declared.view.Mark.{Mark}

@@ -1,11 +1,11 @@
 -- What the calls of a round of a timer leave.
 use Rattle.std.proofs.Common.{◌≡◌, ◌∙◌, refl, sym, subst, ℕ, ◌^◌, Bool, true, false, List, [], ◌∷◌, ◌++◌, length, Option, None, Some, Result, Ok, Err, IsErrAnd}
-use Rattle.wm_core.specs.Act.{Deadline}
-use Rattle.wm_core.specs.History.{History, Start, opening_of, stopped}
+use Rattle.wm_history.specs.Act.{Deadline}
+use Rattle.wm_history.specs.History.{History, Start, opening_of, stopped}
 use Rattle.wm_core.specs.Passes.{Looked, Pass, Saw, Took}
 use Rattle.wm_core.specs.declared.asked.Asked.TheVariants as asked
-use Rattle.wm_core.specs.declared.look.Query.TheVariants as query
-use Rattle.wm_core.specs.declared.step.Answer.{Answer}
+use Rattle.wm_history.specs.declared.look.Query.TheVariants as query
+use Rattle.wm_history.specs.declared.step.Answer.{Answer}
 use Rattle.wm_ports.specs.Listening.{IsTold}
 use Rattle.wm_session.specs.Places.{at_length, entry_at}
 use Rattle.wm_actors.specs.Due.{HasSeen, Pair, due}

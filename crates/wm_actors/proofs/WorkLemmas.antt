@@ -1,7 +1,7 @@
 -- What the calls of a round of a worker leave.
 use Rattle.std.proofs.Common.{◌≡◌, ◌∙◌, refl, ap, sym, subst, ℕ, ◌≤◌, Bool, true, false, List, [], ◌∷◌, ◌++◌, Option, None, Some, Result, Ok, Err, IsErrAnd, append_assoc, arith}
 use Rattle.std.proofs.lemmas.List.{append-nil}
-use Rattle.wm_core.specs.History.{stopped}
+use Rattle.wm_history.specs.History.{stopped}
 use Rattle.wm_core.specs.Passes.{Looked, Pass}
 use Rattle.wm_core.specs.declared.asked.Asked.TheVariants as asked
 use Rattle.wm_defs.specs.Counts.{Rose}

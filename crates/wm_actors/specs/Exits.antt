@@ -2,10 +2,10 @@
 use Rattle.std.specs.Prelude.{◌≡◌, ◌⊎◌, codes}
 use Rattle.wm_criteria.specs.Verdict.{IsVerdict}
 use Rattle.wm_criteria.specs.declared.verdict.Verdict.{Verdict}
-use Rattle.wm_core.specs.Act.{Act}
-use Rattle.wm_core.specs.Act as act
+use Rattle.wm_history.specs.Act.{Act}
+use Rattle.wm_history.specs.Act as act
 use Rattle.wm_core.specs.Passes.{Pass, Saw, Took}
-use Rattle.wm_core.specs.declared.step.Answer.{Answer}
+use Rattle.wm_history.specs.declared.step.Answer.{Answer}
 use Rattle.wm_actors.specs.declared.ending.ActorEnd.{ActorEnd}
 use Rattle.wm_actors.specs.declared.ending.ActorEnd.TheVariants as end
 

@@ -1,6 +1,6 @@
 -- The rounds of a painter.
 use Rattle.std.specs.Prelude.{◌≡◌, ℕ, true, false, List, [], ◌∷◌, ◌++◌, ⊤}
-use Rattle.wm_core.specs.History.{History, Start, stopped}
+use Rattle.wm_history.specs.History.{History, Start, stopped}
 use Rattle.wm_core.specs.declared.asked.Asked.{Asked}
 use Rattle.wm_core.specs.declared.asked.Asked.TheVariants as asked
 use Rattle.wm_session.specs.Places.{at_length}

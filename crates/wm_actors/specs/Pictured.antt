@@ -1,6 +1,6 @@
 -- How far a painter is, and what it did.
 use Rattle.std.specs.Prelude.{◌≡◌, ◌⊎◌, ℕ, ◌≤◌, List, ◌++◌, Option, Result, Ok, Err, ⊤}
-use Rattle.wm_core.specs.Frame.{frame}
+use Rattle.wm_history.specs.Frame.{frame}
 use Rattle.wm_core.specs.Passes.{Looked, Pass, Saw}
 use Rattle.wm_core.specs.declared.asked.Asked.TheVariants as asked
 use Rattle.wm_defs.specs.Counts.{Rose}

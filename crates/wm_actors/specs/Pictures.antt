@@ -1,8 +1,8 @@
 -- What a painter writes.
 use Rattle.std.specs.Prelude.{ℕ, List, [], ◌∷◌, ◌++◌, if◌then◌else◌}
 use Rattle.std.specs.Str.{bytes_eq}
-use Rattle.wm_core.specs.Frame.{frame}
-use Rattle.wm_core.specs.History.{History, Start}
+use Rattle.wm_history.specs.Frame.{frame}
+use Rattle.wm_history.specs.History.{History, Start}
 use Rattle.wm_core.specs.declared.asked.Asked.{Asked}
 use Rattle.wm_core.specs.declared.asked.Asked.TheVariants as asked
 use Rattle.wm_paint.specs.FrameText.{frame_text}

@@ -1,6 +1,6 @@
 -- What a caller's calls made of its pass.
 use Rattle.std.specs.Prelude.{◌≡◌, List, ◌++◌, Some}
-use Rattle.wm_core.specs.History.{History, Start, opening_of}
+use Rattle.wm_history.specs.History.{History, Start, opening_of}
 use Rattle.wm_core.specs.Passes.{Begins, Pass}
 use Rattle.wm_core.specs.declared.asked.Asked.{Asked}
 use Rattle.wm_layouts.specs.declared.plan.Plan.{Plan}

@@ -1,17 +1,17 @@
 -- The rounds of a timer.
 use Rattle.std.specs.Prelude.{◌≡◌, ℕ, ◌^◌, true, false, List, [], ◌∷◌, ◌++◌, length, map, Option, None, Some, Result, Ok, Err, ⊤}
 use Rattle.std.specs.Option.{option_map}
-use Rattle.wm_core.specs.Act.{Deadline}
-use Rattle.wm_core.specs.History.{History, Start, stopped}
-use Rattle.wm_core.specs.Look.{state}
+use Rattle.wm_history.specs.Act.{Deadline}
+use Rattle.wm_history.specs.History.{History, Start, stopped}
+use Rattle.wm_history.specs.Look.{state}
 use Rattle.wm_core.specs.Passes.{Pass, Saw, Took}
 use Rattle.wm_core.specs.declared.asked.Asked.{Asked}
 use Rattle.wm_core.specs.declared.asked.Asked.TheVariants as asked
-use Rattle.wm_core.specs.declared.look.Query.TheVariants as query
-use Rattle.wm_core.specs.declared.look.View.{View}
-use Rattle.wm_core.specs.declared.look.View.TheVariants as view
-use Rattle.wm_core.specs.declared.state.State.{State}
-use Rattle.wm_core.specs.declared.step.Answer.{Answer}
+use Rattle.wm_history.specs.declared.look.Query.TheVariants as query
+use Rattle.wm_history.specs.declared.look.View.{View}
+use Rattle.wm_history.specs.declared.look.View.TheVariants as view
+use Rattle.wm_history.specs.declared.state.State.{State}
+use Rattle.wm_history.specs.declared.step.Answer.{Answer}
 use Rattle.wm_session.specs.Places.{at_length, entry_at}
 use Rattle.wm_turn.specs.declared.view.Mark.{Mark}
 use Rattle.wm_turn.specs.declared.view.Mark.TheVariants.{Wrote, Read}

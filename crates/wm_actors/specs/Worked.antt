@@ -1,7 +1,7 @@
 -- How far a worker is, and what it did.
 use Rattle.std.specs.Prelude.{◌≡◌, ℕ, ◌≤◌, ◌^◌, true, false, List, ◌∷◌, ◌++◌, length, Option, None, Some, Result, Ok, Err, IfSome, ⊤}
 use Rattle.wm_core.specs.Passes.{Looked, Pass}
-use Rattle.wm_core.specs.History.{stopped}
+use Rattle.wm_history.specs.History.{stopped}
 use Rattle.wm_core.specs.declared.asked.Asked.{Asked}
 use Rattle.wm_core.specs.declared.asked.Asked.TheVariants as asked
 use Rattle.wm_defs.specs.Counts.{Rose}

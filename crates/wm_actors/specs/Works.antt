@@ -1,7 +1,7 @@
 -- The rounds of a worker.
 use Rattle.std.specs.Prelude.{◌≡◌, ℕ, Bool, true, false, List, [], ◌∷◌, ◌++◌, map, Option, None, Some, ⊤}
 use Rattle.wm_criteria.specs.Building.{Log}
-use Rattle.wm_core.specs.History.{stopped}
+use Rattle.wm_history.specs.History.{stopped}
 use Rattle.wm_core.specs.Passes.{Looked, Pass}
 use Rattle.wm_core.specs.declared.asked.Asked.TheVariants as asked
 use Rattle.wm_ports.specs.Linking.{LinkTold}

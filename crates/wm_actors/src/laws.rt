@@ -1,6 +1,6 @@
 //! Laws of what actors do.
 ghost use Rattle.std.specs.Prelude.{◌≡◌, IfSome, true};
-ghost use Rattle.wm_core.specs.History.{opening_of, stopped};
+ghost use Rattle.wm_history.specs.History.{opening_of, stopped};
 ghost use Rattle.wm_core.specs.Passes.{Pass};
 ghost use Rattle.wm_actors.specs.Exits.{SaidExit};
 

@@ -2,7 +2,7 @@
 ghost use Rattle.std.specs.Prelude.{◌≡◌, List, ℕ, Option, false};
 ghost use Rattle.wm_core.specs.Passes.{Looks, Pass};
 ghost use Rattle.wm_core.specs.declared.asked.Asked.TheVariants as asked;
-ghost use Rattle.wm_core.specs.declared.look.Query.TheVariants as query;
+ghost use Rattle.wm_history.specs.declared.look.Query.TheVariants as query;
 ghost use Rattle.wm_actors.specs.Ticks.{Gives, waiting_after, waiting_in};
 ghost use Rattle.wm_actors.specs.Timed.{GoesOn, Ticking, Timed};
 

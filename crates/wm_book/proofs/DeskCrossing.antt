@@ -20,10 +20,10 @@ use Rattle.wm_core.below.circular_buffer.proofs.heap.HeapCircularBuffer.TheSendS
 use Rattle.wm_core.below.wm_ids.proofs.map.IdMap.TheSendSync as ids
 use Rattle.wm_core.below.wm_kept.specs.contracts.kept.Kept as Kept
 use Rattle.wm_core.below.wm_txn.proofs.txn.Txn.TheSendSync as txn
-use Rattle.wm_core.proofs.client.ClientStep.TheSendSync as client
+use Rattle.wm_history.proofs.client.ClientStep.TheSendSync as client
 use Rattle.wm_core.specs.contracts.desk.Desk as Desk
-use Rattle.wm_core.specs.contracts.step.Choice as Choice
-use Rattle.wm_core.specs.contracts.step.Step as Step
+use Rattle.wm_history.specs.contracts.step.Choice as Choice
+use Rattle.wm_history.specs.contracts.step.Step as Step
 use Rattle.wm_json.proofs.views.NodeView.TheLaws.TheKnot as node
 use Rattle.wm_json.specs.contracts.views.EventBody as EventBody
 use Rattle.wm_json.specs.contracts.views.EventView as EventView

@@ -9,10 +9,10 @@ use Rattle.std.specs.Prelude.{MatchOption, get_or, if◌then◌else◌, nat_lt}
 use Rattle.std.specs.Slice.{IsItemAt}
 use Rattle.wm_book.specs.Recorded.{IsRecord, RecordedValue, entry_at, most_stored, stored, stored_entry}
 use Rattle.wm_book.specs.declared.entry.Entry.{Entry}
-use Rattle.wm_core.specs.Act.{act_of}
+use Rattle.wm_history.specs.Act.{act_of}
 use Rattle.wm_core.specs.DeskValue.{Stands}
 use Rattle.wm_core.specs.Entries.{bare, history_of}
-use Rattle.wm_core.specs.declared.step.Step.{Step}
+use Rattle.wm_history.specs.declared.step.Step.{Step}
 use Rattle.wm_criteria.specs.contracts.prepared.Prepared as prepared
 use Rattle.wm_criteria.specs.declared.prepared.Prepared.{Prepared}
 use Rattle.wm_turn.specs.declared.view.Entry as turn

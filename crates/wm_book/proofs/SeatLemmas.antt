@@ -2,16 +2,16 @@
 use Rattle.std.proofs.Common.{◌≡◌, ◌≤◌, ◌<◌, ◌^◌, ℕ, zero, suc, Bool, true, false, List, ◌∷◌, Option, Some, ap, arith, length, refl, subst, sym, ◌∙◌}
 use Rattle.std.specs.Prelude.{IsSomeAnd}
 use Rattle.wm_core.proofs.EntryLemmas.{history_begins, history_length, history_places}
-use Rattle.wm_core.specs.Act.{Act, act_of}
+use Rattle.wm_history.specs.Act.{Act, act_of}
 use Rattle.wm_core.specs.Entries.{history_of}
-use Rattle.wm_core.specs.History.{History, Start, answer, opening_of}
-use Rattle.wm_core.specs.Look.{look}
+use Rattle.wm_history.specs.History.{History, Start, answer, opening_of}
+use Rattle.wm_history.specs.Look.{look}
 use Rattle.wm_core.specs.Passes.{Looked, Saw, Took, places}
-use Rattle.wm_core.specs.declared.look.Query.{Query}
-use Rattle.wm_core.specs.declared.look.View.{View}
+use Rattle.wm_history.specs.declared.look.Query.{Query}
+use Rattle.wm_history.specs.declared.look.View.{View}
 use Rattle.wm_core.specs.Passes as passes
 use Rattle.wm_core.specs.declared.asked.Asked.{Asked}
-use Rattle.wm_core.specs.declared.step.Answer.{Answer}
+use Rattle.wm_history.specs.declared.step.Answer.{Answer}
 use Rattle.wm_book.specs.Carried.{carried}
 use Rattle.wm_layouts.specs.declared.plan.Plan.{Plan}
 use Rattle.std.proofs.lemmas.List.Elements.{All-cons}
@@ -19,7 +19,7 @@ use Rattle.std.specs.List.{All}
 use Rattle.wm_turn.specs.Pass.{Gate, IsLegal, Pass, new_passes}
 use Rattle.wm_turn.specs.declared.view.Mark.{Mark}
 use Rattle.wm_turn.specs.declared.view.Mark.TheVariants.{Wrote, Read}
-use Rattle.wm_core.specs.declared.step.Step.{Step}
+use Rattle.wm_history.specs.declared.step.Step.{Step}
 use Rattle.wm_turn.specs.History as turn
 use Rattle.wm_turn.specs.declared.view.Entry.{Entry}
 

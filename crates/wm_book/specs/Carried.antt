@@ -4,7 +4,7 @@ use Rattle.wm_core.proofs.EntryLemmas.{history_legal}
 use Rattle.wm_core.specs.Entries.{history_of}
 use Rattle.wm_core.specs.Passes as passes
 use Rattle.wm_core.specs.declared.asked.Asked.{Asked}
-use Rattle.wm_core.specs.declared.step.Step.{Step}
+use Rattle.wm_history.specs.declared.step.Step.{Step}
 use Rattle.wm_layouts.specs.declared.plan.Plan.{Plan}
 use Rattle.wm_turn.specs.Pass.{Gate, IsLegal, Pass}
 

@@ -2,13 +2,13 @@
 use Rattle.std.specs.Prelude.{◌≡◌, List, [], ◌∷◌, Option, None, Some, length, map, refl}
 use Rattle.std.proofs.Common.{◌∙◌, ap}
 use Rattle.std.proofs.lemmas.List.{length-map}
-use Rattle.wm_core.specs.Act.{Key, Map, act_of, choice_of, text_if_some}
+use Rattle.wm_history.specs.Act.{Key, Map, act_of, choice_of, text_if_some}
 use Rattle.wm_core.specs.DeskValue.{DeskValue, Stands}
 use Rattle.wm_core.specs.Entries.{bare_choice, bare_if_some, bare_step, desk_entry, history_of}
-use Rattle.wm_core.specs.declared.step.Choice.{Choice}
-use Rattle.wm_core.specs.declared.step.Step.{Step}
+use Rattle.wm_history.specs.declared.step.Choice.{Choice}
+use Rattle.wm_history.specs.declared.step.Step.{Step}
 use Rattle.wm_criteria.specs.declared.prepared.Prepared.{Prepared}
-use Rattle.wm_core.specs.declared.step.Step.TheVariants as step
+use Rattle.wm_history.specs.declared.step.Step.TheVariants as step
 use Rattle.wm_turn.specs.declared.view.Entry.{Entry}
 
 -- a text counts the same without its built patterns

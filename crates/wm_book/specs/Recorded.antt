@@ -5,7 +5,7 @@ use Rattle.wm_book.specs.contracts.entry.Entry as entry
 use Rattle.wm_book.specs.declared.entry.Entry.{Entry}
 use Rattle.wm_core.specs.DeskValue.{DeskValue, Stands, desk_code}
 use Rattle.wm_core.specs.Entries.{history_of}
-use Rattle.wm_core.specs.declared.step.Step.{Step}
+use Rattle.wm_history.specs.declared.step.Step.{Step}
 use Rattle.wm_turn.specs.declared.view.Entry as turn
 
 pub record RecordedValue : Type 0 where

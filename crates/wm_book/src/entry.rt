@@ -1,7 +1,7 @@
 //! Steps as a recorded desk stores them.
 ghost use Rattle.std.specs.Prelude.{◌≡◌, map, IfOk};
 ghost use Rattle.wm_core.specs.Entries.{bare, bare_choice, bare_if_some, bare_step};
-ghost use Rattle.wm_core.specs.declared.step.Step.TheVariants as steps;
+ghost use Rattle.wm_history.specs.declared.step.Step.TheVariants as steps;
 
 use std::alloc::Global;
 use wm_base::{Buffer, ConId, Edges, List, NoMemory, Props, Str, Text};

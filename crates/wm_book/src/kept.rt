@@ -8,14 +8,14 @@ use wm_turn::Stands;
 /// A value that stands for the steps that were taken on it, and answers each of them as a desk does.
 pub trait Kept: Stands<Opening = Plan, Step = Step, Question = Asked> {
     ghost use Rattle.std.specs.Prelude.{◌≡◌, ◌<◌, ℕ, ◌^◌, List, ◌∷◌, length, IfOk, OnErr, OnOk};
-    ghost use Rattle.wm_core.specs.Act.{act_of, client_act};
+    ghost use Rattle.wm_history.specs.Act.{act_of, client_act};
     ghost use Rattle.wm_core.specs.Entries.{history_of};
-    ghost use Rattle.wm_core.specs.Frame.{frame};
-    ghost use Rattle.wm_core.specs.History.{answer, opening_of};
-    ghost use Rattle.wm_core.specs.Look.{look, state};
-    ghost use Rattle.wm_core.specs.Sizes.{IsFitStep};
-    ghost use Rattle.wm_core.specs.declared.step.Step as steps;
-    ghost use Rattle.wm_core.specs.declared.step.Step.TheVariants.{Client};
+    ghost use Rattle.wm_history.specs.Frame.{frame};
+    ghost use Rattle.wm_history.specs.History.{answer, opening_of};
+    ghost use Rattle.wm_history.specs.Look.{look, state};
+    ghost use Rattle.wm_history.specs.Sizes.{IsFitStep};
+    ghost use Rattle.wm_history.specs.declared.step.Step as steps;
+    ghost use Rattle.wm_history.specs.declared.step.Step.TheVariants.{Client};
     ghost use Rattle.wm_turn.specs.declared.view.Entry.{Entry};
 
     // How many steps were taken.

@@ -1,7 +1,7 @@
 //! A desk that stores the first steps that are taken on it.
 ghost use Rattle.std.specs.Prelude.{◌≡◌, ◌≤◌, ◌<◌, ◌⊎◌, List, [], ◌∷◌, Some, length, IfOk, MatchOption};
 ghost use Rattle.wm_book.specs.Recorded.{IsRecord, entry_at, most_stored, stored};
-ghost use Rattle.wm_core.specs.declared.step.Step as steps;
+ghost use Rattle.wm_history.specs.declared.step.Step as steps;
 ghost use Rattle.wm_layouts.specs.Plan.{IsSound};
 ghost use Rattle.wm_turn.specs.declared.view.Entry as turn;
 

@@ -1,13 +1,13 @@
 -- How a client's session ends.
 use Rattle.std.proofs.Common.{◌≡◌, ◌∙◌, refl, ap, sym, subst, ℕ, suc, ◌+◌, ◌<◌, ◌≤◌, ◌⊎◌, inr, Bool, true, false, List, [], length, length-append, Option, None, Some, Ok, Err, Result, IsErrAnd, arith}
-use Rattle.wm_core.specs.Act.{Act}
-use Rattle.wm_core.specs.Look.{look}
+use Rattle.wm_history.specs.Act.{Act}
+use Rattle.wm_history.specs.Look.{look}
 use Rattle.wm_core.specs.Passes.{Acts, Looked, Pass, Took}
 use Rattle.wm_core.specs.declared.asked.Asked.TheVariants as asked
-use Rattle.wm_core.specs.declared.look.View.{View}
+use Rattle.wm_history.specs.declared.look.View.{View}
 use Rattle.wm_core.specs.declared.refusals.ActRefusal.{ActRefusal}
 use Rattle.wm_core.specs.declared.refusals.ActRefusal.TheVariants as refusals
-use Rattle.wm_core.specs.declared.step.Answer.{Answer}
+use Rattle.wm_history.specs.declared.step.Answer.{Answer}
 use Rattle.wm_cut.specs.Lines.{behind_line, first_line, lines_in, rest_in}
 use Rattle.wm_cut.proofs.CutLemmas.{no_line}
 use Rattle.wm_lines.specs.Told.{answer_text}

@@ -1,13 +1,13 @@
 -- What a call of the door does to how far a client's session is.
 use Rattle.std.proofs.Common.{◌≡◌, ◌∙◌, refl, ap, sym, subst, ℕ, suc, Bool, true, List, [], ◌∷◌, ◌++◌, length, Some, IsSomeAnd}
-use Rattle.wm_core.specs.Act.{Act}
-use Rattle.wm_core.specs.History.{Entry, History, answer, opening_of, stopped}
-use Rattle.wm_core.specs.Look.{look}
+use Rattle.wm_history.specs.Act.{Act}
+use Rattle.wm_history.specs.History.{Entry, History, answer, opening_of, stopped}
+use Rattle.wm_history.specs.Look.{look}
 use Rattle.wm_core.specs.Passes.{Looked, Pass, Saw, Took}
 use Rattle.wm_core.specs.declared.asked.Asked.TheVariants as asked
-use Rattle.wm_core.specs.declared.look.Query.{Query}
-use Rattle.wm_core.specs.declared.look.View.{View}
-use Rattle.wm_core.specs.declared.step.Answer.{Answer}
+use Rattle.wm_history.specs.declared.look.Query.{Query}
+use Rattle.wm_history.specs.declared.look.View.{View}
+use Rattle.wm_history.specs.declared.step.Answer.{Answer}
 use Rattle.wm_layouts.specs.declared.plan.Plan.{Plan}
 use Rattle.wm_session.proofs.WalkLemmas.{begins_more, begins_same}
 use Rattle.wm_turn.specs.declared.view.Mark.TheVariants.{Wrote, Read}

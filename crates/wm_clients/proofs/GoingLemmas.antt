@@ -1,12 +1,12 @@
 -- How a client's session goes on.
 use Rattle.std.proofs.Common.{◌≡◌, ◌∙◌, refl, ap, ℕ, suc, ◌+◌, ◌≤◌, Bool, true, false, not, List, [], ◌∷◌, ◌++◌, Option, Some, arith}
-use Rattle.wm_core.specs.Act.{Act}
-use Rattle.wm_core.specs.History.{stopped}
-use Rattle.wm_core.specs.Look.{look}
+use Rattle.wm_history.specs.Act.{Act}
+use Rattle.wm_history.specs.History.{stopped}
+use Rattle.wm_history.specs.Look.{look}
 use Rattle.wm_core.specs.Passes.{Looked, Pass, Saw, Took}
 use Rattle.wm_core.specs.declared.asked.Asked.TheVariants as asked
-use Rattle.wm_core.specs.declared.look.View.{View}
-use Rattle.wm_core.specs.declared.step.Answer.{Answer}
+use Rattle.wm_history.specs.declared.look.View.{View}
+use Rattle.wm_history.specs.declared.step.Answer.{Answer}
 use Rattle.wm_cut.specs.Lines.{behind_line, first_line, lines_in, rest_in}
 use Rattle.wm_lines.specs.Told.{answer_text}
 use Rattle.wm_ports.specs.Linking.{LinkTold}

@@ -1,6 +1,6 @@
 -- What is heard on a client's link.
 use Rattle.std.proofs.Common.{◌≡◌, ◌∙◌, refl, ap, sym, subst, ℕ, zero, suc, ◌+◌, ◌<◌, ◌≤◌, inl, inr, true, false, List, [], ◌∷◌, ◌++◌, length, length-append, take, Option, None, Some, Ok, Err, Result, arith}
-use Rattle.wm_core.specs.History.{History}
+use Rattle.wm_history.specs.History.{History}
 use Rattle.wm_core.specs.Passes.{Pass}
 use Rattle.wm_cut.specs.Lines.{behind_line, first_line, rest_in}
 use Rattle.wm_cut.proofs.CutLemmas.{fronts, no_line}

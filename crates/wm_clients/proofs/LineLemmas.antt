@@ -2,7 +2,7 @@
 use Rattle.std.proofs.Common.{◌≡◌, ◌∙◌, refl, ap, sym, ℕ, ◌+◌, ◌<◌, ◌≤◌, true, false, if◌then◌else◌, nat_le, List, [], ◌∷◌, ◌++◌, length, length-append, None, Some, arith, append_assoc}
 use Rattle.std.proofs.lemmas.Bool.Decides.{nat_tests}
 use Rattle.std.proofs.lemmas.List.{append-nil}
-use Rattle.wm_core.specs.Act.{Act}
+use Rattle.wm_history.specs.Act.{Act}
 use Rattle.wm_cut.specs.Lines.{behind_line, first_line, lines_in, rest_in}
 use Rattle.wm_cut.proofs.CutLemmas.{fronts}
 use Rattle.wm_clients.specs.Lines.{LONGEST, bad_from, bad_here, line_act}

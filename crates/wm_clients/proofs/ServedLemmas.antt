@@ -1,12 +1,12 @@
 -- What a client's session did, once it has ended.
 use Rattle.std.proofs.Common.{◌≡◌, ◌∙◌, refl, ap, sym, subst, ℕ, inl, true, false, List, [], ◌∷◌, ◌++◌, length, Option, None, Some, Err, IfSome}
-use Rattle.wm_core.specs.Act as act
-use Rattle.wm_core.specs.History.{Entry, History, Start, opening_of}
+use Rattle.wm_history.specs.Act as act
+use Rattle.wm_history.specs.History.{Entry, History, Start, opening_of}
 use Rattle.wm_core.specs.Passes.{Acts, Begins, Pass, Took}
 use Rattle.wm_core.specs.declared.asked.Asked.{Asked}
 use Rattle.wm_core.specs.declared.refusals.ActRefusal.{ActRefusal}
 use Rattle.wm_core.specs.declared.refusals.ActRefusal.TheVariants as refusals
-use Rattle.wm_core.specs.declared.step.Answer.{Answer}
+use Rattle.wm_history.specs.declared.step.Answer.{Answer}
 use Rattle.wm_cut.specs.Lines.{lines_in}
 use Rattle.wm_session.specs.Linked.{SinceBy}
 use Rattle.wm_session.proofs.WalkLemmas.{begins_more, begins_same, entry_later}

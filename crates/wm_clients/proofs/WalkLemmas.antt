@@ -1,12 +1,12 @@
 -- How the walk over the marks of a client's session goes on.
 use Rattle.std.proofs.Common.{◌≡◌, ◌∙◌, refl, ap, sym, subst, ℕ, Bool, true, List, [], ◌∷◌, ◌++◌, length, Some, append_assoc}
-use Rattle.wm_core.specs.History.{Entry, History, Start, answer, stopped}
-use Rattle.wm_core.specs.Look.{look}
+use Rattle.wm_history.specs.History.{Entry, History, Start, answer, stopped}
+use Rattle.wm_history.specs.Look.{look}
 use Rattle.wm_core.specs.Passes.{Begins}
 use Rattle.wm_core.specs.declared.asked.Asked.{Asked}
 use Rattle.wm_core.specs.declared.asked.Asked.TheVariants as asked
-use Rattle.wm_core.specs.declared.look.View.{View}
-use Rattle.wm_core.specs.declared.step.Answer.{Answer}
+use Rattle.wm_history.specs.declared.look.View.{View}
+use Rattle.wm_history.specs.declared.step.Answer.{Answer}
 use Rattle.wm_session.specs.Places.{at_length, entry_at}
 use Rattle.wm_session.proofs.WalkLemmas.{at_length_later, begins_before, begins_more, entry_later}
 use Rattle.wm_turn.specs.declared.view.Mark.{Mark}

@@ -1,6 +1,6 @@
 -- What the lines of a client say, and the first of them that says nothing.
 use Rattle.std.specs.Prelude.{ℕ, ◌+◌, nat_le, if◌then◌else◌, List, [], ◌∷◌, length, Option, None, Some}
-use Rattle.wm_core.specs.Act.{Act}
+use Rattle.wm_history.specs.Act.{Act}
 use Rattle.wm_cut.specs.Lines.{lines_in, rest_in}
 use Rattle.wm_lines.specs.Lines.{client_act}
 

@@ -1,6 +1,6 @@
 -- How far a client's session is.
 use Rattle.std.specs.Prelude.{◌≡◌, ℕ, ◌+◌, ◌≤◌, Bool, true, false, List, [], ◌++◌, length, None, Some, Result, Ok, Err}
-use Rattle.wm_core.specs.History.{History, Start, opening_of}
+use Rattle.wm_history.specs.History.{History, Start, opening_of}
 use Rattle.wm_core.specs.Passes.{Begins, Pass}
 use Rattle.wm_core.specs.declared.asked.Asked.{Asked}
 use Rattle.wm_cut.specs.Lines.{first_line, lines_in, rest_in}

@@ -1,13 +1,13 @@
 -- What is sent on a client's link, and what that leaves.
 use Rattle.std.specs.Prelude.{◌≡◌, ℕ, ◌<◌, ◌≤◌, ◌^◌, length, List, Some, None, Result, Ok, Err}
-use Rattle.wm_core.specs.Act.{act_of}
-use Rattle.wm_core.specs.Sizes.{IsFitStep}
-use Rattle.wm_core.specs.declared.look.View.{View}
+use Rattle.wm_history.specs.Act.{act_of}
+use Rattle.wm_history.specs.Sizes.{IsFitStep}
+use Rattle.wm_history.specs.declared.look.View.{View}
 use Rattle.wm_core.specs.declared.refusals.ActRefusal.{ActRefusal}
 use Rattle.wm_core.specs.declared.refusals.ActRefusal.TheVariants as refusal
-use Rattle.wm_core.specs.declared.step.Step.{Step}
-use Rattle.wm_core.specs.declared.step.Step.TheVariants as step
-use Rattle.wm_core.specs.History.{History}
+use Rattle.wm_history.specs.declared.step.Step.{Step}
+use Rattle.wm_history.specs.declared.step.Step.TheVariants as step
+use Rattle.wm_history.specs.History.{History}
 use Rattle.wm_defs.specs.Counts.{Rose}
 use Rattle.wm_ports.specs.Linking.{SendsAll, SendsPart}
 use Rattle.wm_session.specs.Telling.{Wire}

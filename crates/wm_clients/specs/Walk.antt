@@ -1,12 +1,12 @@
 -- What a client's link is told by the marks of its session, and which marks fit the lines that came on it.
 use Rattle.std.specs.Prelude.{◌≡◌, ℕ, Bool, true, false, not, List, [], ◌∷◌, ◌++◌, Option, None, Some}
 use Rattle.std.specs.Option.{option_map}
-use Rattle.wm_core.specs.History.{Entry, History, Start, answer, stopped}
-use Rattle.wm_core.specs.Look.{look}
+use Rattle.wm_history.specs.History.{Entry, History, Start, answer, stopped}
+use Rattle.wm_history.specs.Look.{look}
 use Rattle.wm_core.specs.declared.asked.Asked.{Asked}
 use Rattle.wm_core.specs.declared.asked.Asked.TheVariants as asked
-use Rattle.wm_core.specs.declared.look.View.{View}
-use Rattle.wm_core.specs.declared.step.Answer.{Answer}
+use Rattle.wm_history.specs.declared.look.View.{View}
+use Rattle.wm_history.specs.declared.step.Answer.{Answer}
 use Rattle.wm_lines.specs.Told.{answer_text}
 use Rattle.wm_session.specs.Places.{at_length, entry_at}
 use Rattle.wm_turn.specs.declared.view.Mark.{Mark}

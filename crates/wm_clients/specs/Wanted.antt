@@ -1,12 +1,12 @@
 -- What is asked of a client's windows, and the greatest numbers of it that were sent.
 use Rattle.std.specs.Prelude.{ℕ, max, List, [], ◌∷◌}
 use Rattle.std.specs.List.{flat_map}
-use Rattle.wm_core.specs.declared.look.Query.{Query}
-use Rattle.wm_core.specs.declared.look.Query.TheVariants as query
-use Rattle.wm_core.specs.declared.look.View.{View}
-use Rattle.wm_core.specs.declared.look.View.TheVariants as view
-use Rattle.wm_core.specs.declared.state.Want.{Want}
-use Rattle.wm_core.specs.declared.state.Want.TheVariants as want
+use Rattle.wm_history.specs.declared.look.Query.{Query}
+use Rattle.wm_history.specs.declared.look.Query.TheVariants as query
+use Rattle.wm_history.specs.declared.look.View.{View}
+use Rattle.wm_history.specs.declared.look.View.TheVariants as view
+use Rattle.wm_history.specs.declared.state.Want.{Want}
+use Rattle.wm_history.specs.declared.state.Want.TheVariants as want
 use Rattle.wm_lines.specs.Told.{want_text}
 use Rattle.wm_clients.specs.declared.sent.Sent.{Sent}
 

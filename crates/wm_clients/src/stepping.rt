@@ -1,8 +1,8 @@
 //! The step of a line is read, and taken through a door.
 ghost use Rattle.std.specs.Prelude.{◌≡◌, false};
-ghost use Rattle.wm_core.specs.Act.{act_of};
+ghost use Rattle.wm_history.specs.Act.{act_of};
 ghost use Rattle.wm_core.specs.Passes.{Acts};
-ghost use Rattle.wm_core.specs.Sizes.{IsFitStep};
+ghost use Rattle.wm_history.specs.Sizes.{IsFitStep};
 ghost use Rattle.wm_clients.specs.Telling.{IsReadAs, IsTakenAlways};
 
 use crate::ending::ClientEnd;

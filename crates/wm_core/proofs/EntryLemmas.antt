@@ -3,10 +3,10 @@
 use Rattle.std.proofs.Common.{◌≡◌, ◌++◌, ℕ, List, [], ◌∷◌, ap, length, refl, ◌∙◌}
 use Rattle.std.proofs.lemmas.List.{length-map}
 use Rattle.wm_core.specs.Entries.{desk_entry, history_of}
-use Rattle.wm_core.specs.History.{History}
+use Rattle.wm_history.specs.History.{History}
 use Rattle.wm_core.specs.Passes.{Begins, acts, places}
 use Rattle.wm_core.specs.declared.asked.Asked.{Asked}
-use Rattle.wm_core.specs.declared.step.Step.{Step}
+use Rattle.wm_history.specs.declared.step.Step.{Step}
 use Rattle.wm_turn.specs.History as turn
 use Rattle.wm_turn.specs.declared.view.Entry.{Entry}
 use Rattle.wm_turn.specs.declared.view.Mark.{Mark}

@@ -19,12 +19,12 @@ use Rattle.wm_txn.proofs.ReadingLemmas.{shown_is}
 use Rattle.wm_txn.proofs.ShownLemmas.{has_configured_size, shows_answer, shows_opening}
 use Rattle.wm_txn.proofs.StandingLemmas.{knows_windows}
 use Rattle.wm_core.specs.DeskValue.{DeskValue, StandsFrom}
-use Rattle.wm_core.specs.History.{Entry, Start, effect_after, entries, first, accepted_of, opening_of, tree}
+use Rattle.wm_history.specs.History.{Entry, Start, effect_after, entries, first, accepted_of, opening_of, tree}
 use Rattle.wm_core.specs.Laws.{ContentsAreShown, EndsTwiceAtMost, FramesGoOn, OpenAreWindows, SecondAwaitsNobody, ShowsItsAnswer, ShowsTheOpening, ShowsOnlyConfigured, ShowsConfiguredSize, painted}
-use Rattle.wm_core.specs.Screen.{beginning}
-use Rattle.wm_core.proofs.BeginningLemmas.{current_is}
+use Rattle.wm_history.specs.Screen.{beginning}
+use Rattle.wm_history.proofs.BeginningLemmas.{current_is}
 use Rattle.wm_core.proofs.ContentLemmas.{content_held, contents_held}
-use Rattle.wm_core.proofs.OpenLemmas.{counted_is_found}
+use Rattle.wm_history.proofs.OpenLemmas.{counted_is_found}
 use Rattle.wm_core.proofs.ScreenLemmas.{beginning_step}
 use Rattle.wm_core.proofs.StandsLemmas.{no_content}
 

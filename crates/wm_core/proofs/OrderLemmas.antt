@@ -13,11 +13,11 @@ use Rattle.wm_tree.specs.Sound.{IsSound}
 use Rattle.wm_forest.specs.SoundRow.{times}
 use Rattle.wm_tree.specs.TreeValue.{TreeValue}
 use Rattle.wm_forest.proofs.TimesLemmas.{times-dropped, times-kept}
-use Rattle.wm_core.specs.Look.{all_marks, is_before, put_mark, put_marks}
+use Rattle.wm_history.specs.Look.{all_marks, is_before, put_mark, put_marks}
 use Rattle.wm_core.specs.Order.{MarksAreAll, MarksRise, WindowsAreAll, WindowsAreOnce, WindowsRise, mark_times}
-use Rattle.wm_core.specs.Windows.{is_window, owned, put_id, put_ids}
-use Rattle.wm_core.proofs.OpenLemmas.{found_is_counted, ranked_tally, ranked_window}
-use Rattle.wm_core.proofs.OwnedLemmas.{caller_window}
+use Rattle.wm_history.specs.Windows.{is_window, owned, put_id, put_ids}
+use Rattle.wm_history.proofs.OpenLemmas.{found_is_counted, ranked_tally, ranked_window}
+use Rattle.wm_history.proofs.OwnedLemmas.{caller_window}
 use Rattle.wm_core.proofs.PutLemmas.{puts_sorted, puts_sum}
 
 -- ---- marks

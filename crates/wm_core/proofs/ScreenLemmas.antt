@@ -4,10 +4,10 @@ use Rattle.wm_tree.specs.Sound.{IsSound}
 use Rattle.wm_paint.specs.CanvasValue.{IsArea}
 use Rattle.wm_txn.specs.Commits.{current, prefix}
 use Rattle.wm_core.specs.DeskValue.{AreInStep, IsInStep}
-use Rattle.wm_core.specs.History.{Entry, Start, first, accepted_of, tree}
-use Rattle.wm_core.specs.Screen.{beginning, first_back, screen}
-use Rattle.wm_core.proofs.BackLemmas.{arranged_first, first_within}
-use Rattle.wm_core.proofs.BeginningLemmas.{current_is}
+use Rattle.wm_history.specs.History.{Entry, Start, first, accepted_of, tree}
+use Rattle.wm_history.specs.Screen.{beginning, first_back, screen}
+use Rattle.wm_history.proofs.BackLemmas.{arranged_first, first_within}
+use Rattle.wm_history.proofs.BeginningLemmas.{current_is}
 
 last_step : (start : Start) (history : List Entry) → AreInStep start history → IsInStep start history
 last_step start [] h = h

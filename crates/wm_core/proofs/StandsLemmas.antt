@@ -21,24 +21,25 @@ use Rattle.wm_txn.proofs.StandingLemmas.{still_stands}
 use Rattle.wm_opens.specs.Opens.{is_window_of, may_open, window_at, windows_at}
 use Rattle.wm_opens.proofs.PlaceholderLemmas.{no_other_may_open}
 use Rattle.wm_json.specs.declared.views.EventBody.{EventBody}
-use Rattle.wm_core.specs.DeskValue.{DeskValue, Follows, Stands, StandsFrom, judge_of, kill_after, kill_in, may_come}
-use Rattle.wm_core.specs.Frame.{quad_of, quads, what_of}
+use Rattle.wm_core.specs.DeskValue.{DeskValue, Stands, StandsFrom, judge_of, may_come}
+use Rattle.wm_history.specs.Follows.{Follows, kill_after, kill_in}
+use Rattle.wm_history.specs.Frame.{quad_of, quads, what_of}
 use Rattle.wm_changes.specs.Changes.{changes}
 use Rattle.wm_kept.specs.Log.{Log, kept_of}
-use Rattle.wm_core.specs.Events.{IsToldOn, events, later_events, told_by}
-use Rattle.wm_core.proofs.EventLemmas.{later_alone, nothing_by, told_nothing}
-use Rattle.wm_core.specs.Effect.{Effect, Judge, changing, closed, mode_after, passing, rearranged, refused, telling}
-use Rattle.wm_core.specs.History.{Entry, Start, answer, done_by, effect_after, entries, first, judged, kill_of, mode, opening_of, tree}
+use Rattle.wm_history.specs.Events.{IsToldOn, events, later_events, told_by}
+use Rattle.wm_history.proofs.EventLemmas.{later_alone, nothing_by, told_nothing}
+use Rattle.wm_history.specs.Effect.{Effect, Judge, changing, closed, mode_after, passing, rearranged, refused, telling}
+use Rattle.wm_history.specs.History.{Entry, Start, answer, done_by, effect_after, entries, first, judged, kill_of, mode, opening_of, tree}
 use Rattle.wm_core.proofs.ContentLemmas.{content_held, contents_held}
-use Rattle.wm_core.proofs.FollowLemmas.{closed_are, comes, opens}
-use Rattle.wm_core.proofs.LookLemmas.{wants_same}
-use Rattle.wm_core.proofs.OwnedLemmas.{owned_window}
-use Rattle.wm_core.proofs.OpenLemmas.{counted_is_found, found_is_counted}
+use Rattle.wm_history.proofs.FollowLemmas.{closed_are, comes, opens}
+use Rattle.wm_history.proofs.LookLemmas.{wants_same}
+use Rattle.wm_history.proofs.OwnedLemmas.{owned_window}
+use Rattle.wm_history.proofs.OpenLemmas.{counted_is_found, found_is_counted}
 use Rattle.wm_core.proofs.ScreenLemmas.{last_sound}
-use Rattle.wm_core.specs.Look.{wants}
-use Rattle.wm_core.specs.Windows.{owned_in_order}
-use Rattle.wm_core.specs.declared.state.Want.{Want}
-use Rattle.wm_core.specs.declared.step.Answer.{Answer}
+use Rattle.wm_history.specs.Look.{wants}
+use Rattle.wm_history.specs.Windows.{owned_in_order}
+use Rattle.wm_history.specs.declared.state.Want.{Want}
+use Rattle.wm_history.specs.declared.step.Answer.{Answer}
 use Rattle.wm_txn.proofs.ReadingLemmas.{configured_is}
 use Rattle.wm_txn.specs.Commits.{configured}
 use Rattle.wm_txn.specs.Accepted.{accepted}

@@ -11,16 +11,16 @@ use Rattle.wm_tree.specs.Outputs.{passed_by_output}
 use Rattle.wm_tree.specs.TreeValue.{TreeValue}
 use Rattle.wm_base.specs.declared.errors.NoMemory.{NoMemory}
 use Rattle.wm_core.specs.DeskValue.{DeskValue, Stands, StandsFrom, in_mode}
-use Rattle.wm_core.specs.Effect.{done_or_refused, leaving, refused}
+use Rattle.wm_history.specs.Effect.{done_or_refused, leaving, refused}
 use Rattle.wm_json.specs.declared.views.EventBody.{EventBody}
 use Rattle.wm_kept.specs.Log.{Log}
-use Rattle.wm_core.specs.Events.{IsToldOn, later_events}
-use Rattle.wm_core.specs.History.{Entry, opening_of}
-use Rattle.wm_core.proofs.EventLemmas.{nothing_later, told_nothing}
+use Rattle.wm_history.specs.Events.{IsToldOn, later_events}
+use Rattle.wm_history.specs.History.{Entry, opening_of}
+use Rattle.wm_history.proofs.EventLemmas.{nothing_later, told_nothing}
 use Rattle.wm_core.specs.Steps.{Answers, Commits, GoesOn, IsAnswer, IsThere, Takes}
-use Rattle.wm_core.specs.Outputs.{add_answer, added, remove_answer, removed, unless_full}
-use Rattle.wm_core.specs.declared.step.Answer.{Answer}
-use Rattle.wm_core.specs.declared.step.Answer.TheVariants as answers
+use Rattle.wm_history.specs.Outputs.{add_answer, added, remove_answer, removed, unless_full}
+use Rattle.wm_history.specs.declared.step.Answer.{Answer}
+use Rattle.wm_history.specs.declared.step.Answer.TheVariants as answers
 use Rattle.wm_layouts.specs.Plan.{is_fit_rect}
 use Rattle.std.specs.Prelude.{IsErrAnd, if◌then◌else◌}
 

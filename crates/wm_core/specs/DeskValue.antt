@@ -1,24 +1,21 @@
 -- The value of a desk, and the histories that it stands for.
-use Rattle.std.specs.Prelude.{◌≡◌, ◌≤◌, ℕ, ◌+◌, true, false, ◌||◌, if◌then◌else◌, Bool, List, [], ◌∷◌, length, Option, None, Some, refl}
+use Rattle.std.specs.Prelude.{◌≡◌, ℕ, true, false, ◌||◌, Bool, List, [], ◌∷◌, length, Option, refl}
 use Rattle.std.specs.Coded.{Coded, code_by, coded×, coded_ℕ, coded_bool, coded_list}
-use Rattle.wm_forest.specs.Counts.{count}
 use Rattle.wm_tree.specs.Sound.{IsSound}
-use Rattle.wm_base.specs.declared.ids.Buffer.{Buffer}
 use Rattle.wm_base.specs.declared.ids.ConId.{ConId}
 use Rattle.wm_tree.specs.TreeValue.{TreeValue, tree_code}
 use Rattle.wm_layouts.specs.contracts.plan.Plan as plan
 use Rattle.wm_layouts.specs.declared.plan.Plan.{Plan}
-use Rattle.wm_txn.specs.History.{is_fresh, is_open, was_open}
+use Rattle.wm_txn.specs.History.{is_open, was_open}
 use Rattle.wm_txn.specs.Machine.{TxnValue, judge_ack, txn_code}
 use Rattle.wm_txn.specs.Stands as transactions
 use Rattle.wm_txn.specs.Windows.{find}
-use Rattle.wm_opens.specs.Opens.{OpensNoOther, is_window_of, may_open, owned_at, windows_at}
-use Rattle.wm_core.specs.ByWindow.{put_at, value_at}
-use Rattle.wm_core.specs.Windows.{owner_of, window_count}
+use Rattle.wm_opens.specs.Opens.{is_window_of, may_open}
+use Rattle.wm_history.specs.Follows.{kill_in}
 use Rattle.wm_kept.specs.Log.{Log, kept_of, log_code}
-use Rattle.wm_core.specs.Effect.{Judge, mode_after}
-use Rattle.wm_core.specs.Events.{events}
-use Rattle.wm_core.specs.History.{Entry, Start, entries, first, kill_of, mode, opening_of, stopped, tree}
+use Rattle.wm_history.specs.Effect.{Judge, mode_after}
+use Rattle.wm_history.specs.Events.{events}
+use Rattle.wm_history.specs.History.{Entry, Start, entries, first, kill_of, mode, opening_of, stopped, tree}
 
 pub record DeskValue : Type 0 where
   -- the opening plan
@@ -37,17 +34,6 @@ pub record DeskValue : Type 0 where
   pub events : Log
   -- by the id of a window, the number of the last step that asked it to close, where it is not forgotten
   pub kills : List (ℕ × ℕ)
-
-abbrev pub kill_in : List (ℕ × ℕ) → ConId → Option ℕ
-kill_in kills v = value_at kills v
-
--- what is kept of v after the step of this number asked these windows to close
-abbrev pub kill_after : List ConId → ℕ → ConId → Option ℕ → Option ℕ
-kill_after closes number v before = put_at closes number v before
-
--- the map has the caller of each window of the tree, and no other window
-abbrev pub AreOwners : List (ℕ × ℕ) → TreeValue → Type 0
-AreOwners owners t = (v : ConId) → value_at owners v ≡ owner_of t v
 
 -- the desk with this mode set, if any, and these events
 abbrev pub in_mode : Option (List ℕ) → Log → DeskValue → DeskValue
@@ -91,20 +77,6 @@ pub record StandsFrom (start : Start) (d : DeskValue) (history : List Entry) : T
 -- the desk stands for the history from the opening of its plan
 abbrev pub Stands : DeskValue → List Entry → Type 0
 Stands d history = StandsFrom (opening_of d.plan) d history
-
-abbrev pub one_if_some : Option (ConId × Buffer) → ℕ
-one_if_some None = 0
-one_if_some (Some window) = 1
-
--- The new tree has no window that the old one had not but the fresh one, which might open before and no longer: of each id it
--- has no more windows, nor more of any one caller, and of all other ids together no more, but for the fresh one. No other id
--- may open.
-pub record Follows (old new : TreeValue) (fresh : Option (ConId × Buffer)) : Type 0 where
-  pub opens : OpensNoOther old new
-  pub fresh_id : (v : ConId) → is_fresh v fresh ≡ true → (may_open old v ≡ true) × (may_open new v ≡ false)
-  pub fewer : (v : ConId) → is_fresh v fresh ≡ false → windows_at v new ≤ windows_at v old
-  pub owned : (who : ℕ) (v : ConId) → is_fresh v fresh ≡ false → count (owned_at who v) new.nodes ≤ count (owned_at who v) old.nodes
-  pub others : (v : ConId) → window_count new + windows_at v old ≤ window_count old + windows_at v new + (if is_fresh v fresh then 0 else one_if_some fresh)
 
 -- ---- how the logic stores it
 

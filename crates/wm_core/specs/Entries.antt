@@ -2,11 +2,11 @@
 use Rattle.std.specs.Prelude.{List, map, Option, None, Some}
 use Rattle.std.proofs.lemmas.Option.{none-some}
 use Rattle.wm_criteria.specs.declared.prepared.Prepared.{Prepared}
-use Rattle.wm_core.specs.Act.{act_of}
-use Rattle.wm_core.specs.History as desk
-use Rattle.wm_core.specs.declared.step.Choice.{Choice}
-use Rattle.wm_core.specs.declared.step.Step.{Step}
-use Rattle.wm_core.specs.declared.step.Step.TheVariants as step
+use Rattle.wm_history.specs.Act.{act_of}
+use Rattle.wm_history.specs.History as desk
+use Rattle.wm_history.specs.declared.step.Choice.{Choice}
+use Rattle.wm_history.specs.declared.step.Step.{Step}
+use Rattle.wm_history.specs.declared.step.Step.TheVariants as step
 use Rattle.wm_turn.specs.declared.view.Entry.{Entry}
 
 -- a prepared text without its built patterns

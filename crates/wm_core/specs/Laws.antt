@@ -11,8 +11,8 @@ use Rattle.wm_txn.specs.History.{is_open, under_up_to}
 use Rattle.wm_txn.specs.Schedule.{Transaction, configure, ended, past}
 use Rattle.wm_txn.specs.Shown.{Showing}
 use Rattle.wm_core.specs.DeskValue.{DeskValue, Stands, StandsFrom}
-use Rattle.wm_core.specs.Frame.{frame}
-use Rattle.wm_core.specs.History.{Entry, Start, entries, first, accepted_of, opening_of, tree}
+use Rattle.wm_history.specs.Frame.{frame}
+use Rattle.wm_history.specs.History.{Entry, Start, entries, first, accepted_of, opening_of, tree}
 
 -- the arrangement that is painted
 abbrev pub painted : Start → List Entry → List Placed

@@ -9,8 +9,8 @@ use Rattle.wm_tree.specs.Sound.{IsSound}
 use Rattle.wm_forest.specs.SoundRow.{times}
 use Rattle.wm_tree.specs.TreeValue.{TreeValue}
 use Rattle.wm_forest.specs.declared.part.Part.{Part}
-use Rattle.wm_core.specs.Look.{is_before, marks_in_order}
-use Rattle.wm_core.specs.Windows.{is_window, owned_in_order}
+use Rattle.wm_history.specs.Look.{is_before, marks_in_order}
+use Rattle.wm_history.specs.Windows.{is_window, owned_in_order}
 
 -- how often a node has the mark m
 abbrev pub mark_times : List ℕ → Part → ℕ

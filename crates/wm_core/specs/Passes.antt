@@ -2,13 +2,13 @@
 use Rattle.std.specs.Prelude.{◌≡◌, ◌<◌, ℕ, ◌^◌, Bool, List, ◌∷◌, ◌++◌, length, map, Option, IsSomeAnd, Result, Ok, Err}
 use Rattle.wm_base.specs.declared.errors.NoMemory.{NoMemory}
 use Rattle.wm_layouts.specs.declared.plan.Plan.{Plan}
-use Rattle.wm_core.specs.Act.{Act}
-use Rattle.wm_core.specs.History.{History, Start, answer, opening_of}
+use Rattle.wm_history.specs.Act.{Act}
+use Rattle.wm_history.specs.History.{History, Start, answer, opening_of}
 use Rattle.wm_core.specs.declared.asked.Asked.{Asked}
 use Rattle.wm_core.specs.declared.refusals.ActRefusal.{ActRefusal}
 use Rattle.wm_core.specs.declared.refusals.ActRefusal.TheVariants as refusal
 use Rattle.wm_core.specs.declared.refusals.Exhausted.{Exhausted}
-use Rattle.wm_core.specs.declared.step.Answer.{Answer}
+use Rattle.wm_history.specs.declared.step.Answer.{Answer}
 use Rattle.wm_turn.specs.History as turn
 use Rattle.wm_turn.specs.declared.view.Entry as transactions
 use Rattle.wm_turn.specs.declared.view.Mark.{Mark}

@@ -5,12 +5,13 @@ use Rattle.wm_base.specs.declared.ids.Buffer.{Buffer}
 use Rattle.wm_base.specs.declared.ids.ConId.{ConId}
 use Rattle.wm_tree.specs.Sound.{IsSound}
 use Rattle.wm_tree.specs.TreeValue.{TreeValue}
-use Rattle.wm_core.specs.DeskValue.{DeskValue, Follows, StandsFrom, in_mode, judge_of}
+use Rattle.wm_core.specs.DeskValue.{DeskValue, StandsFrom, in_mode, judge_of}
+use Rattle.wm_history.specs.Follows.{Follows}
 use Rattle.wm_json.specs.declared.views.EventBody.{EventBody}
 use Rattle.wm_kept.specs.Log.{Log}
-use Rattle.wm_core.specs.Events.{IsToldOn}
-use Rattle.wm_core.specs.History.{Entry, Start, answer, done_by}
-use Rattle.wm_core.specs.declared.step.Answer.{Answer}
+use Rattle.wm_history.specs.Events.{IsToldOn}
+use Rattle.wm_history.specs.History.{Entry, Start, answer, done_by}
+use Rattle.wm_history.specs.declared.step.Answer.{Answer}
 
 -- what is asked of a tree that a step leaves: it is counted, the tree is sound, and it has no window that the old one had not
 -- but the one that was opened

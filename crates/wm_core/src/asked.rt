@@ -1,5 +1,5 @@
 //! What a caller asks of a desk beside its steps.
-use crate::look::Query;
+use wm_history::Query;
 
 /// What a caller asks of a desk. It takes no memory.
 #[derive(Clone, Copy, Debug, PartialEq, Eq)]

@@ -1,25 +1,11 @@
 //! Steps that clients and timers take for the transactions.
-ghost use Rattle.wm_core.specs.Act.{Ack, Deadline, Give, client_act};
+ghost use Rattle.wm_history.specs.Act.{Ack, Deadline, Give, client_act};
 ghost use Rattle.std.specs.Prelude.{◌≡◌, ◌<◌, ◌^◌};
-ghost use Rattle.wm_core.specs.Effect.{ack_said};
 ghost use Rattle.wm_core.specs.Steps.{Answers};
 
 use crate::desk::Desk;
-use crate::mapping::has_no_pixels;
-use crate::step::Answer;
 use wm_base::{Buffer, ConId};
-use wm_txn::AckRefusal;
-
-/// One step of a client, or of a timer.
-#[derive(Clone, Copy, Debug, PartialEq, Eq)]
-pub enum ClientStep {
-    /// Acknowledges the configure of this serial for the caller's window.
-    Ack { con: ConId, serial: u64 },
-    /// Gives a buffer for the caller's window.
-    Buffer { con: ConId, buffer: Buffer },
-    /// The time of the transaction of this number is over.
-    Deadline { number: u64 },
-}
+use wm_history::{Answer, ClientStep, ack_said, has_no_pixels};
 
 impl Desk {
     /// Takes one step of a client of the caller with this number, or of a timer. It takes no memory, nor does a commit
@@ -72,16 +58,5 @@ impl Desk {
         self.txn.deadline(self.steps, number);
         self.steps += 1;
         Answer::Done
-    }
-}
-
-/// What an acknowledgement is answered.
-fn ack_said(acked: Result<(), AckRefusal>) -> Answer
-    ensures { result ≡ ack_said acked }
-{
-    match acked {
-        Ok(()) => Answer::Done,
-        Err(AckRefusal::NoView) => Answer::NoView,
-        Err(AckRefusal::BadSerial { asked, last }) => Answer::BadSerial { asked, last },
     }
 }

@@ -3,32 +3,30 @@ ghost use Rattle.std.specs.Prelude.{◌≡◌, ℕ, ◌+◌, ◌≤◌, ◌<◌,
 ghost use Rattle.std.specs.Option.{option_map};
 ghost use Rattle.wm_arrange.specs.Arranged.{arranged};
 ghost use Rattle.wm_base.specs.declared.ids.ConId.{ConId};
-ghost use Rattle.wm_core.specs.ByWindow.{left_of, new_or};
+ghost use Rattle.wm_history.specs.ByWindow.{left_of, new_or};
 ghost use Rattle.wm_changes.specs.Changes.{changes};
 ghost use Rattle.wm_json.specs.declared.views.EventBody.{EventBody};
-ghost use Rattle.wm_core.specs.DeskValue.{Follows, StandsFrom, kill_after, kill_in};
-ghost use Rattle.wm_core.specs.Effect.{changing, closed, leaving, passing, refused};
-ghost use Rattle.wm_core.specs.Events.{IsToldOn, later_events};
-ghost use Rattle.wm_core.specs.History.{done_by, Entry, History, Start};
+ghost use Rattle.wm_core.specs.DeskValue.{StandsFrom};
+ghost use Rattle.wm_history.specs.Follows.{Follows, kill_after, kill_in};
+ghost use Rattle.wm_history.specs.Effect.{changing, closed, leaving, passing, refused};
+ghost use Rattle.wm_history.specs.Events.{IsToldOn, later_events};
+ghost use Rattle.wm_history.specs.History.{done_by, Entry, History, Start};
 ghost use Rattle.wm_core.specs.Steps.{Answers, Commits, MayCome, Takes};
-ghost use Rattle.wm_core.specs.Windows.{window_count};
-ghost use Rattle.wm_core.specs.declared.step.Answer.{Answer};
-ghost use Rattle.wm_core.specs.declared.step.Answer.TheVariants.{Done};
+ghost use Rattle.wm_history.specs.Windows.{window_count};
+ghost use Rattle.wm_history.specs.declared.step.Answer.{Answer};
+ghost use Rattle.wm_history.specs.declared.step.Answer.TheVariants.{Done};
 ghost use Rattle.wm_tree.specs.Sound as trees;
 ghost use Rattle.wm_tree.specs.Words.{settled};
 
-use crate::by_window::{forget, renew};
-use crate::counting::{closed, window_count};
 use crate::desk::Desk;
-use crate::kills::noted;
-use crate::modes::set_mode;
-use crate::owners::{disown, forget_owners, own};
-use crate::step::Answer;
 use std::collections::BTreeMap;
 use std::mem;
 use wm_arrange::{Arrangement, arrange};
 use wm_base::{Buffer, ConId, NoMemory, Text};
 use wm_changes::changes;
+use wm_history::{
+    Answer, closed, disown, forget, forget_owners, noted, own, renew, set_mode, window_count,
+};
 use wm_json::EventBody;
 use wm_kept::Kept;
 use wm_tree::Tree;

@@ -1,6 +1,6 @@
 //! Copies of a desk and of its plan.
 ghost use Rattle.std.specs.Prelude.{◌≡◌, IfOk};
-ghost use Rattle.wm_core.specs.DeskValue.{AreOwners};
+ghost use Rattle.wm_history.specs.Follows.{AreOwners};
 
 use crate::desk::Desk;
 use std::collections::BTreeMap;

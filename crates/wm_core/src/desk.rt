@@ -1,18 +1,17 @@
 //! The desk: the tree, and the transactions in which its arrangements are committed.
 ghost use Rattle.std.specs.Prelude.{◌≡◌, ◌<◌, ◌^◌, IfOk};
-ghost use Rattle.wm_core.specs.Act.{act_of};
+ghost use Rattle.wm_history.specs.Act.{act_of};
 ghost use Rattle.wm_core.specs.DeskValue.{StandsFrom};
-ghost use Rattle.wm_core.specs.Frame.{frame};
-ghost use Rattle.wm_core.specs.History.{History, Start};
-ghost use Rattle.wm_core.specs.Sizes.{IsFitStep};
+ghost use Rattle.wm_history.specs.Frame.{frame};
+ghost use Rattle.wm_history.specs.History.{History, Start};
+ghost use Rattle.wm_history.specs.Sizes.{IsFitStep};
 ghost use Rattle.wm_core.specs.Steps.{Takes};
 
-use crate::frame::painted;
-use crate::step::{Answer, Step};
 use std::alloc::Global;
 use std::collections::BTreeMap;
 use std::marker::Model;
 use wm_base::{List, NoMemory, Text};
+use wm_history::{Answer, Step, painted};
 use wm_ids::IdMap;
 use wm_kept::Kept;
 use wm_layouts::Plan;
@@ -41,8 +40,9 @@ pub struct Desk {
 impl Model for Desk {
     ghost use Rattle.std.specs.Prelude.{◌≡◌, ◌≤◌, ◌*◌};
     ghost use Rattle.wm_tree.specs.Sound as trees;
-    ghost use Rattle.wm_core.specs.DeskValue.{AreOwners, DeskValue, desk_code};
-    ghost use Rattle.wm_core.specs.Windows.{window_count};
+    ghost use Rattle.wm_core.specs.DeskValue.{DeskValue, desk_code};
+    ghost use Rattle.wm_history.specs.Follows.{AreOwners};
+    ghost use Rattle.wm_history.specs.Windows.{window_count};
     ghost use Rattle.wm_txn.specs.Machine.{last_prefix};
 
     ghost Value = { DeskValue };

@@ -1,24 +1,22 @@
 //! The door of a desk that several callers share.
 use crate::asked::Asked;
-use crate::client::ClientStep;
-use crate::look::{Query, View};
 use crate::refusals::{ActRefusal, Exhausted};
-use crate::step::{Answer, Step};
 use std::sync::Wait;
 use wm_base::NoMemory;
+use wm_history::{Answer, ClientStep, Query, Step, View};
 use wm_paint::Frame;
 
 /// A door to a desk. Each caller goes through it with a pass of its own, which knows what its caller has seen of the one
 /// history, and has a mark for each of its calls.
 pub trait Door {
     ghost use Rattle.std.specs.Prelude.{◌≡◌, false};
-    ghost use Rattle.wm_core.specs.Act.{act_of, client_act};
-    ghost use Rattle.wm_core.specs.Frame.{frame};
-    ghost use Rattle.wm_core.specs.History.{stopped};
-    ghost use Rattle.wm_core.specs.Look.{look};
+    ghost use Rattle.wm_history.specs.Act.{act_of, client_act};
+    ghost use Rattle.wm_history.specs.Frame.{frame};
+    ghost use Rattle.wm_history.specs.History.{stopped};
+    ghost use Rattle.wm_history.specs.Look.{look};
     ghost use Rattle.wm_core.specs.Passes as passes;
     ghost use Rattle.wm_core.specs.Passes.{Acts, ActsAlways, IsLegal, Looked, Looks};
-    ghost use Rattle.wm_core.specs.Sizes.{IsFitStep};
+    ghost use Rattle.wm_history.specs.Sizes.{IsFitStep};
     ghost use Rattle.wm_core.specs.declared.asked.Asked.TheVariants as asked;
 
     /// What a caller goes through the door with.

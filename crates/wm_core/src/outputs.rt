@@ -1,16 +1,13 @@
 //! Outputs that come and go, and the edges that bars reserve of them.
-ghost use Rattle.wm_core.specs.Act.{OutputAdd, OutputRemove, Reserve};
-ghost use Rattle.wm_spaces.specs.Names.{output_named};
-ghost use Rattle.std.specs.Prelude.{◌≡◌, ◌<◌, ◌^◌, IfOk};
+ghost use Rattle.wm_history.specs.Act.{OutputAdd, OutputRemove, Reserve};
+ghost use Rattle.std.specs.Prelude.{◌<◌, ◌^◌};
 ghost use Rattle.wm_core.specs.Steps.{Takes};
 
 use crate::desk::Desk;
-use crate::step::Answer;
-use wm_base::{ConId, Edges, NoMemory, OutputPlan, Refusal, Text};
-use wm_language::OutArg;
+use wm_base::{Edges, NoMemory, OutputPlan, Refusal, Text};
+use wm_history::{Answer, output_named};
 use wm_layouts::is_fit_rect;
-use wm_spaces::{output_added, output_at, output_removed};
-use wm_tree::Tree;
+use wm_spaces::{output_added, output_removed};
 
 impl Desk {
     /// Adds an output, where its name is free, its rectangle within the limits, and there is room for it.
@@ -77,12 +74,4 @@ impl Desk {
         tree.set_reserved(output, edges);
         self.finish(tree)
     }
-}
-
-/// The output of this name.
-fn output_named(tree: &Tree, name: &Text) -> Result<Option<ConId>, NoMemory>
-    ensures { IfOk result (λ output. output ≡ output_named name.now tree.now) }
-{
-    let named = OutArg::Named(name.clone()?);
-    Ok(output_at(tree, tree.current(), &named))
 }

@@ -1,7 +1,7 @@
 //! What a desk stands for where several callers share it.
 use crate::asked::Asked;
 use crate::desk::Desk;
-use crate::step::Step;
+use wm_history::Step;
 use wm_layouts::Plan;
 use wm_turn::Stands;
 

@@ -2,7 +2,7 @@
 ghost use Rattle.std.specs.Prelude.{◌≡◌, [], codes, IfOk};
 ghost use Rattle.wm_arrange.specs.Arranged.{arranged};
 ghost use Rattle.wm_core.specs.DeskValue.{Stands};
-ghost use Rattle.wm_core.specs.History.{first, opening_of};
+ghost use Rattle.wm_history.specs.History.{first, opening_of};
 ghost use Rattle.wm_kept.specs.Log.{kept_of};
 ghost use Rattle.wm_layouts.specs.Plan.{IsSound};
 ghost use Rattle.wm_tree.specs.Sound as trees;
@@ -10,13 +10,12 @@ ghost use Rattle.wm_txn.specs.Machine.{last_prefix};
 ghost use Rattle.wm_txn.specs.Stands as transactions;
 ghost use Rattle.wm_txn.specs.Windows.{HasNoContent};
 
-use crate::counting::window_count;
 use crate::desk::Desk;
-use crate::modes::default_mode;
 use std::alloc::Global;
 use std::collections::BTreeMap;
 use wm_arrange::arrange;
 use wm_base::{NoMemory, Text};
+use wm_history::{default_mode, window_count};
 use wm_ids::IdMap;
 use wm_kept::Kept;
 use wm_layouts::Plan;

@@ -1,19 +1,15 @@
 //! The windows of a caller: what they say of themselves, and how they go.
 ghost use Rattle.std.specs.Bool.{OnTrue};
-ghost use Rattle.wm_core.specs.Act.{Close, Gone, Retitle, Urgent};
-ghost use Rattle.wm_core.specs.Windows.{AreContainers, is_window, owned, with_urgent, without_urgent, without_windows};
+ghost use Rattle.wm_history.specs.Act.{Close, Gone, Retitle, Urgent};
+ghost use Rattle.wm_history.specs.Windows.{is_window, owned};
 ghost use Rattle.wm_forest.specs.Look.{con_kind, has, kind_of};
-ghost use Rattle.wm_forest.specs.Recency.{lists};
-ghost use Rattle.wm_tree.specs.Sound as trees;
-ghost use Rattle.std.specs.Prelude.{◌≡◌, ◌≢◌, ◌<◌, ◌^◌, true, None, IfOk, OnOk, filter, if◌then◌else◌};
+ghost use Rattle.std.specs.Prelude.{◌≡◌, ◌≢◌, ◌<◌, ◌^◌, true, None, IfOk, filter};
 ghost use Rattle.wm_core.specs.Steps.{Takes};
 
 use crate::desk::Desk;
-use crate::owners::is_caller;
-use crate::step::Answer;
 use std::alloc::AllocError;
 use wm_base::{ConId, NoMemory, Text};
-use wm_tree::Tree;
+use wm_history::{Answer, detach_all, is_caller, set_urgent};
 
 impl Desk {
     /// Closes the caller's window.
@@ -88,48 +84,4 @@ impl Desk {
         }
         Ok(windows)
     }
-}
-
-/// Takes the windows out of the tree, those that are there.
-fn detach_all(tree: &mut Tree, windows: &[ConId])
-    requires containers { AreContainers windows.now tree.old }
-    requires sound { trees.IsSound tree.old }
-    ensures tree { tree.new ≡ without_windows windows.now tree.old }
-    ensures sound { trees.IsSound tree.new }
-{
-    let mut rest = windows;
-    while let [window, after @ ..] = rest {
-        let _ = tree.detach(*window);
-        rest = after;
-    }
-}
-
-/// Makes a window that is there urgent, or no longer so.
-fn set_urgent(tree: &mut Tree, window: ConId, on: bool) -> Result<(), NoMemory>
-    requires there { has window tree.old.nodes ≡ true }
-    ensures tree { OnOk result (tree.new ≡ (if on then with_urgent window tree.old else without_urgent window tree.old)) }
-    ensures sound { trees.IsSound tree.old → trees.IsSound tree.new }
-{
-    if !on {
-        tree.remove_urgent(window);
-        return Ok(());
-    }
-    if lists(window, tree.urgent_ids()) {
-        return Ok(());
-    }
-    tree.add_urgent(window).map_err(|_| NoMemory)
-}
-
-/// Whether the window is among these.
-fn lists(window: ConId, ids: &[ConId]) -> bool
-    ensures { result ≡ lists window ids.now }
-{
-    let mut rest = ids;
-    while let [id, after @ ..] = rest {
-        if *id == window {
-            return true;
-        }
-        rest = after;
-    }
-    false
 }

@@ -15,7 +15,7 @@ use Rattle.wm_actors.specs.Works.{Spot}
 use Rattle.wm_actors.specs.declared.ending.ActorEnd.{ActorEnd}
 use Rattle.wm_actors.specs.declared.ending.ActorEnd.TheVariants as end
 use Rattle.wm_actors.specs.declared.serve.Failure.{Failure}
-use Rattle.wm_core.specs.History.{History, Start, effect_after, opening_of, stopped}
+use Rattle.wm_history.specs.History.{History, Start, effect_after, opening_of, stopped}
 use Rattle.wm_core.specs.Passes.{Pass}
 use Rattle.wm_criteria.specs.Building.{Log}
 use Rattle.wm_crew.specs.Crew.{Each, posts}

@@ -1,7 +1,7 @@
 -- Steps lead from histories to the one that their numbers make.
 use Rattle.std.proofs.Common.{◌≡◌, refl, subst, sym, ℕ, zero, suc, ◌-◌, ◌<◌, List, ◌∷◌, arith}
 use Rattle.wm_core.specs.DeskValue.{DeskValue, StandsFrom}
-use Rattle.wm_core.specs.History.{History, Start}
+use Rattle.wm_history.specs.History.{History, Start}
 use Rattle.wm_generate.specs.Numbers.{drawn, next, numbers}
 use Rattle.wm_generate.specs.Steps.{entry_of, history_of}
 

@@ -1,19 +1,14 @@
 -- The steps that drawn numbers give on a desk, and the history that they make.
-use Rattle.std.specs.Prelude.{ℕ, ◌+◌, ◌/◌, ◌%◌, ◌==◌, nat_lt, if◌then◌else◌, List, [], ◌∷◌, length, Option, None, Some, codes}
+use Rattle.std.specs.Prelude.{ℕ, ◌+◌, ◌/◌, ◌%◌, ◌==◌, nat_lt, if◌then◌else◌, List, [], ◌∷◌, Option, None, Some, codes}
 use Rattle.wm_base.specs.declared.geometry.Size.{Size}
 use Rattle.wm_base.specs.declared.ids.Buffer.{Buffer}
 use Rattle.wm_base.specs.declared.ids.ConId.{ConId}
 use Rattle.wm_base.specs.declared.properties.Props.{Props}
-use Rattle.wm_core.specs.Act.{Act, CommandText}
-use Rattle.wm_core.specs.Act as acts
-use Rattle.wm_core.specs.History.{Entry, History, Start}
-use Rattle.wm_core.specs.Look.{look, state}
-use Rattle.wm_core.specs.declared.look.Query.TheVariants as query
-use Rattle.wm_core.specs.declared.look.View.{View}
-use Rattle.wm_core.specs.declared.look.View.TheVariants as view
-use Rattle.wm_core.specs.declared.state.Want.{Want}
-use Rattle.wm_core.specs.declared.state.Want.TheVariants as want
-use Rattle.wm_forest.specs.Look.{same}
+use Rattle.wm_history.specs.Act.{Act, CommandText}
+use Rattle.wm_history.specs.Act as acts
+use Rattle.wm_history.specs.History.{Entry, History, Start}
+use Rattle.wm_history.specs.Look as look
+use Rattle.wm_history.specs.Look.{state}
 use Rattle.wm_forest.specs.RootId.{id}
 use Rattle.wm_txn.specs.declared.answers.Waiting.{Waiting}
 use Rattle.wm_generate.specs.Texts.{ready, text_by}
@@ -24,20 +19,14 @@ use Rattle.wm_generate.specs.Texts.{ready, text_by}
 abbrev pub sized : ℕ → ℕ → Size
 sized w h = record { w = w; h = h }
 
--- the size that the first of these asks of v; no pixels where none does
-abbrev pub size_in : ConId → List Want → Size
-size_in v [] = sized 0 0
-size_in v (want.Configure w serial size ∷ wants) = if same w v then size else size_in v wants
-size_in v (want.Kill w number ∷ wants) = size_in v wants
+-- the size of a configure; no pixels where there is none
+abbrev pub size_of : Option (ℕ × Size) → Size
+size_of None = sized 0 0
+size_of (Some configure) = configure.1
 
--- the size that is asked of v, where this is what is asked of the caller's windows
-abbrev pub size_seen : ConId → View → Size
-size_seen v (view.Wants wants) = size_in v wants
-size_seen v other = sized 0 0
-
--- the size that is asked of v by the transaction that waits: it is the only one above those that have ended
+-- the size that is asked of v
 abbrev pub asked : Start → History → ConId → Size
-asked start history v = size_seen v (look start history 0 (query.Wants (state start history).done (length history)))
+asked start history v = size_of (look.asked start history v)
 
 -- ---- the steps
 

@@ -1,8 +1,8 @@
 //! Steps are taken on a desk, by the numbers of the sequence.
 ghost use Rattle.std.specs.Prelude.{◌≡◌, ◌+◌, ◌∷◌, ◌<◌, ◌≤◌, ◌^◌, IfOk, OnOk};
 ghost use Rattle.wm_core.specs.DeskValue.{StandsFrom};
-ghost use Rattle.wm_core.specs.History.{History, Start};
-ghost use Rattle.wm_core.specs.Look.{state};
+ghost use Rattle.wm_history.specs.History.{History, Start};
+ghost use Rattle.wm_history.specs.Look.{state};
 ghost use Rattle.wm_generate.specs.Numbers.{drawn, numbers};
 ghost use Rattle.wm_generate.specs.Steps.{entry_of, history_of};
 

@@ -7,3 +7,5 @@ mod steps;
 mod texts;
 
 pub use generating::generate;
+pub use numbers::{drawn, next};
+pub use steps::step_of;

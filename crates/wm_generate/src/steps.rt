@@ -1,16 +1,16 @@
 //! The step that a drawn number gives on a desk.
 ghost use Rattle.std.specs.Prelude.{◌≡◌, ◌≤◌, length, IfOk};
-ghost use Rattle.wm_core.specs.Act.{act_of};
+ghost use Rattle.wm_history.specs.Act.{act_of};
 ghost use Rattle.wm_core.specs.DeskValue.{StandsFrom};
-ghost use Rattle.wm_core.specs.History.{History, Start};
-ghost use Rattle.wm_core.specs.Look.{state};
-ghost use Rattle.wm_core.specs.Sizes.{IsFitStep};
-ghost use Rattle.wm_generate.specs.Steps.{answer_of, asked, mapped, number_or_one, size_in, size_seen, step_of, titled};
+ghost use Rattle.wm_history.specs.History.{History, Start};
+ghost use Rattle.wm_history.specs.Look.{state};
+ghost use Rattle.wm_history.specs.Sizes.{IsFitStep};
+ghost use Rattle.wm_generate.specs.Steps.{answer_of, asked, mapped, number_or_one, step_of, titled};
 
 use crate::texts::prepared;
 use std::alloc::Global;
 use wm_base::{Buffer, ConId, Ink, NoMemory, Props, Size, Str, Text, TextRefusal};
-use wm_core::{ClientStep, Desk, Query, Step, View, Want};
+use wm_core::{ClientStep, Desk, Step};
 use wm_txn::Waiting;
 
 /// The ink of the buffers that answer.
@@ -57,7 +57,7 @@ fn answer(alloc: Global, desk: &Desk) -> Result<Step, NoMemory>
     }
     let buffer = Buffer {
         ink: ANSWERING,
-        size: asked(desk, con)?,
+        size: asked(desk, con),
     };
     Ok(Step::Client(ClientStep::Buffer { con, buffer }))
 }
@@ -72,51 +72,14 @@ fn number_or_one(waiting: Option<Waiting>) -> u64
     }
 }
 
-/// The size that the transaction that waits asks of a window of caller 0.
-fn asked(desk: &Desk, con: ConId) -> Result<Size, NoMemory>
-    ensures { (start : Start) (history : History) → StandsFrom start desk.now history →
-        IfOk result (λ size. size ≡ asked start history con) }
+/// The size that is asked of a window, in pixels; none where none is asked.
+fn asked(desk: &Desk, con: ConId) -> Size
+    ensures { (start : Start) (history : History) → StandsFrom start desk.now history → result ≡ asked start history con }
 {
-    let state = desk.state();
-    let wants = Query::Wants {
-        serial: state.done,
-        kill: state.steps,
-    };
-    let view = desk.look(0, &wants)?;
-    let size = size_seen(&view, con);
-    drop(view);
-    Ok(size)
-}
-
-/// The size that is asked of a window, where the view is of what is asked.
-fn size_seen(view: &View, con: ConId) -> Size
-    ensures { result ≡ size_seen con view.now }
-{
-    match view {
-        View::Wants(wants) => size_in(wants.items(), con),
-        _ => Size { w: 0, h: 0 },
+    match desk.asked(con) {
+        Some((_, size)) => size,
+        None => Size { w: 0, h: 0 },
     }
-}
-
-/// The size that the first of these asks of a window.
-fn size_in(wants: &[Want], con: ConId) -> Size
-    ensures { result ≡ size_in con wants.now }
-{
-    let mut rest = wants;
-    while let [want, after @ ..] = rest {
-        if let Want::Configure {
-            con: other,
-            serial: _,
-            size,
-        } = want
-        {
-            if other.0 == con.0 {
-                return *size;
-            }
-        }
-        rest = after;
-    }
-    Size { w: 0, h: 0 }
 }
 
 /// The step that opens a window, whose ink is that of the number.

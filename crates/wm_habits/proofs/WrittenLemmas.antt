@@ -16,8 +16,8 @@ use Rattle.wm_habits.specs.Asking.{asked_of}
 use Rattle.wm_habits.specs.Saying.{ack_text, buffer_text, close_text}
 use Rattle.wm_habits.specs.Written.{blue, configure_text, kill_text}
 use Rattle.wm_habits.specs.declared.asking.Asked.TheVariants as asked
-use Rattle.wm_core.specs.declared.client.ClientStep.TheVariants.{Ack, Buffer}
-use Rattle.wm_core.specs.declared.step.Step.TheVariants.{Client, Close}
+use Rattle.wm_history.specs.declared.client.ClientStep.TheVariants.{Ack, Buffer}
+use Rattle.wm_history.specs.declared.step.Step.TheVariants.{Client, Close}
 use Rattle.wm_fields.specs.Fields.{decimal_value, number_at, past_spaces}
 use Rattle.wm_lines.specs.Lines.{client_step_of}
 

@@ -10,8 +10,8 @@ ghost use Rattle.wm_habits.specs.Speaking.{hears, Speaking};
 ghost use Rattle.wm_habits.specs.Written.{blue, configure_text, kill_text};
 ghost use Rattle.wm_habits.specs.declared.asking.Asked.TheVariants as asked;
 ghost use Rattle.wm_habits.specs.declared.habit.Habit.{Habit};
-ghost use Rattle.wm_core.specs.declared.client.ClientStep.TheVariants.{Ack, Buffer};
-ghost use Rattle.wm_core.specs.declared.step.Step.TheVariants.{Client, Close};
+ghost use Rattle.wm_history.specs.declared.client.ClientStep.TheVariants.{Ack, Buffer};
+ghost use Rattle.wm_history.specs.declared.step.Step.TheVariants.{Client, Close};
 ghost use Rattle.wm_lines.specs.Lines.{client_step_of};
 
 /// What a client says to a line, after whatever lines came, is what its habit says to the line that came as many lines

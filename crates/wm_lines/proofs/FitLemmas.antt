@@ -1,8 +1,8 @@
 -- The steps of lines are as a desk takes them.
 use Rattle.std.proofs.Common.{None, Some}
-use Rattle.wm_core.specs.Sizes.{IsFitStep}
-use Rattle.wm_core.specs.declared.step.Step.{Step}
-use Rattle.wm_core.specs.declared.step.Step.TheVariants.{Map}
+use Rattle.wm_history.specs.Sizes.{IsFitStep}
+use Rattle.wm_history.specs.declared.step.Step.{Step}
+use Rattle.wm_history.specs.declared.step.Step.TheVariants.{Map}
 use Rattle.wm_lines.specs.Lines.{IsFitLine}
 
 pub fit_step : (s : Step) → IsFitLine s → IsFitStep s

@@ -4,11 +4,11 @@ use Rattle.std.specs.Option.{option_map}
 use Rattle.wm_base.specs.declared.geometry.Rect.{Rect}
 use Rattle.wm_base.specs.declared.ids.ConId.{ConId}
 use Rattle.wm_base.specs.declared.plan.OutputPlan.{OutputPlan}
-use Rattle.wm_core.specs.Act.{Act, act_of}
-use Rattle.wm_core.specs.Sizes.{IsFitStep}
-use Rattle.wm_core.specs.declared.client.ClientStep.TheVariants.{Ack, Buffer, Deadline}
-use Rattle.wm_core.specs.declared.step.Step.{Step}
-use Rattle.wm_core.specs.declared.step.Step.TheVariants.{Map, Retitle, Urgent, Close, Gone, Client, Tick, OutputAdd, OutputRemove, Reserve}
+use Rattle.wm_history.specs.Act.{Act, act_of}
+use Rattle.wm_history.specs.Sizes.{IsFitStep}
+use Rattle.wm_history.specs.declared.client.ClientStep.TheVariants.{Ack, Buffer, Deadline}
+use Rattle.wm_history.specs.declared.step.Step.{Step}
+use Rattle.wm_history.specs.declared.step.Step.TheVariants.{Map, Retitle, Urgent, Close, Gone, Client, Tick, OutputAdd, OutputRemove, Reserve}
 use Rattle.wm_fields.specs.Fields.{behind, buffer_at, edges_at, gap_at, if_end, number_at, or_else, or_none, output_of, rect_at, serial_at, word_then}
 use Rattle.wm_fields.specs.Properties.{window_at}
 use Rattle.wm_fields.specs.Quoted.{name_at, quoted_at, quoted_within}

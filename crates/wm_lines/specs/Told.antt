@@ -3,11 +3,11 @@ use Rattle.std.specs.Prelude.{ℕ, List, ◌++◌, codes}
 use Rattle.std.specs.Fmt.{decimal}
 use Rattle.wm_base.specs.declared.geometry.Size.{Size}
 use Rattle.wm_base.specs.ErrorText.{word_of}
-use Rattle.wm_core.specs.declared.step.Answer.{Answer}
-use Rattle.wm_core.specs.declared.step.Answer.TheVariants as answers
-use Rattle.wm_core.specs.declared.state.State.{State}
-use Rattle.wm_core.specs.declared.state.Want.{Want}
-use Rattle.wm_core.specs.declared.state.Want.TheVariants as want
+use Rattle.wm_history.specs.declared.step.Answer.{Answer}
+use Rattle.wm_history.specs.declared.step.Answer.TheVariants as answers
+use Rattle.wm_history.specs.declared.state.State.{State}
+use Rattle.wm_history.specs.declared.state.Want.{Want}
+use Rattle.wm_history.specs.declared.state.Want.TheVariants as want
 use Rattle.wm_json.specs.Replies.{replies_text}
 use Rattle.wm_paint.specs.FrameText.{new_line}
 

@@ -1,6 +1,6 @@
 //! The lines that tell answers.
 ghost use Rattle.std.specs.Prelude.{◌≡◌, ◌++◌, OnOk};
-ghost use Rattle.wm_core.specs.declared.step.Answer.TheVariants as answers;
+ghost use Rattle.wm_history.specs.declared.step.Answer.TheVariants as answers;
 ghost use Rattle.wm_lines.specs.Told.{answer_text};
 
 use crate::texts::{push_line, push_text};

@@ -1,8 +1,8 @@
 //! The step that a client's line takes.
 ghost use Rattle.std.specs.Prelude.{◌≡◌, IfOk, IfSome};
 ghost use Rattle.std.specs.Option.{option_map};
-ghost use Rattle.wm_core.specs.Act.{act_of};
-ghost use Rattle.wm_core.specs.Sizes.{IsFitStep};
+ghost use Rattle.wm_history.specs.Act.{act_of};
+ghost use Rattle.wm_history.specs.Sizes.{IsFitStep};
 ghost use Rattle.wm_lines.specs.Lines.{client_act, client_step_of, is_client_step};
 
 use crate::steps::step_line;

@@ -1,7 +1,7 @@
 //! The lines that tell what is asked of windows.
 ghost use Rattle.std.specs.Prelude.{◌≡◌, ◌++◌, OnOk};
 ghost use Rattle.std.specs.List.{flat_map};
-ghost use Rattle.wm_core.specs.declared.state.Want.TheVariants as wanted;
+ghost use Rattle.wm_history.specs.declared.state.Want.TheVariants as wanted;
 ghost use Rattle.wm_lines.specs.Told.{want_text};
 
 use crate::texts::push_text;

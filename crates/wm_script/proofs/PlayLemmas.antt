@@ -3,9 +3,9 @@ use Rattle.std.proofs.Common.{◌≡◌, ◌∙◌, refl, ap, sym, subst, ℕ, �
 use Rattle.std.specs.List.{AllByRecursion}
 use Rattle.wm_binds.specs.declared.config.Bind.{Bind}
 use Rattle.wm_core.specs.DeskValue.{DeskValue, Stands}
-use Rattle.wm_core.specs.History.{History, opening_of}
-use Rattle.wm_core.specs.declared.step.Step.{Step}
-use Rattle.wm_core.specs.declared.step.Step.TheVariants.{Map}
+use Rattle.wm_history.specs.History.{History, opening_of}
+use Rattle.wm_history.specs.declared.step.Step.{Step}
+use Rattle.wm_history.specs.declared.step.Step.TheVariants.{Map}
 use Rattle.wm_lines.specs.Lines as lines
 use Rattle.wm_script.specs.Lines.{IsFitDeed}
 use Rattle.wm_script.specs.Playing.{IsFitAnew, IsPlayable, IsShort}

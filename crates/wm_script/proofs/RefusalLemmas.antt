@@ -3,7 +3,7 @@ use Rattle.std.proofs.Common.{◌≡◌, ◌∙◌, refl, ap, sym, subst, ℕ, z
 use Rattle.std.specs.Prelude.{slice_get, IsTrue, option_and_then, option_map}
 use Rattle.std.specs.Option.{option_to_list}
 use Rattle.std.proofs.lemmas.List.{append-nil}
-use Rattle.wm_core.specs.Act.{text_of}
+use Rattle.wm_history.specs.Act.{text_of}
 use Rattle.wm_criteria.specs.Building.{Grew, Log, Tells}
 use Rattle.wm_criteria.specs.Patterns.{pattern_at, patterns_of, unless_plain}
 use Rattle.wm_criteria.specs.Verdict.{IsVerdict, refused_patterns}

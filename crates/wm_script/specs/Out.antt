@@ -4,16 +4,16 @@ use Rattle.std.specs.List.{flat_map}
 use Rattle.std.specs.Option.{option_map}
 use Rattle.std.specs.Str.{bytes_eq}
 use Rattle.wm_binds.specs.declared.config.Bind.{Bind}
-use Rattle.wm_core.specs.Act.{Act, CommandText, KeyChoice, act_of}
-use Rattle.wm_core.specs.Act as acts
-use Rattle.wm_core.specs.Frame.{frame}
-use Rattle.wm_core.specs.History.{Entry, History, Start, answer, mode, opening_of}
-use Rattle.wm_core.specs.Look.{look}
-use Rattle.wm_core.specs.declared.look.Query.{Query}
-use Rattle.wm_core.specs.declared.look.View.{View}
-use Rattle.wm_core.specs.declared.look.View.TheVariants as view
-use Rattle.wm_core.specs.declared.step.Step.{Step}
-use Rattle.wm_core.specs.declared.step.Step.TheVariants as step
+use Rattle.wm_history.specs.Act.{Act, CommandText, KeyChoice, act_of}
+use Rattle.wm_history.specs.Act as acts
+use Rattle.wm_history.specs.Frame.{frame}
+use Rattle.wm_history.specs.History.{Entry, History, Start, answer, mode, opening_of}
+use Rattle.wm_history.specs.Look.{look}
+use Rattle.wm_history.specs.declared.look.Query.{Query}
+use Rattle.wm_history.specs.declared.look.View.{View}
+use Rattle.wm_history.specs.declared.look.View.TheVariants as view
+use Rattle.wm_history.specs.declared.step.Step.{Step}
+use Rattle.wm_history.specs.declared.step.Step.TheVariants as step
 use Rattle.wm_grammar.specs.Reading.{batch_of}
 use Rattle.wm_lines.specs.Told.{answer_text, want_text}
 use Rattle.wm_paint.specs.FrameText.{frame_text, new_line}

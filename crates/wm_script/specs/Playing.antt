@@ -3,10 +3,10 @@ use Rattle.std.specs.Prelude.{◌≡◌, ℕ, ◌<◌, ◌^◌, List, [], ◌∷
 use Rattle.std.specs.Option.{option_to_list}
 use Rattle.wm_binds.specs.declared.config.Bind.{Bind}
 use Rattle.wm_core.specs.DeskValue.{DeskValue, Stands}
-use Rattle.wm_core.specs.History.{Entry, History, answer, opening_of}
-use Rattle.wm_core.specs.Sizes.{IsFitStep}
-use Rattle.wm_core.specs.declared.step.Step.{Step}
-use Rattle.wm_core.specs.declared.step.Step.TheVariants as step
+use Rattle.wm_history.specs.History.{Entry, History, answer, opening_of}
+use Rattle.wm_history.specs.Sizes.{IsFitStep}
+use Rattle.wm_history.specs.declared.step.Step.{Step}
+use Rattle.wm_history.specs.declared.step.Step.TheVariants as step
 use Rattle.wm_criteria.specs.Building.{Grew, Log}
 use Rattle.wm_criteria.specs.declared.verdict.Verdict.{Verdict}
 use Rattle.wm_criteria.specs.declared.verdict.Verdict.TheVariants.{PatternRefused}

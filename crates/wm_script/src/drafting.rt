@@ -7,7 +7,7 @@ ghost use Rattle.wm_script.specs.declared.said.Said.TheVariants as saids;
 use crate::said::Said;
 use std::alloc::Global;
 use wm_base::{NoMemory, OutputPlan, Str, Text};
-use wm_binds::{Draft, LineRefusal, is_among, push};
+use wm_binds::{Draft, LineRefusal, push};
 use wm_grammar::{ReadRefusal, read};
 
 /// One more line of the plan. `false` exactly where the plan may not have it, or it is none of these lines.
@@ -79,7 +79,7 @@ fn bind(
 fn may_bind(alloc: Global, draft: &Draft, mode: &Text, text: &Str) -> Result<bool, NoMemory>
     ensures { IfOk result (λ may. may ≡ (is_mode draft.now mode.now && is_some (batch_of text.now))) }
 {
-    if mode.as_str() != "default" && !is_among(draft.modes.items(), mode) {
+    if mode.as_str() != "default" && !draft.modes.has(mode) {
         return Ok(false);
     }
     does_read(alloc, text.as_str())

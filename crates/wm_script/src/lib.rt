@@ -20,5 +20,7 @@ pub use answers::answer_text;
 pub use laws::{bad_line_is_first, script_is_its_lines};
 pub use line::{Deed, Line};
 pub use playing::{Played, play};
+pub use reading::Reading;
 pub use refused::Refused;
+pub use said::Said;
 pub use script::{Script, ScriptRefusal, read_script};

@@ -1,9 +1,9 @@
 //! The lines that are written for frames, and for what callers see.
 ghost use Rattle.std.specs.Prelude.{◌≡◌, ◌++◌, IfOk, OnOk};
 ghost use Rattle.wm_core.specs.DeskValue.{Stands};
-ghost use Rattle.wm_core.specs.Frame.{frame};
-ghost use Rattle.wm_core.specs.History.{History, opening_of};
-ghost use Rattle.wm_core.specs.Look.{look};
+ghost use Rattle.wm_history.specs.Frame.{frame};
+ghost use Rattle.wm_history.specs.History.{History, opening_of};
+ghost use Rattle.wm_history.specs.Look.{look};
 ghost use Rattle.wm_paint.specs.FrameText.{frame_text};
 ghost use Rattle.wm_script.specs.Out.{view_text};
 
@@ -20,9 +20,8 @@ pub(crate) fn paint(alloc: Global, desk: &Desk) -> Result<List<u8>, NoMemory>
         IfOk result (λ text. text ≡ frame_text (frame (opening_of desk.now.plan) history)) }
 {
     let frame = desk.frame()?;
-    let mut text = Vec::new(alloc);
-    text.extend_from_slice(frame_text(alloc, &frame)?.as_bytes())?;
-    Ok(List::of(text))
+    let text = frame_text(alloc, &frame)?;
+    Ok(List::of(text.into_bytes()))
 }
 
 /// The lines of what the caller sees.

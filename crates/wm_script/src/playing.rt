@@ -1,12 +1,12 @@
 //! A line is played on a desk.
 ghost use Rattle.std.specs.Prelude.{◌≡◌, ◌+◌, ◌<◌, ◌^◌, ◌∷◌, [], IfOk, IsTrue, None, OnOk, Some, length, map};
 ghost use Rattle.std.specs.List.{AllByRecursion, list_all};
-ghost use Rattle.wm_core.specs.Act as acts;
-ghost use Rattle.wm_core.specs.Act.{act_of, choice_of, text_of};
+ghost use Rattle.wm_history.specs.Act as acts;
+ghost use Rattle.wm_history.specs.Act.{act_of, choice_of, text_of};
 ghost use Rattle.wm_core.specs.DeskValue.{Stands};
-ghost use Rattle.wm_core.specs.History.{History, opening_of};
-ghost use Rattle.wm_core.specs.Sizes.{IsFitStep};
-ghost use Rattle.wm_core.specs.declared.step.Step.TheVariants as steps;
+ghost use Rattle.wm_history.specs.History.{History, opening_of};
+ghost use Rattle.wm_history.specs.Sizes.{IsFitStep};
+ghost use Rattle.wm_history.specs.declared.step.Step.TheVariants as steps;
 ghost use Rattle.wm_criteria.specs.Prepared.{is_built};
 ghost use Rattle.wm_layouts.specs.Sizes.{IsFitSize};
 ghost use Rattle.wm_script.specs.Out.{act_with, bound_text, choices_with, entry_of, key_with, last_bind, run_with, steps_of, text_of_step, text_run};

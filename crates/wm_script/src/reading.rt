@@ -104,7 +104,7 @@ fn said_by(alloc: Global, who: u32, text: &[u8]) -> Result<Option<Said>, NoMemor
 /// What was read so far: whether a line said something, whether a caller spoke, what the lines gave the plan, and what
 /// callers do.
 #[derive(Drop)]
-pub(crate) struct Reading {
+pub struct Reading {
     pub opened: bool,
     pub begun: bool,
     pub draft: Draft,

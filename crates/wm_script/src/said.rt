@@ -5,7 +5,7 @@ use wm_saved::SavedLayout;
 
 /// What a line says.
 #[derive(Drop)]
-pub(crate) enum Said {
+pub enum Said {
     /// Nothing: spaces alone, or a comment.
     Nothing,
     /// It is a script of version 1.

@@ -98,10 +98,11 @@ fn script_of(alloc: Global, reading: Reading) -> Result<Script, OutOfMemory>
         layouts,
         binds,
         block: _,
+        room: _,
     } = draft;
     let outputs = or_standard(alloc, outputs)?;
     let env = Env {
-        modes,
+        modes: modes.into_list(),
         layouts,
         homes,
     };

@@ -1,6 +1,6 @@
 //! Texts of commands are prepared, and it is noted which pattern was refused.
 ghost use Rattle.std.specs.Prelude.{◌≡◌, ◌<◌, ◌^◌, IfOk, IsTrue, None, Some, length};
-ghost use Rattle.wm_core.specs.Act.{text_of};
+ghost use Rattle.wm_history.specs.Act.{text_of};
 ghost use Rattle.wm_criteria.specs.Prepared.{is_built};
 ghost use Rattle.wm_script.specs.Out.{text_with};
 ghost use Rattle.wm_script.specs.Playing.{IsRefusal, pattern_in};

@@ -12,10 +12,10 @@ use Rattle.wm_actors.specs.declared.ending.ActorEnd.TheVariants as end
 use Rattle.wm_book.specs.Carried.{carried}
 use Rattle.wm_core.proofs.EntryLemmas.{history_begins}
 use Rattle.wm_core.specs.Entries.{history_of}
-use Rattle.wm_core.specs.History.{History, opening_of}
+use Rattle.wm_history.specs.History.{History, opening_of}
 use Rattle.wm_core.specs.Passes.{Begins, Pass}
 use Rattle.wm_core.specs.declared.asked.Asked.{Asked}
-use Rattle.wm_core.specs.declared.step.Step.{Step}
+use Rattle.wm_history.specs.declared.step.Step.{Step}
 use Rattle.wm_layouts.specs.declared.plan.Plan.{Plan}
 use Rattle.wm_turn.specs.Pass.{IsKnown, new_pass}
 use Rattle.wm_turn.specs.declared.view.Entry.{Entry}

@@ -8,20 +8,20 @@ use Rattle.wm_base.specs.declared.errors.Limit.{Limit}
 use Rattle.wm_base.specs.declared.ids.Buffer.{Buffer}
 use Rattle.wm_base.specs.declared.ids.ConId.{ConId}
 use Rattle.wm_base.specs.declared.properties.Props.{Props}
-use Rattle.wm_core.specs.Act.{KeyChoice, act_of, choice_of, text_if_some}
-use Rattle.wm_core.specs.Effect.{effect, has_no_pixels, key_effect, limit_of, map_effect, mapped, mapped_id, refused, telling, then_outcome, window_answer}
-use Rattle.wm_core.specs.Keys.{bound, chosen}
-use Rattle.wm_core.specs.Outputs.{add_answer, added, remove_answer, removed, reserve_answer, reserved}
-use Rattle.wm_core.specs.Windows.{is_window}
-use Rattle.wm_core.specs.declared.step.Answer.TheVariants as answers
-use Rattle.wm_core.specs.declared.step.Choice.{Choice}
+use Rattle.wm_history.specs.Act.{KeyChoice, act_of, choice_of, text_if_some}
+use Rattle.wm_history.specs.Effect.{effect, has_no_pixels, key_effect, limit_of, map_effect, mapped, mapped_id, refused, telling, then_outcome, window_answer}
+use Rattle.wm_history.specs.Keys.{bound, chosen}
+use Rattle.wm_history.specs.Outputs.{add_answer, added, remove_answer, removed, reserve_answer, reserved}
+use Rattle.wm_history.specs.Windows.{is_window}
+use Rattle.wm_history.specs.declared.step.Answer.TheVariants as answers
+use Rattle.wm_history.specs.declared.step.Choice.{Choice}
 use Rattle.wm_criteria.specs.declared.prepared.Prepared.{Prepared}
 use Rattle.wm_txn.specs.History as commits
 use Rattle.wm_core.specs.Entries.{history_of}
-use Rattle.wm_core.specs.History.{Start, mode, stopped, tree}
-use Rattle.wm_core.specs.declared.client.ClientStep.TheVariants as client
-use Rattle.wm_core.specs.declared.step.Step.{Step}
-use Rattle.wm_core.specs.declared.step.Step.TheVariants as step
+use Rattle.wm_history.specs.History.{Start, mode, stopped, tree}
+use Rattle.wm_history.specs.declared.client.ClientStep.TheVariants as client
+use Rattle.wm_history.specs.declared.step.Step.{Step}
+use Rattle.wm_history.specs.declared.step.Step.TheVariants as step
 use Rattle.wm_layouts.specs.declared.plan.Env.{Env}
 use Rattle.wm_tree.specs.TreeValue.{TreeValue}
 use Rattle.wm_turn.specs.declared.view.Entry.{Entry}

@@ -12,9 +12,9 @@ use Rattle.wm_turn.specs.History.{Begins}
 use Rattle.wm_book.specs.Carried.{carried}
 use Rattle.wm_core.proofs.EntryLemmas.{history_begins}
 use Rattle.wm_core.specs.Entries.{history_of}
-use Rattle.wm_core.specs.History.{opening_of, stopped}
+use Rattle.wm_history.specs.History.{opening_of, stopped}
 use Rattle.wm_core.specs.declared.asked.Asked.{Asked}
-use Rattle.wm_core.specs.declared.step.Step.{Step}
+use Rattle.wm_history.specs.declared.step.Step.{Step}
 use Rattle.wm_criteria.specs.Building.{Log}
 use Rattle.wm_crew.proofs.KeepLemmas.{no_fault, painted_until_stopped, painter_of_none, ran_keep}
 use Rattle.wm_crew.specs.Duties.{IsReady}

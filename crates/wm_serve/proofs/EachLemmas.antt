@@ -10,7 +10,7 @@ use Rattle.wm_actors.specs.declared.ending.ActorEnd.{ActorEnd}
 use Rattle.wm_actors.specs.declared.ending.ActorEnd.TheVariants as end
 use Rattle.wm_book.specs.Carried.{carried}
 use Rattle.wm_core.specs.Entries.{history_of}
-use Rattle.wm_core.specs.declared.step.Step.{Step}
+use Rattle.wm_history.specs.declared.step.Step.{Step}
 use Rattle.wm_criteria.specs.Building.{Log}
 use Rattle.wm_crew.proofs.CrewLemmas.{worse_else, worse_then}
 use Rattle.wm_crew.specs.Crew.{Each, posts}

@@ -3,11 +3,11 @@ use Rattle.std.proofs.Common.{◌≡◌, ◌∙◌, ◌≤◌, ◌<◌, refl, sy
 use Rattle.std.proofs.lemmas.List.{append-nil}
 use Rattle.std.specs.List.{AllByRecursion}
 use Rattle.wm_core.proofs.EntryLemmas.{history_length}
-use Rattle.wm_core.specs.Act.{act_of}
+use Rattle.wm_history.specs.Act.{act_of}
 use Rattle.wm_core.specs.Entries.{desk_entry, history_of}
-use Rattle.wm_core.specs.History.{Entry, History}
+use Rattle.wm_history.specs.History.{Entry, History}
 use Rattle.wm_core.specs.declared.asked.Asked.{Asked}
-use Rattle.wm_core.specs.declared.step.Step.{Step}
+use Rattle.wm_history.specs.declared.step.Step.{Step}
 use Rattle.wm_session.specs.Places.{entry_at, newest}
 use Rattle.wm_session.proofs.WalkLemmas.{begins_same, entry_later}
 use Rattle.wm_turn.specs.History.{places, wrote}

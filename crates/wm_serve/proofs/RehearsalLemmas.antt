@@ -17,7 +17,7 @@ use Rattle.wm_actors.specs.declared.serve.Failure.{Failure}
 use Rattle.wm_book.specs.Carried.{carried}
 use Rattle.wm_book.specs.Recorded.{IsRecord, RecordedValue}
 use Rattle.wm_core.specs.Entries.{history_of}
-use Rattle.wm_core.specs.History.{History, opening_of}
+use Rattle.wm_history.specs.History.{History, opening_of}
 use Rattle.wm_criteria.specs.Building.{Log}
 use Rattle.wm_crew.proofs.KeepLemmas.{no_fault}
 use Rattle.wm_crew.specs.Crew.{Each, posts}

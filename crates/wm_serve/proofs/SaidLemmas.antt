@@ -19,10 +19,10 @@ use Rattle.wm_clients.specs.Endings.{closes_windows}
 use Rattle.wm_clients.specs.Served as client
 use Rattle.wm_core.proofs.EntryLemmas.{history_begins}
 use Rattle.wm_core.specs.Entries.{history_of}
-use Rattle.wm_core.specs.History.{History, Start, opening_of}
+use Rattle.wm_history.specs.History.{History, Start, opening_of}
 use Rattle.wm_core.specs.Passes as passes
 use Rattle.wm_core.specs.declared.asked.Asked.{Asked}
-use Rattle.wm_core.specs.declared.step.Step.{Step}
+use Rattle.wm_history.specs.declared.step.Step.{Step}
 use Rattle.wm_criteria.specs.Building.{Log}
 use Rattle.wm_cut.specs.Lines.{lines_in}
 use Rattle.wm_layouts.specs.declared.plan.Plan.{Plan}

@@ -8,15 +8,15 @@ use Rattle.wm_actors.specs.declared.ending.ActorEnd.TheVariants as end
 use Rattle.wm_clients.specs.Lines.{LONGEST, line_act}
 use Rattle.wm_clients.specs.Served.{Leaves}
 use Rattle.wm_clients.specs.Walk.{FitsClient, IsNextStep, walk}
-use Rattle.wm_core.specs.Act.{Act, act_of}
-use Rattle.wm_core.specs.History.{Entry, History, Start}
+use Rattle.wm_history.specs.Act.{Act, act_of}
+use Rattle.wm_history.specs.History.{Entry, History, Start}
 use Rattle.wm_core.specs.Passes.{Begins, Pass}
 use Rattle.wm_core.specs.declared.asked.Asked.{Asked}
 use Rattle.wm_core.specs.declared.asked.Asked.TheVariants as asked
-use Rattle.wm_core.specs.declared.look.Query.TheVariants as query
-use Rattle.wm_core.specs.declared.client.ClientStep.TheVariants as client
-use Rattle.wm_core.specs.declared.step.Step.{Step}
-use Rattle.wm_core.specs.declared.step.Step.TheVariants as step
+use Rattle.wm_history.specs.declared.look.Query.TheVariants as query
+use Rattle.wm_history.specs.declared.client.ClientStep.TheVariants as client
+use Rattle.wm_history.specs.declared.step.Step.{Step}
+use Rattle.wm_history.specs.declared.step.Step.TheVariants as step
 use Rattle.wm_fields.specs.Fields.{or_none}
 use Rattle.wm_lines.specs.Lines.{client_act, is_client_step, step_line_of}
 use Rattle.wm_session.specs.Places.{entry_at}

@@ -7,9 +7,9 @@ use Rattle.wm_apply.specs.Commands.{is_exit}
 use Rattle.wm_apply.specs.Quiet.{is_quiet}
 use Rattle.wm_apply.specs.declared.targets.Targets.{Targets}
 use Rattle.wm_base.specs.declared.ids.ConId.{ConId}
-use Rattle.wm_core.specs.declared.step.Answer.{Answer}
-use Rattle.wm_core.specs.declared.step.Answer.TheVariants as answers
-use Rattle.wm_core.specs.Effect.{Effect, done_or_refused, idled, ran, run_effect}
+use Rattle.wm_history.specs.declared.step.Answer.{Answer}
+use Rattle.wm_history.specs.declared.step.Answer.TheVariants as answers
+use Rattle.wm_history.specs.Effect.{Effect, done_or_refused, idled, ran, run_effect}
 use Rattle.wm_json.specs.declared.views.EventBody.{EventBody}
 use Rattle.wm_criteria.specs.Verdict.{IsVerdict}
 use Rattle.wm_criteria.specs.declared.verdict.Verdict.{Verdict}

@@ -1,6 +1,6 @@
 -- A worker whose listener gives one link serves that one alone.
 use Rattle.std.proofs.Common.{◌≡◌, ◌∙◌, ◌≤◌, refl, sym, ap, subst, arith, ℕ, suc, zero, ◌+◌, Bool, List, [], ◌∷◌, ◌++◌, length, take, Option, length-append, slice_index_or}
-use Rattle.wm_core.specs.History.{stopped}
+use Rattle.wm_history.specs.History.{stopped}
 use Rattle.wm_core.specs.Passes.{Looked, Pass}
 use Rattle.wm_core.specs.declared.asked.Asked.{Asked}
 use Rattle.wm_core.specs.declared.asked.Asked.TheVariants as asked

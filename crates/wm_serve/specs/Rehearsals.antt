@@ -3,8 +3,8 @@ use Rattle.std.specs.Prelude.{◌≡◌, ◌*◌, ◌+◌, ◌++◌, ◌<◌, �
 use Rattle.wm_actors.specs.Pictured.{Screen}
 use Rattle.wm_book.specs.Recorded.{IsRecord, RecordedValue}
 use Rattle.wm_core.specs.Entries.{history_of}
-use Rattle.wm_core.specs.History.{opening_of}
-use Rattle.wm_core.specs.declared.step.Step.{Step}
+use Rattle.wm_history.specs.History.{opening_of}
+use Rattle.wm_history.specs.declared.step.Step.{Step}
 use Rattle.wm_crew.specs.declared.status.ServeStatus.TheVariants as ended
 use Rattle.wm_serve.specs.Serving.{IsPlanRead, IsRefused, IsSummed}
 use Rattle.wm_serve.specs.Summary.{summary}

@@ -4,9 +4,9 @@ use Rattle.std.specs.List.{All}
 use Rattle.atomic_table.specs.Seated.{TableId}
 use Rattle.wm_book.specs.Carried.{carried}
 use Rattle.wm_core.specs.Entries.{history_of}
-use Rattle.wm_core.specs.History.{opening_of, stopped}
+use Rattle.wm_history.specs.History.{opening_of, stopped}
 use Rattle.wm_core.specs.declared.asked.Asked.{Asked}
-use Rattle.wm_core.specs.declared.step.Step.{Step}
+use Rattle.wm_history.specs.declared.step.Step.{Step}
 use Rattle.wm_criteria.specs.Building.{Log}
 use Rattle.wm_crew.specs.Running.{Outside, RanActors}
 use Rattle.wm_crew.specs.declared.status.ServeStatus.{ServeStatus}

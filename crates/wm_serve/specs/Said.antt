@@ -1,10 +1,10 @@
 -- What a caller said, by its entries in a history.
 use Rattle.std.specs.Prelude.{◌≡◌, ℕ, ◌==◌, if◌then◌else◌, List, [], ◌∷◌, ◌++◌, length, map, take, Option, None, Some}
-use Rattle.wm_core.specs.Act.{Act, CommandText, KeyChoice}
-use Rattle.wm_core.specs.Act as act
+use Rattle.wm_history.specs.Act.{Act, CommandText, KeyChoice}
+use Rattle.wm_history.specs.Act as act
 use Rattle.wm_core.specs.Entries.{history_of}
-use Rattle.wm_core.specs.History.{History}
-use Rattle.wm_core.specs.declared.step.Step.{Step}
+use Rattle.wm_history.specs.History.{History}
+use Rattle.wm_history.specs.declared.step.Step.{Step}
 use Rattle.wm_turn.specs.History.{places}
 use Rattle.wm_turn.specs.declared.view.Entry.{Entry}
 

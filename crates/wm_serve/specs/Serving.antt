@@ -7,8 +7,8 @@ use Rattle.wm_binds.specs.declared.config.ConfigRefusal.{ConfigRefusal}
 use Rattle.wm_binds.specs.declared.config.ConfigRefusal.TheVariants as refusals
 use Rattle.wm_core.specs.DeskValue.{DeskValue, Stands}
 use Rattle.wm_core.specs.Entries.{history_of}
-use Rattle.wm_core.specs.History.{opening_of}
-use Rattle.wm_core.specs.declared.step.Step.{Step}
+use Rattle.wm_history.specs.History.{opening_of}
+use Rattle.wm_history.specs.declared.step.Step.{Step}
 use Rattle.wm_criteria.specs.Building.{Log}
 use Rattle.wm_crew.specs.Running.{Outside}
 use Rattle.wm_crew.specs.declared.status.ServeStatus.{ServeStatus}

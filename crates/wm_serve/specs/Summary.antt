@@ -1,8 +1,8 @@
 -- The summary of a history.
 use Rattle.std.specs.Prelude.{ℕ, List, ◌++◌, codes}
-use Rattle.wm_core.specs.History.{History, Start}
-use Rattle.wm_core.specs.Look.{look, state}
-use Rattle.wm_core.specs.declared.look.Query.TheVariants as query
+use Rattle.wm_history.specs.History.{History, Start}
+use Rattle.wm_history.specs.Look.{look, state}
+use Rattle.wm_history.specs.declared.look.Query.TheVariants as query
 use Rattle.wm_lines.specs.Told.{state_text}
 use Rattle.wm_talk.specs.Told.{view_json}
 

@@ -2,8 +2,8 @@
 ghost use Rattle.std.specs.Prelude.{◌≡◌, ◌⊎◌, ◌≤◌, ◌*◌, ◌+◌, ℕ, [], List, None, Some, length, map, string_bytes, IfErr, IfOk};
 ghost use Rattle.wm_actors.specs.Pictured.{screen};
 ghost use Rattle.wm_core.specs.Entries.{history_of};
-ghost use Rattle.wm_core.specs.History.{opening_of};
-ghost use Rattle.wm_core.specs.declared.step.Step as steps;
+ghost use Rattle.wm_history.specs.History.{opening_of};
+ghost use Rattle.wm_history.specs.declared.step.Step as steps;
 ghost use Rattle.wm_crew.specs.Running.{outside};
 ghost use Rattle.wm_crew.specs.declared.status.ServeStatus.TheVariants as status;
 ghost use Rattle.wm_layouts.specs.Plan.{IsSound};

@@ -2,9 +2,9 @@
 
 ghost use Rattle.std.specs.Prelude.{◌≡◌, List, IfOk};
 ghost use Rattle.wm_core.specs.Entries.{history_of};
-ghost use Rattle.wm_core.specs.History.{opening_of};
-ghost use Rattle.wm_core.specs.Look.{state};
-ghost use Rattle.wm_core.specs.declared.step.Step as steps;
+ghost use Rattle.wm_history.specs.History.{opening_of};
+ghost use Rattle.wm_history.specs.Look.{state};
+ghost use Rattle.wm_history.specs.declared.step.Step as steps;
 ghost use Rattle.wm_serve.specs.Summary.{summary};
 ghost use Rattle.wm_turn.specs.declared.view.Entry.{Entry};
 

@@ -1,8 +1,8 @@
 -- No message asks for events.
 use Rattle.std.proofs.Common.{◌≡◌, refl, subst, ℕ, ◌==◌, Bool, true, false, if◌then◌else◌, List, Option, None, Some}
 use Rattle.std.specs.Prelude.{⊤}
-use Rattle.wm_core.specs.declared.look.Query.{Query}
-use Rattle.wm_core.specs.declared.look.Query.TheVariants as query
+use Rattle.wm_history.specs.declared.look.Query.{Query}
+use Rattle.wm_history.specs.declared.look.Query.TheVariants as query
 use Rattle.wm_frames.specs.declared.message.Message.{Message}
 use Rattle.wm_talk.specs.Calls.{call_of, look_call, query_of, run_call, text_of, tick_call, tick_of}
 use Rattle.wm_talk.specs.declared.calls.Call.{Call}

@@ -5,13 +5,13 @@ use Rattle.std.proofs.lemmas.List.{append-nil}
 use Rattle.wm_criteria.specs.Building.{Grew, Log}
 use Rattle.wm_criteria.specs.Building as building
 use Rattle.wm_criteria.proofs.BuildingLemmas.{grew_both}
-use Rattle.wm_core.specs.History.{Start, opening_of, stopped}
-use Rattle.wm_core.specs.Look.{look}
+use Rattle.wm_history.specs.History.{Start, opening_of, stopped}
+use Rattle.wm_history.specs.Look.{look}
 use Rattle.wm_core.specs.Passes.{Looked, Pass, Saw}
 use Rattle.wm_core.specs.declared.asked.Asked.TheVariants as asked
-use Rattle.wm_core.specs.declared.look.Query.TheVariants as query
-use Rattle.wm_core.specs.declared.look.View.{View}
-use Rattle.wm_core.specs.declared.look.View.TheVariants as view
+use Rattle.wm_history.specs.declared.look.Query.TheVariants as query
+use Rattle.wm_history.specs.declared.look.View.{View}
+use Rattle.wm_history.specs.declared.look.View.TheVariants as view
 use Rattle.wm_core.specs.declared.refusals.ActRefusal.{ActRefusal}
 use Rattle.wm_core.specs.declared.refusals.ActRefusal.TheVariants as refusals
 use Rattle.wm_frames.specs.Frame.{frame}

@@ -1,11 +1,11 @@
 -- What a session tells is what its messages and readings tell.
 use Rattle.std.proofs.Common.{◌≡◌, ◌∙◌, refl, ap, sym, subst, ℕ, List, [], ◌∷◌, ◌++◌, Option, None, Some}
 use Rattle.std.proofs.lemmas.List.{append-nil}
-use Rattle.wm_core.specs.History.{History, Start}
-use Rattle.wm_core.specs.Look.{look}
+use Rattle.wm_history.specs.History.{History, Start}
+use Rattle.wm_history.specs.Look.{look}
 use Rattle.wm_core.specs.declared.asked.Asked.{Asked}
 use Rattle.wm_core.specs.declared.asked.Asked.TheVariants as asked
-use Rattle.wm_core.specs.declared.look.View.{View}
+use Rattle.wm_history.specs.declared.look.View.{View}
 use Rattle.wm_frames.specs.declared.message.Message.{Message}
 use Rattle.wm_talk.specs.Marks as talking
 use Rattle.wm_talk.specs.Talking.{NEW}

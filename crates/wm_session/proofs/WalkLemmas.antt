@@ -1,14 +1,14 @@
 -- What one more mark does to a walk, whatever is seen and whatever comes later.
 use Rattle.std.proofs.Common.{◌≡◌, ◌∙◌, refl, ap, sym, subst, ℕ, ◌-◌, Bool, List, [], ◌∷◌, ◌++◌, length, drop, None, Some, arith, append_assoc, length-append}
 use Rattle.std.proofs.Math.Seq.{drop-append_seam}
-use Rattle.wm_core.specs.History.{Entry, History, Start, answer, stopped}
-use Rattle.wm_core.specs.Look.{look}
+use Rattle.wm_history.specs.History.{Entry, History, Start, answer, stopped}
+use Rattle.wm_history.specs.Look.{look}
 use Rattle.wm_core.specs.Passes.{Begins}
 use Rattle.wm_core.specs.declared.asked.Asked.{Asked}
 use Rattle.wm_core.specs.declared.asked.Asked.TheVariants as asked
-use Rattle.wm_core.specs.declared.look.Query.{Query}
-use Rattle.wm_core.specs.declared.look.Query.TheVariants as query
-use Rattle.wm_core.specs.declared.look.View.{View}
+use Rattle.wm_history.specs.declared.look.Query.{Query}
+use Rattle.wm_history.specs.declared.look.Query.TheVariants as query
+use Rattle.wm_history.specs.declared.look.View.{View}
 use Rattle.wm_frames.specs.declared.message.Message.{Message}
 use Rattle.wm_talk.specs.Calls.{call_of}
 use Rattle.wm_talk.specs.declared.calls.Call.TheVariants as call

@@ -1,13 +1,13 @@
 -- What the one call of a message gives.
 use Rattle.std.specs.Prelude.{◌≡◌, ◌<◌, ◌≤◌, ◌^◌, ℕ, List, [], length, Result, Ok, Err, ⊤}
 use Rattle.wm_criteria.specs.Building.{Grew, Log}
-use Rattle.wm_core.specs.Act.{Act}
-use Rattle.wm_core.specs.Look.{look}
+use Rattle.wm_history.specs.Act.{Act}
+use Rattle.wm_history.specs.Look.{look}
 use Rattle.wm_core.specs.Passes.{IsExhausted, Looked, Pass, Saw, Took}
 use Rattle.wm_core.specs.declared.asked.Asked.TheVariants as asked
 use Rattle.wm_core.specs.declared.refusals.ActRefusal.{ActRefusal}
 use Rattle.wm_core.specs.declared.refusals.ActRefusal.TheVariants as refusal
-use Rattle.wm_core.specs.declared.step.Answer.{Answer}
+use Rattle.wm_history.specs.declared.step.Answer.{Answer}
 use Rattle.wm_talk.specs.declared.calls.Call.{Call}
 use Rattle.wm_talk.specs.declared.calls.Call.TheVariants as call
 use Rattle.wm_talk.specs.declared.got.Got.{Got}

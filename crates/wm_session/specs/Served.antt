@@ -1,7 +1,7 @@
 -- What a session did, by how it ended.
 use Rattle.std.specs.Prelude.{◌≡◌, ◌⊎◌, ℕ, suc, ◌^◌, Bool, true, false, List, [], ◌++◌, length, Option, None, Some, IfSome, ⊤}
 use Rattle.wm_criteria.specs.Building.{Grew, Log}
-use Rattle.wm_core.specs.History.{History, Start, opening_of}
+use Rattle.wm_history.specs.History.{History, Start, opening_of}
 use Rattle.wm_core.specs.Passes.{Begins, Pass}
 use Rattle.wm_core.specs.declared.asked.Asked.{Asked}
 use Rattle.wm_defs.specs.Counts.{Rose}

@@ -1,7 +1,7 @@
 -- How far a session is.
 use Rattle.std.specs.Prelude.{◌≡◌, ℕ, suc, ◌≤◌, Bool, true, false, List, [], ◌++◌, Option, None, Some, Result, Ok, Err}
 use Rattle.wm_criteria.specs.Building.{Grew}
-use Rattle.wm_core.specs.History.{History, Start, opening_of}
+use Rattle.wm_history.specs.History.{History, Start, opening_of}
 use Rattle.wm_core.specs.Passes.{Begins, Pass}
 use Rattle.wm_core.specs.declared.asked.Asked.{Asked}
 use Rattle.wm_frames.specs.Decoding.{Decoding, Stands}

@@ -1,10 +1,10 @@
 -- The messages and readings that the marks of a session are.
 use Rattle.std.specs.Prelude.{ℕ, List, [], ◌∷◌, ◌++◌, Option, None, Some}
-use Rattle.wm_core.specs.History.{History, Start}
-use Rattle.wm_core.specs.Look.{look}
+use Rattle.wm_history.specs.History.{History, Start}
+use Rattle.wm_history.specs.Look.{look}
 use Rattle.wm_core.specs.declared.asked.Asked.{Asked}
 use Rattle.wm_core.specs.declared.asked.Asked.TheVariants as asked
-use Rattle.wm_core.specs.declared.look.View.{View}
+use Rattle.wm_history.specs.declared.look.View.{View}
 use Rattle.wm_frames.specs.declared.message.Message.{Message}
 use Rattle.wm_talk.specs.Marks as talking
 use Rattle.wm_talk.specs.declared.got.Got.{Got}

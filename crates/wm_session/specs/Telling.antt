@@ -1,6 +1,6 @@
 -- What is sent on a link, and what that leaves.
 use Rattle.std.specs.Prelude.{◌≡◌, ℕ, ◌≤◌, List, Option, None, Some, Result, Ok, Err}
-use Rattle.wm_core.specs.declared.look.View.{View}
+use Rattle.wm_history.specs.declared.look.View.{View}
 use Rattle.wm_defs.specs.Counts.{Rose}
 use Rattle.wm_frames.specs.declared.message.Message.{Message}
 use Rattle.wm_ports.specs.Linking.{LinkTold, SendsAll, SendsPart}

@@ -3,16 +3,16 @@ use Rattle.std.specs.Prelude.{◌≡◌, ℕ, suc, Bool, false, List, [], ◌∷
 use Rattle.std.specs.Option.{option_map}
 use Rattle.wm_criteria.specs.Verdict.{IsVerdict}
 use Rattle.wm_criteria.specs.declared.verdict.Verdict.{Verdict}
-use Rattle.wm_core.specs.Act.{Act}
-use Rattle.wm_core.specs.Act as act
-use Rattle.wm_core.specs.History.{Entry, History, Start, answer, stopped}
-use Rattle.wm_core.specs.Look.{look}
+use Rattle.wm_history.specs.Act.{Act}
+use Rattle.wm_history.specs.Act as act
+use Rattle.wm_history.specs.History.{Entry, History, Start, answer, stopped}
+use Rattle.wm_history.specs.Look.{look}
 use Rattle.wm_core.specs.declared.asked.Asked.{Asked}
 use Rattle.wm_core.specs.declared.asked.Asked.TheVariants as asked
-use Rattle.wm_core.specs.declared.look.Query.{Query}
-use Rattle.wm_core.specs.declared.look.Query.TheVariants as query
-use Rattle.wm_core.specs.declared.look.View.{View}
-use Rattle.wm_core.specs.declared.look.View.TheVariants as view
+use Rattle.wm_history.specs.declared.look.Query.{Query}
+use Rattle.wm_history.specs.declared.look.Query.TheVariants as query
+use Rattle.wm_history.specs.declared.look.View.{View}
+use Rattle.wm_history.specs.declared.look.View.TheVariants as view
 use Rattle.wm_frames.specs.declared.message.Message.{Message}
 use Rattle.wm_talk.specs.Calls.{call_of}
 use Rattle.wm_talk.specs.Talking.{NEW, above_of, after_events, after_reply}

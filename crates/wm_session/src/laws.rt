@@ -1,6 +1,6 @@
 //! Laws of what a session tells its link.
 ghost use Rattle.std.specs.Prelude.{◌≡◌, ◌++◌, ◌∷◌, ℕ, List};
-ghost use Rattle.wm_core.specs.History.{History, Start};
+ghost use Rattle.wm_history.specs.History.{History, Start};
 ghost use Rattle.wm_core.specs.declared.asked.Asked.{Asked};
 ghost use Rattle.wm_frames.specs.declared.message.Message.{Message};
 ghost use Rattle.wm_session.specs.Talks.{part_of, parts_of};

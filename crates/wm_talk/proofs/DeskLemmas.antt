@@ -1,10 +1,10 @@
 -- The readings of a desk's events: what each one has, and where it ends.
 use Rattle.std.proofs.Common.{◌≡◌, ◌∙◌, refl, subst, ℕ, zero, suc, ◌+◌, ◌-◌, ◌<◌, ◌≤◌, Bool, true, false, cond, List, [], ◌∷◌, drop, length, nat_lt, arith}
 use Rattle.std.proofs.lemmas.Bool.Decides.{nat_tests}
-use Rattle.wm_core.specs.Events.{events}
-use Rattle.wm_core.specs.History.{History, Start}
-use Rattle.wm_core.specs.Look.{look, told_view}
-use Rattle.wm_core.specs.declared.look.Query.TheVariants as query
+use Rattle.wm_history.specs.Events.{events}
+use Rattle.wm_history.specs.History.{History, Start}
+use Rattle.wm_history.specs.Look.{look, told_view}
+use Rattle.wm_history.specs.declared.look.Query.TheVariants as query
 use Rattle.wm_json.specs.declared.views.EventBody.{EventBody}
 use Rattle.wm_kept.specs.Above.{told_since}
 use Rattle.wm_kept.specs.declared.above.Above.TheVariants.{Events, Lagged}

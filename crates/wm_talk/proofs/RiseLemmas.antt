@@ -3,8 +3,8 @@ use Rattle.std.proofs.Common.{◌≡◌, refl, subst, sym, ℕ, if◌then◌else
 use Rattle.std.specs.List.{filter}
 use Rattle.std.specs.Option.{option_map}
 use Rattle.std.proofs.lemmas.Option.{none-some}
-use Rattle.wm_core.specs.declared.look.View.{View}
-use Rattle.wm_core.specs.declared.look.View.TheVariants as view
+use Rattle.wm_history.specs.declared.look.View.{View}
+use Rattle.wm_history.specs.declared.look.View.TheVariants as view
 use Rattle.wm_frames.specs.declared.message.Message.{Message}
 use Rattle.wm_json.specs.declared.views.EventView.{EventView}
 use Rattle.wm_talk.specs.Marks.{AllAnswer, asked, events_in, events_over, Mark, read, Rise}

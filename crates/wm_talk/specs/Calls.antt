@@ -1,8 +1,8 @@
 -- The one call that a message asks for.
 use Rattle.std.specs.Prelude.{ℕ, ◌==◌, nat_le, ◌&&◌, if◌then◌else◌, List, Option, None, Some, length}
 use Rattle.std.specs.Str.{is_utf8}
-use Rattle.wm_core.specs.declared.look.Query.{Query}
-use Rattle.wm_core.specs.declared.look.Query.TheVariants as query
+use Rattle.wm_history.specs.declared.look.Query.{Query}
+use Rattle.wm_history.specs.declared.look.Query.TheVariants as query
 use Rattle.wm_frames.specs.declared.message.Message.{Message}
 use Rattle.wm_talk.specs.declared.calls.Call.{Call}
 use Rattle.wm_talk.specs.declared.calls.Call.TheVariants as call

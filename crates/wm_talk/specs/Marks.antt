@@ -1,8 +1,8 @@
 -- What a client is told over messages and readings of events, one after another.
 use Rattle.std.specs.Prelude.{ℕ, ◌<◌, List, [], ◌∷◌, ◌++◌, drop}
 use Rattle.std.specs.List.{filter}
-use Rattle.wm_core.specs.declared.look.View.{View}
-use Rattle.wm_core.specs.declared.look.View.TheVariants as view
+use Rattle.wm_history.specs.declared.look.View.{View}
+use Rattle.wm_history.specs.declared.look.View.TheVariants as view
 use Rattle.wm_frames.specs.declared.message.Message.{Message}
 use Rattle.wm_json.specs.declared.views.EventBody.{EventBody}
 use Rattle.wm_json.specs.declared.views.EventView.{EventView}

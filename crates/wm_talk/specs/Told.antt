@@ -4,10 +4,10 @@ use Rattle.std.specs.List.{filter}
 use Rattle.std.specs.Str.{is_utf8}
 use Rattle.std.specs.Str.Lossy.{utf8_valid_len}
 use Rattle.json.specs.Print.{quoted}
-use Rattle.wm_core.specs.declared.look.Query.{Query}
-use Rattle.wm_core.specs.declared.look.View.{View}
-use Rattle.wm_core.specs.declared.look.View.TheVariants as view
-use Rattle.wm_core.specs.declared.step.Answer.TheVariants.{Replies}
+use Rattle.wm_history.specs.declared.look.Query.{Query}
+use Rattle.wm_history.specs.declared.look.View.{View}
+use Rattle.wm_history.specs.declared.look.View.TheVariants as view
+use Rattle.wm_history.specs.declared.step.Answer.TheVariants.{Replies}
 use Rattle.wm_frames.specs.declared.message.Message.{Message}
 use Rattle.wm_json.specs.Arrays.{texts_text}
 use Rattle.wm_json.specs.Events.{event_text}

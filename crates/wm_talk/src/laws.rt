@@ -1,11 +1,11 @@
 //! Laws of what a client is told over messages and readings of events, one after another.
 ghost use Rattle.std.specs.Prelude.{◌≡◌, ◌+◌, ◌≤◌, ◌++◌, ◌∷◌, [], ℕ, List, Some, length, map, true};
 ghost use Rattle.std.specs.List.{All};
-ghost use Rattle.wm_core.specs.Events.{events};
-ghost use Rattle.wm_core.specs.History.{History, Start};
-ghost use Rattle.wm_core.specs.Look.{look};
-ghost use Rattle.wm_core.specs.declared.look.Query.TheVariants as queries;
-ghost use Rattle.wm_core.specs.declared.look.View.{View};
+ghost use Rattle.wm_history.specs.Events.{events};
+ghost use Rattle.wm_history.specs.History.{History, Start};
+ghost use Rattle.wm_history.specs.Look.{look};
+ghost use Rattle.wm_history.specs.declared.look.Query.TheVariants as queries;
+ghost use Rattle.wm_history.specs.declared.look.View.{View};
 ghost use Rattle.wm_frames.specs.declared.message.Message.{Message};
 ghost use Rattle.wm_json.specs.declared.views.EventBody.{EventBody};
 ghost use Rattle.wm_talk.specs.Marks.{after_marks, AllAnswer, behind, events_at, events_in, events_over, Mark, read, Rise, told_over};

@@ -2,7 +2,7 @@
 use Rattle.std.proofs.Common.{◌≡◌, ◌∙◌, refl, ap, sym, subst, ℕ, ◌+◌, ◌-◌, get_or, ◌≤◌, List, [], ◌∷◌, ◌++◌, Option, None, Some, length, take, drop}
 use Rattle.wm_binds.specs.declared.config.Bind.{Bind}
 use Rattle.wm_core.specs.DeskValue.{DeskValue, Stands}
-use Rattle.wm_core.specs.History.{History, Start, opening_of}
+use Rattle.wm_history.specs.History.{History, Start, opening_of}
 use Rattle.wm_criteria.specs.Building.{Log}
 use Rattle.wm_script.specs.Out.{after, after_effect, steps_of, texts_from, texts_run, told}
 use Rattle.wm_script.specs.Refusals.{refusal_at}

@@ -4,7 +4,7 @@ use Rattle.std.proofs.lemmas.List.{take_all}
 use Rattle.std.specs.List.{AllByRecursion}
 use Rattle.wm_binds.specs.declared.config.Bind.{Bind}
 use Rattle.wm_core.specs.DeskValue.{DeskValue, Stands}
-use Rattle.wm_core.specs.History.{History, Start, opening_of}
+use Rattle.wm_history.specs.History.{History, Start, opening_of}
 use Rattle.wm_criteria.specs.Building.{Log}
 use Rattle.wm_script.specs.Out.{after, after_effect, effect_of, effect_text, effect_with, out_from, steps_of, texts_from, texts_run, told}
 use Rattle.wm_script.specs.Playing.{TellsLine}

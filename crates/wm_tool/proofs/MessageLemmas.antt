@@ -7,7 +7,7 @@ use Rattle.wm_layouts.specs.declared.plan.Env.{Env}
 use Rattle.wm_layouts.specs.Plan.{bare_env, default_outputs}
 use Rattle.wm_tree.specs.TreeValue.{TreeValue, opening}
 use Rattle.wm_core.specs.DeskValue.{DeskValue, Stands}
-use Rattle.wm_core.specs.History.{History, Start, answer, opening_of}
+use Rattle.wm_history.specs.History.{History, Start, answer, opening_of}
 use Rattle.wm_talk.specs.Calls.{call_of}
 use Rattle.wm_talk.specs.declared.calls.Call.{Call}
 use Rattle.wm_talk.specs.declared.calls.Call.TheVariants as call

@@ -15,7 +15,7 @@ use Rattle.wm_criteria.specs.declared.verdict.Verdict.TheVariants.{Ready, Bad, P
 use Rattle.wm_criteria.proofs.BuildingLemmas.{grew_both}
 use Rattle.wm_grammar.specs.Reading.{batch_of, groups_of}
 use Rattle.wm_binds.specs.declared.config.Bind.{Bind}
-use Rattle.wm_core.specs.History.{History, Start, mode}
+use Rattle.wm_history.specs.History.{History, Start, mode}
 use Rattle.wm_script.proofs.RefusalLemmas.{reach_is, reads_pattern}
 use Rattle.wm_script.specs.Out.{bound_text, last_bind, text_of_step, text_run, texts_run}
 use Rattle.wm_script.specs.Playing.{IsRefusal, pattern_of}

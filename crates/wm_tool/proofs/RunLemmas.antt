@@ -4,7 +4,7 @@ use Rattle.std.specs.Prelude.{IfErr, IfOk, IsErrAnd, OnErr, OnOk}
 use Rattle.std.proofs.lemmas.List.{append-nil, drop_all, take_all, take-append-drop}
 use Rattle.wm_core.specs.DeskValue.{DeskValue, Stands}
 use Rattle.wm_criteria.specs.Building.{Log}
-use Rattle.wm_core.specs.History.{History}
+use Rattle.wm_history.specs.History.{History}
 use Rattle.wm_ports.specs.Told.{TakesAll, TakesPart}
 use Rattle.wm_tool.specs.declared.replay.Stop.{Stop}
 use Rattle.wm_script.proofs.RefusalLemmas.{grew_none}
@@ -14,8 +14,8 @@ use Rattle.wm_script.specs.declared.refused.Refused.{Refused}
 use Rattle.wm_tool.specs.Ending.{HasStopped}
 use Rattle.wm_tool.specs.Output.{run_entry}
 use Rattle.wm_tool.specs.Running.{Finishes, Grows, Holds, IsBackedTo, Leads, Notes, Plays, Runs, Stops, Writes, fresh}
-use Rattle.wm_core.specs.Act.{Run, act_of}
-use Rattle.wm_core.specs.declared.step.Step.TheVariants as steps_of
+use Rattle.wm_history.specs.Act.{Run, act_of}
+use Rattle.wm_history.specs.declared.step.Step.TheVariants as steps_of
 use Rattle.wm_criteria.specs.declared.prepared.Prepared.{Prepared}
 use Rattle.wm_criteria.specs.Verdict.{IsVerdict}
 use Rattle.wm_tool.proofs.RefusalLemmas.{backed_more, keeps_noted, refusal_before, refusal_same, rising_weaker, verdict_is}

@@ -1,9 +1,9 @@
 -- What the tool draws for a script: the picture of the last frame.
 use Rattle.std.specs.Prelude.{ℕ, List, [], Result, Ok, Err}
 use Rattle.wm_binds.specs.declared.config.Bind.{Bind}
-use Rattle.wm_core.specs.Frame.{frame}
-use Rattle.wm_core.specs.History.{History, Start, opening_of}
-use Rattle.wm_core.specs.Screen.{screen}
+use Rattle.wm_history.specs.Frame.{frame}
+use Rattle.wm_history.specs.History.{History, Start, opening_of}
+use Rattle.wm_history.specs.Screen.{screen}
 use Rattle.wm_paint.specs.CanvasValue.{drawn, ppm}
 use Rattle.wm_script.specs.Out.{history_from}
 use Rattle.wm_script.specs.Script.{script}

@@ -1,6 +1,6 @@
 -- What the tool writes of the steps that a number makes.
 use Rattle.std.specs.Prelude.{◌≡◌, ℕ, List, [], Option}
-use Rattle.wm_core.specs.Look.{state}
+use Rattle.wm_history.specs.Look.{state}
 use Rattle.wm_generate.specs.Numbers.{numbers}
 use Rattle.wm_generate.specs.Steps.{history_of}
 use Rattle.wm_lines.specs.Told.{state_text}

@@ -1,11 +1,11 @@
 -- What the tool writes for a stream of i3-ipc frames.
 use Rattle.std.specs.Prelude.{ℕ, ◌<◌, ◌≤◌, ◌^◌, Bool, true, false, List, [], ◌∷◌, ◌++◌, Option, None, Some, length, ⊤}
-use Rattle.wm_core.specs.Act as acts
-use Rattle.wm_core.specs.declared.look.Query.TheVariants as query
-use Rattle.wm_core.specs.declared.look.View.{View}
-use Rattle.wm_core.specs.declared.look.View.TheVariants as view
-use Rattle.wm_core.specs.History.{Entry, History, Start, answer}
-use Rattle.wm_core.specs.Look.{look}
+use Rattle.wm_history.specs.Act as acts
+use Rattle.wm_history.specs.declared.look.Query.TheVariants as query
+use Rattle.wm_history.specs.declared.look.View.{View}
+use Rattle.wm_history.specs.declared.look.View.TheVariants as view
+use Rattle.wm_history.specs.History.{Entry, History, Start, answer}
+use Rattle.wm_history.specs.Look.{look}
 use Rattle.wm_frames.specs.declared.message.Message.{Message}
 use Rattle.wm_frames.specs.Reading.{messages}
 use Rattle.wm_talk.specs.declared.calls.Call.{Call}

@@ -1,7 +1,7 @@
 -- The opening of the standard plan, and the steps that run texts.
 use Rattle.std.specs.Prelude.{ℕ, List, [], ◌∷◌, length, Option, None, Some, codes}
 use Rattle.wm_base.specs.declared.plan.Border.TheVariants.{Bare}
-use Rattle.wm_core.specs.History.{Entry, History, Start}
+use Rattle.wm_history.specs.History.{Entry, History, Start}
 use Rattle.wm_layouts.specs.Plan.{bare_env, default_outputs}
 use Rattle.wm_script.specs.Out.{run_with}
 use Rattle.wm_script.specs.Refusals.{refusal_at}

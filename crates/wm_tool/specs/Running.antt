@@ -3,7 +3,7 @@ use Rattle.std.specs.Prelude.{◌≡◌, ℕ, ◌<◌, ◌≤◌, ◌+◌, ◌�
 use Rattle.std.specs.List.{AllByRecursion}
 use Rattle.wm_core.specs.DeskValue.{DeskValue, Stands}
 use Rattle.wm_binds.specs.declared.config.Bind.{Bind}
-use Rattle.wm_core.specs.History.{History, Start}
+use Rattle.wm_history.specs.History.{History, Start}
 use Rattle.wm_criteria.specs.Building.{Log}
 use Rattle.wm_criteria.specs.declared.prepared.Prepared.{Prepared}
 use Rattle.wm_criteria.specs.declared.verdict.Verdict.{Verdict}

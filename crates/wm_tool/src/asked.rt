@@ -1,9 +1,9 @@
 //! The call of a message is made on the desk, for caller 0.
 ghost use Rattle.std.specs.Prelude.{◌≡◌, ◌+◌, ◌<◌, ◌≤◌, ◌^◌, ◌∷◌, [], None, Some, IfOk, OnOk, length};
-ghost use Rattle.wm_core.specs.Act as acts;
+ghost use Rattle.wm_history.specs.Act as acts;
 ghost use Rattle.wm_core.specs.DeskValue.{Stands};
-ghost use Rattle.wm_core.specs.History.{answer, History, opening_of};
-ghost use Rattle.wm_core.specs.Look.{look};
+ghost use Rattle.wm_history.specs.History.{answer, History, opening_of};
+ghost use Rattle.wm_history.specs.Look.{look};
 ghost use Rattle.wm_talk.specs.declared.calls.Call.TheVariants as calls;
 ghost use Rattle.wm_talk.specs.declared.got.Got.TheVariants as gots;
 ghost use Rattle.wm_tool.specs.Ipc.{after_call, call_step, got_of, IsFitCall};

@@ -3,7 +3,7 @@ ghost use Rattle.std.specs.Prelude.{◌≡◌, ℕ, List, Option, ◌+◌, ◌<�
 ghost use Rattle.std.specs.List.{AllByRecursion};
 ghost use Rattle.wm_frames.specs.Frame.{IsShort};
 ghost use Rattle.wm_core.specs.DeskValue.{Stands};
-ghost use Rattle.wm_core.specs.History.{History, opening_of};
+ghost use Rattle.wm_history.specs.History.{History, opening_of};
 ghost use Rattle.wm_criteria.specs.Building.{Log};
 ghost use Rattle.wm_talk.specs.Frames.{frames};
 ghost use Rattle.wm_talk.specs.Talking.{after_reply, NEW};

@@ -1,7 +1,7 @@
 //! Texts are prepared and run on a desk, and it is noted which of their patterns were refused.
 ghost use Rattle.std.specs.Prelude.{◌≡◌, ◌++◌, ◌+◌, ◌<◌, ◌^◌, ◌∷◌, [], length, IfOk, IsTrue, None, OnOk, Some};
 ghost use Rattle.wm_core.specs.DeskValue.{Stands};
-ghost use Rattle.wm_core.specs.History.{answer, History, opening_of};
+ghost use Rattle.wm_history.specs.History.{answer, History, opening_of};
 ghost use Rattle.wm_criteria.specs.Building.{Grew};
 ghost use Rattle.wm_criteria.specs.Prepared.{is_built, refused_by};
 ghost use Rattle.wm_criteria.specs.Verdict.{IsVerdict};

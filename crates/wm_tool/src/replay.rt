@@ -2,7 +2,7 @@
 ghost use Rattle.std.specs.Prelude.{◌≡◌, ℕ, List, Option, ◌+◌, ◌<◌, ◌≤◌, ◌^◌, ◌++◌, [], None, IfErr, OnErr, OnOk, length, vec_capacity, vec_len};
 ghost use Rattle.std.specs.List.{AllByRecursion};
 ghost use Rattle.wm_core.specs.DeskValue.{Stands};
-ghost use Rattle.wm_core.specs.History.{History, opening_of};
+ghost use Rattle.wm_history.specs.History.{History, opening_of};
 ghost use Rattle.wm_criteria.specs.Building.{Log};
 ghost use Rattle.wm_defs.specs.Counts.{Rose};
 ghost use Rattle.wm_layouts.specs.Plan.{IsSound};

@@ -1,9 +1,9 @@
 //! What a client of i3-ipc is told: the frames of replies, and of the events that are read after each message.
 ghost use Rattle.std.specs.Prelude.{◌≡◌, ◌++◌, IfOk, OnOk};
 ghost use Rattle.wm_core.specs.DeskValue.{Stands};
-ghost use Rattle.wm_core.specs.History.{History, opening_of};
-ghost use Rattle.wm_core.specs.Look.{look};
-ghost use Rattle.wm_core.specs.declared.look.Query.TheVariants as queries;
+ghost use Rattle.wm_history.specs.History.{History, opening_of};
+ghost use Rattle.wm_history.specs.Look.{look};
+ghost use Rattle.wm_history.specs.declared.look.Query.TheVariants as queries;
 ghost use Rattle.wm_talk.specs.Talking.{after_reply};
 ghost use Rattle.wm_talk.specs.Told.{replied, told};
 ghost use Rattle.wm_talk.specs.Frames.{frames};

@@ -1,7 +1,7 @@
 //! Callers that open windows.
 ghost use Rattle.std.specs.Prelude.{IfOk};
 ghost use Rattle.wm_book.specs.Carried.{IsBack, IsReady};
-ghost use Rattle.wm_core.specs.Sizes.{IsFitStep};
+ghost use Rattle.wm_history.specs.Sizes.{IsFitStep};
 
 use crate::{Book, Kept};
 use std::alloc::{AllocError, Global};

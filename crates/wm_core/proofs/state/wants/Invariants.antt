@@ -1,6 +1,6 @@
 use Rattle.std.proofs.Common.{◌≡◌, ◌++◌, length}
-use Rattle.wm_core.specs.DeskValue.{kill_in}
-use Rattle.wm_core.specs.Look.{wants}
+use Rattle.wm_history.specs.Follows.{kill_in}
+use Rattle.wm_history.specs.Look.{wants}
 use Rattle.wm_txn.specs.Machine.{configured_of}
 use Rattle.wm_txn.specs.Windows.{find}
 use Rattle.wm_core.proofs.state.wants.Given as goal

@@ -9,7 +9,7 @@ use Rattle.wm_serve.proofs.RehearsalLemmas.{length_doors, rehearsed}
 use Rattle.wm_serve.specs.Once.{OnceState, once_told}
 use Rattle.wm_serve.specs.Rehearsed.{faults_of, told_of}
 use Rattle.wm_serve.specs.Running.{RanDesk}
-use Rattle.wm_core.specs.declared.step.Step.{Step}
+use Rattle.wm_history.specs.declared.step.Step.{Step}
 use Rattle.wm_turn.specs.declared.view.Entry.{Entry}
 use Rattle.wm_serve.proofs.rehearsing.rehearse.Goals as goal
 

@@ -3,7 +3,7 @@ use Rattle.std.proofs.lemmas.List.{take-append-drop}
 use Rattle.std.specs.Option.{is_some}
 use Rattle.wm_actors.specs.Pictured.{screen}
 use Rattle.wm_core.specs.Entries.{history_of}
-use Rattle.wm_core.specs.History.{opening_of}
+use Rattle.wm_history.specs.History.{opening_of}
 use Rattle.wm_serve.specs.Serving.{IsSummed}
 use Rattle.wm_serve.specs.Summary.{summary}
 use Rattle.wm_serve.proofs.DeskLemmas.{not_both, rehearsed_as}

@@ -3,7 +3,7 @@ use denote.Param.Send.{sendable}
 use Rattle.wm_actors.specs.Pictured.{screen}
 use Rattle.wm_book.proofs.DeskCrossing.{desk_send}
 use Rattle.wm_core.specs.Entries.{history_of}
-use Rattle.wm_core.specs.History.{opening_of}
+use Rattle.wm_history.specs.History.{opening_of}
 use Rattle.wm_crew.specs.Running.{outside}
 use Rattle.wm_serve.proofs.DeskLemmas.{ran_as}
 use Rattle.wm_serve.specs.Serving.{IsEnded}

@@ -1,6 +1,6 @@
 use Rattle.std.proofs.Common.{[], subst}
 use Rattle.std.specs.Prelude.{OnErr, OnOk}
-use Rattle.wm_core.specs.History.{opening_of}
+use Rattle.wm_history.specs.History.{opening_of}
 use Rattle.wm_script.specs.Out.{texts_from}
 use Rattle.wm_tool.specs.Drawing.{drawn_from}
 use Rattle.wm_tool.specs.Running.{Finishes, Stops}

@@ -1,5 +1,5 @@
 use Rattle.std.proofs.Common.{ap, refl, sym, subst}
-use Rattle.wm_core.specs.History.{opening_of}
+use Rattle.wm_history.specs.History.{opening_of}
 use Rattle.wm_ports.specs.Told.{TakesAll, TakesPart}
 use Rattle.wm_tool.specs.declared.replay.Stop.TheVariants.{NoMemory}
 use Rattle.wm_tool.proofs.DrawLemmas.{drawn_is}

@@ -1,5 +1,5 @@
 use Rattle.std.proofs.Common.{◌∙◌, ap, arith, subst}
-use Rattle.wm_core.specs.History.{opening_of}
+use Rattle.wm_history.specs.History.{opening_of}
 use Rattle.wm_script.specs.Out.{texts_from}
 use Rattle.wm_tool.specs.Drawing.{drawn_from}
 use Rattle.wm_script.specs.Script.{IsFitLine}

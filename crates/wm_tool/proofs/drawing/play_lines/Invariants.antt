@@ -1,6 +1,6 @@
 use Rattle.std.proofs.Common.{◌≡◌, ℕ, ◌+◌, ◌≤◌, List, Option, length}
 use Rattle.std.specs.List.{AllByRecursion}
-use Rattle.wm_core.specs.History.{opening_of}
+use Rattle.wm_history.specs.History.{opening_of}
 use Rattle.wm_criteria.specs.Building.{Log}
 use Rattle.wm_script.specs.Out.{texts_from}
 use Rattle.wm_script.specs.Script.{IsFitLine}

@@ -2,7 +2,7 @@ use Rattle.std.proofs.Common.{None, Some, [], ap, arith, length, refl, sym, subs
 use Rattle.wm_tool.specs.Planning.{IsPlain}
 use Rattle.std.specs.List.{AllByRecursion}
 use Rattle.wm_frames.specs.Frame.{IsShort}
-use Rattle.wm_core.specs.History.{opening_of}
+use Rattle.wm_history.specs.History.{opening_of}
 use Rattle.wm_ports.specs.Told.{TakesAll, TakesPart}
 use Rattle.wm_talk.specs.Calls.{call_of}
 use Rattle.wm_tool.specs.Ipc.{after_message, message_texts, replies_from, said, where_on}

@@ -2,7 +2,7 @@ use Rattle.std.proofs.Common.{◌≡◌, ◌∙◌, ◌∷◌, [], ◌++◌, Som
 use Rattle.std.specs.Prelude.{IfOk, OnOk}
 use Rattle.std.proofs.lemmas.List.{append-nil}
 use Rattle.wm_core.specs.DeskValue.{Stands}
-use Rattle.wm_core.specs.History.{answer, opening_of}
+use Rattle.wm_history.specs.History.{answer, opening_of}
 use Rattle.wm_core.proofs.StepLemmas.{goes_on}
 use Rattle.wm_tool.specs.Running.{fresh}
 use Rattle.wm_tool.proofs.RefusalLemmas.{keeps_noted, notes_verdict}

@@ -1,5 +1,5 @@
 use Rattle.std.proofs.Common.{arith, ◌≡◌, ◌++◌, refl, subst, sym}
-use Rattle.wm_core.specs.History.{opening_of}
+use Rattle.wm_history.specs.History.{opening_of}
 use Rattle.wm_script.specs.Out.{after, texts_run, told}
 use Rattle.wm_script.proofs.PlayLemmas.{short_binds}
 use Rattle.wm_tool.specs.Running.{Leads, noted_at}

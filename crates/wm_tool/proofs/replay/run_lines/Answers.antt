@@ -1,5 +1,5 @@
 use Rattle.std.proofs.Common.{◌-◌, ◌∙◌, ap, arith, drop, length, subst, take}
-use Rattle.wm_core.specs.History.{opening_of}
+use Rattle.wm_history.specs.History.{opening_of}
 use Rattle.wm_script.specs.Out.{out_from, texts_from}
 use Rattle.wm_script.specs.Script.{IsFitLine}
 use Rattle.wm_tool.specs.Running.{Plays}

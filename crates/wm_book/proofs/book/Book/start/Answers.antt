@@ -1,7 +1,7 @@
 use Rattle.std.proofs.Common.{subst, sym}
 use Rattle.std.specs.List.{All}
 use Rattle.wm_core.specs.declared.asked.Asked.{Asked}
-use Rattle.wm_core.specs.declared.step.Step.{Step}
+use Rattle.wm_history.specs.declared.step.Step.{Step}
 use Rattle.wm_turn.specs.Pass.{IsLegal}
 use Rattle.wm_book.proofs.SeatLemmas.{new_legal}
 use Rattle.wm_book.proofs.book.Book.start.Goals as goal

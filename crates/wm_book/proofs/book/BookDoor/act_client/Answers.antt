@@ -1,4 +1,4 @@
-use Rattle.wm_core.specs.declared.step.Step.TheVariants.{Client}
+use Rattle.wm_history.specs.declared.step.Step.TheVariants.{Client}
 use Rattle.wm_book.proofs.SeatLemmas.{most_steps, room, saw, took}
 use Rattle.wm_book.proofs.book.BookDoor.act_client.Goals as goal
 

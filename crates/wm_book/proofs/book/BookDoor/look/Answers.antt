@@ -1,5 +1,5 @@
 use Rattle.std.proofs.Common.{◌≡◌}
-use Rattle.wm_core.specs.Look.{look}
+use Rattle.wm_history.specs.Look.{look}
 use Rattle.wm_core.specs.declared.asked.Asked.TheVariants.{Query}
 use Rattle.wm_book.proofs.SeatLemmas.{looked, saw, sees}
 use Rattle.wm_book.proofs.book.BookDoor.look.Goals as goal

@@ -1,6 +1,6 @@
 use Rattle.std.proofs.Common.{ap, refl, ◌∙◌}
 use Rattle.wm_core.specs.Entries.{history_of}
-use Rattle.wm_core.specs.declared.step.Step.TheVariants.{Client}
+use Rattle.wm_history.specs.declared.step.Step.TheVariants.{Client}
 use Rattle.wm_core.proofs.StepLemmas.{goes_on}
 use Rattle.wm_book.proofs.RecordLemmas.{record_next}
 use Rattle.wm_book.specs.Recorded.{RecordedValue}

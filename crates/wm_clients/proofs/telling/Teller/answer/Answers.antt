@@ -3,7 +3,7 @@ use Rattle.wm_cut.specs.Lines.{behind_line}
 use Rattle.wm_clients.specs.Endings.{end_of_refusal}
 use Rattle.wm_clients.specs.Served.{stage}
 use Rattle.wm_clients.specs.Serving.{free_spot}
-use Rattle.wm_core.specs.Act.{act_of}
+use Rattle.wm_history.specs.Act.{act_of}
 use Rattle.wm_clients.proofs.EndLemmas.{counted_as, ends_as, ends_unread, not_answered, not_taken_by}
 use Rattle.wm_clients.proofs.GoingLemmas.{going_answered}
 use Rattle.wm_clients.proofs.telling.Teller.answer.Goals as goal

@@ -1,11 +1,11 @@
 use Rattle.std.proofs.Common.{◌≡◌, true, false, refl, sym, ap, ◌∙◌}
 use Rattle.wm_txn.specs.History as commits
-use Rattle.wm_core.specs.Act.{Ack}
+use Rattle.wm_history.specs.Act.{Ack}
 use Rattle.wm_core.specs.DeskValue.{DeskValue, StandsFrom}
-use Rattle.wm_core.specs.Effect.{Judge, ack_said, telling}
-use Rattle.wm_core.specs.History.{Entry, done_by}
-use Rattle.wm_core.specs.Windows.{is_window}
-use Rattle.wm_core.specs.declared.step.Answer.{Answer}
+use Rattle.wm_history.specs.Effect.{Judge, ack_said, telling}
+use Rattle.wm_history.specs.History.{Entry, done_by}
+use Rattle.wm_history.specs.Windows.{is_window}
+use Rattle.wm_history.specs.declared.step.Answer.{Answer}
 use Rattle.wm_core.proofs.StandsLemmas.{answered, stands_told, there_by}
 use Rattle.wm_core.proofs.desk.Desk.ack.Goals as goal
 

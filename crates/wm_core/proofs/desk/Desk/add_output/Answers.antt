@@ -6,11 +6,11 @@ use Rattle.wm_opens.proofs.SpaceLemmas.{kept_output_added}
 use Rattle.wm_tree.specs.Outputs.{passed_by_output}
 use Rattle.wm_tree.specs.TreeValue.{TreeValue}
 use Rattle.wm_tree.specs.Words.{settled}
-use Rattle.wm_core.specs.Act.{OutputAdd}
+use Rattle.wm_history.specs.Act.{OutputAdd}
 use Rattle.wm_core.specs.DeskValue.{DeskValue}
-use Rattle.wm_core.specs.Effect.{leaving}
-use Rattle.wm_core.specs.declared.step.Answer.TheVariants.{Done}
-use Rattle.wm_core.proofs.FollowLemmas.{follows_made}
+use Rattle.wm_history.specs.Effect.{leaving}
+use Rattle.wm_history.specs.declared.step.Answer.TheVariants.{Done}
+use Rattle.wm_history.proofs.FollowLemmas.{follows_made}
 use Rattle.wm_core.proofs.StepLemmas.{has_limit, has_room, is_added, never_taken, not_added, taken}
 use Rattle.wm_core.proofs.desk.Desk.add_output.Goals as goal
 

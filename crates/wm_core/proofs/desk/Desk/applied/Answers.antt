@@ -1,6 +1,6 @@
 use Rattle.std.proofs.Common.{◌≡◌, ◌∙◌, map, None, ap, sym}
-use Rattle.wm_core.specs.Effect.{changing, reply_to}
-use Rattle.wm_core.specs.declared.step.Answer.TheVariants.{Replies}
+use Rattle.wm_history.specs.Effect.{changing, reply_to}
+use Rattle.wm_history.specs.declared.step.Answer.TheVariants.{Replies}
 use Rattle.wm_core.proofs.desk.Desk.applied.Goals as goal
 
 pub returns-in-Ok : goal.returns-in-Ok

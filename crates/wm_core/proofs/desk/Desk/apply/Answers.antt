@@ -2,10 +2,10 @@ use Rattle.std.proofs.Common.{rules, ◌≡◌, map, None, ap, ap₂, sym, ◌�
 use Rattle.wm_apply.specs.Batches.{Outcome, outcome}
 use Rattle.wm_opens.proofs.CommandLemmas.{kept_outcome}
 use Rattle.wm_core.specs.DeskValue.{DeskValue}
-use Rattle.wm_core.specs.Effect.{changing, reply_to}
-use Rattle.wm_core.specs.History.{done_by}
-use Rattle.wm_core.specs.declared.step.Answer.TheVariants.{Replies}
-use Rattle.wm_core.proofs.FollowLemmas.{follows_made}
+use Rattle.wm_history.specs.Effect.{changing, reply_to}
+use Rattle.wm_history.specs.History.{done_by}
+use Rattle.wm_history.specs.declared.step.Answer.TheVariants.{Replies}
+use Rattle.wm_history.proofs.FollowLemmas.{follows_made}
 use Rattle.wm_core.proofs.desk.Desk.apply.Goals as goal
 
 pub returns-in-Ok : goal.returns-in-Ok

@@ -1,5 +1,5 @@
 use Rattle.std.proofs.Common.{arith}
-use Rattle.wm_core.proofs.OpenLemmas.{window_con}
+use Rattle.wm_history.proofs.OpenLemmas.{window_con}
 use Rattle.wm_core.proofs.desk.Desk.change_to.Goals as goal
 
 -- a tree has at most 4,096 windows

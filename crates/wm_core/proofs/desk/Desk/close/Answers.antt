@@ -1,12 +1,12 @@
 use Rattle.std.proofs.Common.{◌≡◌, true, false, [], ◌∷◌, None, ap, refl, sym, ◌∙◌}
 use Rattle.wm_tree.specs.Words.{settled}
-use Rattle.wm_core.specs.Act.{Close}
+use Rattle.wm_history.specs.Act.{Close}
 use Rattle.wm_core.specs.DeskValue.{DeskValue}
-use Rattle.wm_core.specs.Effect.{leaving}
-use Rattle.wm_core.specs.Windows.{is_window, without_windows}
-use Rattle.wm_core.specs.declared.step.Answer.TheVariants.{Done}
-use Rattle.wm_core.proofs.FollowLemmas.{follows_made}
-use Rattle.wm_core.proofs.GoneLemmas.{kept_without}
+use Rattle.wm_history.specs.Effect.{leaving}
+use Rattle.wm_history.specs.Windows.{is_window, without_windows}
+use Rattle.wm_history.specs.declared.step.Answer.TheVariants.{Done}
+use Rattle.wm_history.proofs.FollowLemmas.{follows_made}
+use Rattle.wm_history.proofs.GoneLemmas.{kept_without}
 use Rattle.wm_core.proofs.StepLemmas.{taken}
 use Rattle.wm_core.proofs.desk.Desk.close.Goals as goal
 

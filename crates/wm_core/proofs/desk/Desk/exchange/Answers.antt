@@ -6,14 +6,15 @@ use Rattle.wm_arrange.specs.declared.parts.Placed.{Placed}
 use Rattle.wm_base.specs.declared.ids.ConId.{ConId}
 use Rattle.wm_txn.specs.History as commits
 use Rattle.wm_txn.specs.Stands as transactions
-use Rattle.wm_core.specs.DeskValue.{AreOwners, DeskValue, Follows, StandsFrom, kill_after, kill_in, may_come}
+use Rattle.wm_core.specs.DeskValue.{DeskValue, StandsFrom, may_come}
+use Rattle.wm_history.specs.Follows.{AreOwners, Follows, kill_after, kill_in}
 use Rattle.wm_changes.specs.Changes.{changes}
 use Rattle.wm_kept.specs.Log.{kept_of}
-use Rattle.wm_core.specs.Effect.{changing, closed, mode_after}
-use Rattle.wm_core.specs.Events.{IsToldOn, later_events}
-use Rattle.wm_core.proofs.EventLemmas.{told_both}
-use Rattle.wm_core.specs.History.{done_by, entries, first}
-use Rattle.wm_core.proofs.OwnerLemmas.{owners_after, owners_again}
+use Rattle.wm_history.specs.Effect.{changing, closed, mode_after}
+use Rattle.wm_history.specs.Events.{IsToldOn, later_events}
+use Rattle.wm_history.proofs.EventLemmas.{told_both}
+use Rattle.wm_history.specs.History.{done_by, entries, first}
+use Rattle.wm_history.proofs.OwnerLemmas.{owners_after, owners_again}
 use Rattle.wm_core.proofs.StandsLemmas.{fits, not_gone, place, stands_left}
 use Rattle.wm_core.proofs.desk.Desk.exchange.Goals as goal
 

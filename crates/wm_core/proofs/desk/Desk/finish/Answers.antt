@@ -2,10 +2,10 @@ use Rattle.std.proofs.Common.{rules, None, ap, subst, sym, ◌∙◌}
 use Rattle.wm_opens.proofs.KeptLemmas.{kept_settled}
 use Rattle.wm_tree.proofs.SettleLemmas.{sound-settled}
 use Rattle.wm_tree.specs.Words.{settled}
-use Rattle.wm_core.specs.DeskValue.{Follows}
-use Rattle.wm_core.specs.Effect.{leaving}
-use Rattle.wm_core.specs.declared.step.Answer.TheVariants.{Done}
-use Rattle.wm_core.proofs.FollowLemmas.{follows_then}
+use Rattle.wm_history.specs.Follows.{Follows}
+use Rattle.wm_history.specs.Effect.{leaving}
+use Rattle.wm_history.specs.declared.step.Answer.TheVariants.{Done}
+use Rattle.wm_history.proofs.FollowLemmas.{follows_then}
 use Rattle.wm_core.proofs.StandsLemmas.{answered, there_by}
 use Rattle.wm_core.proofs.StepLemmas.{answered_alone, none_answered}
 use Rattle.wm_core.proofs.desk.Desk.finish.Goals as goal

@@ -4,8 +4,8 @@ use Rattle.wm_txn.specs.Accepted.{accepted}
 use Rattle.wm_txn.specs.Machine.{shown_of}
 use Rattle.wm_txn.specs.Stands as transactions
 use Rattle.wm_core.specs.DeskValue.{DeskValue}
-use Rattle.wm_core.specs.Frame.{quads}
-use Rattle.wm_core.specs.History.{entries, first}
+use Rattle.wm_history.specs.Frame.{quads}
+use Rattle.wm_history.specs.History.{entries, first}
 use Rattle.wm_core.proofs.StandsLemmas.{quads_same}
 use Rattle.wm_core.proofs.desk.Desk.frame.Goals as goal
 

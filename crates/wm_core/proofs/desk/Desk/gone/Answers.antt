@@ -1,12 +1,12 @@
 use Rattle.std.proofs.Common.{None, ap, subst, sym, ◌∙◌}
 use Rattle.wm_tree.specs.Words.{settled}
-use Rattle.wm_core.specs.Act.{Gone}
+use Rattle.wm_history.specs.Act.{Gone}
 use Rattle.wm_core.specs.DeskValue.{DeskValue}
-use Rattle.wm_core.specs.Effect.{leaving}
-use Rattle.wm_core.specs.declared.step.Answer.TheVariants.{Done}
-use Rattle.wm_core.specs.Windows.{AreContainers, owned, without_windows}
-use Rattle.wm_core.proofs.FollowLemmas.{follows_made}
-use Rattle.wm_core.proofs.GoneLemmas.{kept_without, owned_containers}
+use Rattle.wm_history.specs.Effect.{leaving}
+use Rattle.wm_history.specs.declared.step.Answer.TheVariants.{Done}
+use Rattle.wm_history.specs.Windows.{AreContainers, owned, without_windows}
+use Rattle.wm_history.proofs.FollowLemmas.{follows_made}
+use Rattle.wm_history.proofs.GoneLemmas.{kept_without, owned_containers}
 use Rattle.wm_core.proofs.desk.Desk.gone.Goals as goal
 
 -- the windows of the caller are containers

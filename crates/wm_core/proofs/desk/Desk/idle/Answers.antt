@@ -2,7 +2,7 @@ use Rattle.std.proofs.Common.{◌≡◌, None, ap, sym, ◌∙◌}
 use Rattle.wm_apply.specs.Batches.{Outcome, outcome}
 use Rattle.wm_criteria.specs.declared.verdict.Verdict.TheVariants.{Ready}
 use Rattle.wm_core.specs.DeskValue.{DeskValue}
-use Rattle.wm_core.specs.Effect.{idled}
+use Rattle.wm_history.specs.Effect.{idled}
 use Rattle.wm_core.proofs.desk.Desk.idle.Goals as goal
 
 pub returns-in-Ok : goal.returns-in-Ok

@@ -1,8 +1,8 @@
 use Rattle.std.proofs.Common.{◌≡◌, ◌≤◌, List, length, map, ap, subst, sym, ◌∙◌}
 use Rattle.wm_json.specs.declared.views.EventBody.{EventBody}
-use Rattle.wm_core.specs.Effect.{passing, reply_to}
-use Rattle.wm_core.specs.declared.step.Answer.TheVariants.{Replies}
-use Rattle.wm_core.proofs.EventLemmas.{few_later}
+use Rattle.wm_history.specs.Effect.{passing, reply_to}
+use Rattle.wm_history.specs.declared.step.Answer.TheVariants.{Replies}
+use Rattle.wm_history.proofs.EventLemmas.{few_later}
 use Rattle.wm_core.proofs.StepLemmas.{taken}
 use Rattle.wm_core.proofs.desk.Desk.idled.Goals as goal
 

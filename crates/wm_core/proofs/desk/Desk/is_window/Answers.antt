@@ -1,8 +1,8 @@
 use Rattle.std.proofs.Common.{◌≡◌, Bool, true, false, refl, ap, sym, ◌∙◌}
 use Rattle.std.specs.Bool.{OnTrue}
 use Rattle.wm_core.specs.DeskValue.{DeskValue}
-use Rattle.wm_core.specs.Windows.{is_caller, is_window}
-use Rattle.wm_core.proofs.OwnerLemmas.{window_there}
+use Rattle.wm_history.specs.Windows.{is_caller, is_window}
+use Rattle.wm_history.proofs.OwnerLemmas.{window_there}
 use Rattle.wm_core.proofs.desk.Desk.is_window.Goals as goal
 
 on_true : {P : Type 0} (b : Bool) → (b ≡ true → P) → OnTrue b P

@@ -1,9 +1,9 @@
 use Rattle.std.proofs.Common.{◌≡◌, ◌∙◌, None, Some, ap, sym, map}
-use Rattle.wm_core.specs.Act.{Key, choice_of}
+use Rattle.wm_history.specs.Act.{Key, choice_of}
 use Rattle.wm_core.specs.DeskValue.{DeskValue}
-use Rattle.wm_core.specs.Effect.{key_effect, run_effect}
-use Rattle.wm_core.specs.History.{Entry}
-use Rattle.wm_core.specs.Keys.{bound, chosen}
+use Rattle.wm_history.specs.Effect.{key_effect, run_effect}
+use Rattle.wm_history.specs.History.{Entry}
+use Rattle.wm_history.specs.Keys.{bound, chosen}
 use Rattle.wm_core.proofs.StepLemmas.{taken}
 use Rattle.wm_core.proofs.desk.Desk.key.Goals as goal
 

@@ -4,7 +4,7 @@ use Rattle.wm_arrange.specs.Arranged.{arranged}
 use Rattle.wm_tree.specs.TreeValue.{TreeValue}
 use Rattle.wm_views.specs.Nodes.{tree_view}
 use Rattle.wm_views.specs.Workspaces.{workspaces_view}
-use Rattle.wm_core.specs.declared.look.View.TheVariants as views
+use Rattle.wm_history.specs.declared.look.View.TheVariants as views
 use Rattle.wm_core.proofs.desk.Desk.look.Goals as goal
 
 pub returns-in-Tree : goal.returns-in-Tree

@@ -1,12 +1,13 @@
 use Rattle.std.proofs.Common.{rules, ◌≡◌, true, false, Some, None, ap, ap₂, ◌∙◌, refl, sym, subst}
 use Rattle.wm_tree.specs.Sound.{IsSound}
 use Rattle.wm_tree.specs.TreeValue.{TreeValue}
-use Rattle.wm_core.specs.Act.{Map, text_if_some}
-use Rattle.wm_core.specs.DeskValue.{DeskValue, Follows}
-use Rattle.wm_core.specs.Effect.{has_no_pixels, limit_of, mapped, mapped_id, opened, refused, then_outcome}
-use Rattle.wm_core.specs.History.{Entry, done_by}
-use Rattle.wm_core.specs.declared.step.Answer.TheVariants.{Full}
-use Rattle.wm_core.proofs.MapLemmas.{follows_window}
+use Rattle.wm_history.specs.Act.{Map, text_if_some}
+use Rattle.wm_core.specs.DeskValue.{DeskValue}
+use Rattle.wm_history.specs.Follows.{Follows}
+use Rattle.wm_history.specs.Effect.{has_no_pixels, limit_of, mapped, mapped_id, opened, refused, then_outcome}
+use Rattle.wm_history.specs.History.{Entry, done_by}
+use Rattle.wm_history.specs.declared.step.Answer.TheVariants.{Full}
+use Rattle.wm_history.proofs.MapLemmas.{follows_window}
 use Rattle.wm_core.proofs.StepLemmas.{taken}
 use Rattle.wm_core.proofs.desk.Desk.map.Goals as goal
 

@@ -1,10 +1,10 @@
 use Rattle.std.proofs.Common.{◌≡◌, Some, subst, sym}
 use Rattle.wm_tree.specs.Sound.{IsSound}
-use Rattle.wm_core.specs.Act.{text_if_some}
-use Rattle.wm_core.specs.DeskValue.{Follows}
-use Rattle.wm_core.specs.Effect.{then_outcome}
-use Rattle.wm_core.proofs.FollowLemmas.{follows_then}
-use Rattle.wm_core.proofs.MapLemmas.{kept_then}
+use Rattle.wm_history.specs.Act.{text_if_some}
+use Rattle.wm_history.specs.Follows.{Follows}
+use Rattle.wm_history.specs.Effect.{then_outcome}
+use Rattle.wm_history.proofs.FollowLemmas.{follows_then}
+use Rattle.wm_history.proofs.MapLemmas.{kept_then}
 use Rattle.wm_core.proofs.desk.Desk.open_with.Goals as goal
 
 -- the text that the map brings opens no other window

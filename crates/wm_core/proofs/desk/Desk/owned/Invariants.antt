@@ -1,5 +1,5 @@
 use Rattle.std.proofs.Common.{◌≡◌, ◌++◌, filter, length}
-use Rattle.wm_core.specs.Windows.{is_window}
+use Rattle.wm_history.specs.Windows.{is_window}
 use Rattle.wm_core.proofs.desk.Desk.owned.Given as goal
 
 -- the windows so far and those of the rest are those of all

@@ -1,9 +1,9 @@
 use Rattle.std.proofs.Common.{◌≡◌, ◌∙◌, ap, ◌+◌, ℕ, List, ◌∷◌, ◌++◌, Bool, refl, subst, sym}
 use Rattle.wm_kept.specs.Log.{kept_of}
 use Rattle.wm_core.specs.DeskValue.{DeskValue, StandsFrom}
-use Rattle.wm_core.specs.Effect.{mode_after, passing}
-use Rattle.wm_core.specs.Events.{IsToldOn, later_events}
-use Rattle.wm_core.specs.History.{done_by}
+use Rattle.wm_history.specs.Effect.{mode_after, passing}
+use Rattle.wm_history.specs.Events.{IsToldOn, later_events}
+use Rattle.wm_history.specs.History.{done_by}
 use Rattle.wm_core.proofs.StandsLemmas.{answered, stands_passed, there_by}
 use Rattle.wm_core.proofs.desk.Desk.pass.Goals as goal
 

@@ -4,8 +4,8 @@ use Rattle.wm_changes.specs.Changes.{changes}
 use Rattle.wm_changes.proofs.FewLemmas.{few}
 use Rattle.wm_txn.specs.Stands as transactions
 use Rattle.wm_core.specs.DeskValue.{DeskValue}
-use Rattle.wm_core.specs.History.{entries, first}
-use Rattle.wm_core.proofs.BeginningLemmas.{arrangement_is}
+use Rattle.wm_history.specs.History.{entries, first}
+use Rattle.wm_history.proofs.BeginningLemmas.{arrangement_is}
 use Rattle.wm_core.proofs.desk.Desk.rearrange.Goals as goal
 
 -- the newest arrangement is that of the tree

@@ -1,12 +1,12 @@
 use Rattle.std.proofs.Common.{◌≡◌, None, ap, sym, ◌∙◌}
-use Rattle.wm_core.specs.Act.{OutputRemove}
+use Rattle.wm_history.specs.Act.{OutputRemove}
 use Rattle.wm_opens.proofs.SpaceLemmas.{kept_output_removed}
 use Rattle.wm_spaces.specs.Coming.{output_removed_refusal, output_removed_tree}
 use Rattle.wm_tree.specs.Words.{settled}
 use Rattle.wm_core.specs.DeskValue.{DeskValue}
-use Rattle.wm_core.specs.Effect.{leaving}
-use Rattle.wm_core.specs.declared.step.Answer.TheVariants.{Done}
-use Rattle.wm_core.proofs.FollowLemmas.{follows_made}
+use Rattle.wm_history.specs.Effect.{leaving}
+use Rattle.wm_history.specs.declared.step.Answer.TheVariants.{Done}
+use Rattle.wm_history.proofs.FollowLemmas.{follows_made}
 use Rattle.wm_core.proofs.StepLemmas.{is_removed, not_removed, taken}
 use Rattle.wm_core.proofs.desk.Desk.remove_output.Goals as goal
 

@@ -1,6 +1,6 @@
 use Rattle.std.proofs.Common.{None, false, ap, sym, ◌∙◌}
-use Rattle.wm_core.specs.Effect.{passing}
-use Rattle.wm_core.specs.declared.step.Answer.TheVariants.{Replies}
+use Rattle.wm_history.specs.Effect.{passing}
+use Rattle.wm_history.specs.declared.step.Answer.TheVariants.{Replies}
 use Rattle.wm_core.proofs.desk.Desk.reply.Goals as goal
 
 pub returns-in-Ok : goal.returns-in-Ok

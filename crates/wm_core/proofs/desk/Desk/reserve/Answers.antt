@@ -1,14 +1,14 @@
 use Rattle.std.proofs.Common.{◌≡◌, Option, Some, None, ap, refl, sym, ◌∙◌}
 use Rattle.wm_base.specs.declared.ids.ConId.{ConId}
 use Rattle.wm_spaces.specs.Names.{output_named}
-use Rattle.wm_core.specs.Act.{Reserve}
+use Rattle.wm_history.specs.Act.{Reserve}
 use Rattle.wm_opens.proofs.KeptLemmas.{kept_edited}
 use Rattle.wm_forest.specs.declared.kind.KindEdit.TheVariants as edits
 use Rattle.wm_tree.specs.Words.{edited, settled}
 use Rattle.wm_core.specs.DeskValue.{DeskValue}
-use Rattle.wm_core.specs.Effect.{leaving}
-use Rattle.wm_core.specs.declared.step.Answer.TheVariants.{Done}
-use Rattle.wm_core.proofs.FollowLemmas.{follows_made}
+use Rattle.wm_history.specs.Effect.{leaving}
+use Rattle.wm_history.specs.declared.step.Answer.TheVariants.{Done}
+use Rattle.wm_history.proofs.FollowLemmas.{follows_made}
 use Rattle.wm_core.proofs.StepLemmas.{taken}
 use Rattle.wm_core.proofs.desk.Desk.reserve.Goals as goal
 

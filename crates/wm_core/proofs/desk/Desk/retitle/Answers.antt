@@ -1,13 +1,13 @@
 use Rattle.std.proofs.Common.{◌≡◌, true, false, None, ap, ap₂, refl, sym, ◌∙◌}
-use Rattle.wm_core.specs.Act.{Retitle}
+use Rattle.wm_history.specs.Act.{Retitle}
 use Rattle.wm_opens.proofs.KeptLemmas.{kept_edited}
 use Rattle.wm_forest.specs.declared.kind.KindEdit.TheVariants as edits
 use Rattle.wm_tree.specs.Words.{edited, settled}
 use Rattle.wm_core.specs.DeskValue.{DeskValue}
-use Rattle.wm_core.specs.Effect.{leaving}
-use Rattle.wm_core.specs.declared.step.Answer.TheVariants.{Done}
-use Rattle.wm_core.proofs.FollowLemmas.{follows_made}
-use Rattle.wm_core.specs.Windows.{is_window}
+use Rattle.wm_history.specs.Effect.{leaving}
+use Rattle.wm_history.specs.declared.step.Answer.TheVariants.{Done}
+use Rattle.wm_history.proofs.FollowLemmas.{follows_made}
+use Rattle.wm_history.specs.Windows.{is_window}
 use Rattle.wm_core.proofs.StepLemmas.{taken}
 use Rattle.wm_core.proofs.desk.Desk.retitle.Goals as goal
 

@@ -1,5 +1,5 @@
 use Rattle.std.proofs.Common.{refl}
-use Rattle.wm_core.specs.Act.{Run, text_of}
+use Rattle.wm_history.specs.Act.{Run, text_of}
 use Rattle.wm_core.proofs.desk.Desk.run.Goals as goal
 
 pub returns : goal.returns

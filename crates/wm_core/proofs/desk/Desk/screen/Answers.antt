@@ -1,8 +1,8 @@
 use Rattle.std.proofs.Common.{ap, subst, sym, ◌∙◌}
 use Rattle.wm_paint.specs.CanvasValue.{IsArea}
 use Rattle.wm_core.specs.DeskValue.{DeskValue, StandsFrom}
-use Rattle.wm_core.specs.History.{entries, first}
-use Rattle.wm_core.specs.Screen.{first_back}
+use Rattle.wm_history.specs.History.{entries, first}
+use Rattle.wm_history.specs.Screen.{first_back}
 use Rattle.wm_core.proofs.ScreenLemmas.{screen_area, screen_is}
 use Rattle.wm_core.proofs.desk.Desk.screen.Goals as goal
 

@@ -1,5 +1,5 @@
 use Rattle.std.proofs.Common.{ap, ◌∙◌}
-use Rattle.wm_core.specs.declared.look.View.TheVariants as views
+use Rattle.wm_history.specs.declared.look.View.TheVariants as views
 use Rattle.wm_core.proofs.StandsLemmas.{wants_seen}
 use Rattle.wm_core.proofs.desk.Desk.see_wants.Goals as goal
 

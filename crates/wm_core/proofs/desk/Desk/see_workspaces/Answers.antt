@@ -3,9 +3,9 @@ use Rattle.wm_arrange.specs.Arranged.{arranged}
 use Rattle.wm_txn.specs.Stands as transactions
 use Rattle.wm_views.specs.Workspaces.{workspaces_view}
 use Rattle.wm_core.specs.DeskValue.{DeskValue}
-use Rattle.wm_core.specs.History.{entries, first}
-use Rattle.wm_core.specs.declared.look.View.TheVariants as views
-use Rattle.wm_core.proofs.BeginningLemmas.{arrangement_is}
+use Rattle.wm_history.specs.History.{entries, first}
+use Rattle.wm_history.specs.declared.look.View.TheVariants as views
+use Rattle.wm_history.proofs.BeginningLemmas.{arrangement_is}
 use Rattle.wm_core.proofs.desk.Desk.see_workspaces.Goals as goal
 
 -- the newest arrangement is that of the tree

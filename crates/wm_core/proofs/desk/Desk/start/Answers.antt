@@ -1,6 +1,6 @@
 use Rattle.std.proofs.Common.{arith, ap}
 use Rattle.wm_kept.specs.Log.{Log}
-use Rattle.wm_core.proofs.OwnerLemmas.{no_owners}
+use Rattle.wm_history.proofs.OwnerLemmas.{no_owners}
 use Rattle.wm_core.proofs.StandsLemmas.{opens_no_window, stands_start}
 use Rattle.wm_core.proofs.desk.Desk.start.Goals as goal
 

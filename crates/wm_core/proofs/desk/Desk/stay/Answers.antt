@@ -1,7 +1,7 @@
 use Rattle.std.proofs.Common.{◌≡◌, refl}
 use Rattle.wm_core.specs.DeskValue.{DeskValue}
-use Rattle.wm_core.specs.Effect.{refused}
-use Rattle.wm_core.specs.History.{done_by}
+use Rattle.wm_history.specs.Effect.{refused}
+use Rattle.wm_history.specs.History.{done_by}
 use Rattle.wm_core.proofs.StandsLemmas.{answered, stands_counted, there_by}
 use Rattle.wm_core.proofs.desk.Desk.stay.Goals as goal
 

@@ -1,8 +1,8 @@
 use Rattle.std.proofs.Common.{◌≡◌, ◌++◌, Err, Ok, ap, refl, subst, sym, ◌∙◌}
 use Rattle.wm_kept.specs.Log.{Log, kept_of}
 use Rattle.wm_core.specs.DeskValue.{DeskValue, in_mode}
-use Rattle.wm_core.specs.Effect.{changing, mode_after}
-use Rattle.wm_core.specs.Events.{IsToldOn, later_events}
+use Rattle.wm_history.specs.Effect.{changing, mode_after}
+use Rattle.wm_history.specs.Events.{IsToldOn, later_events}
 use Rattle.wm_core.specs.Steps.{Takes}
 use Rattle.wm_core.proofs.StandsLemmas.{answered, there_by}
 use Rattle.wm_core.proofs.StepLemmas.{answered_after, none_answered}

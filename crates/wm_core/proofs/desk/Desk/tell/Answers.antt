@@ -1,6 +1,6 @@
 use Rattle.std.proofs.Common.{◌≡◌, ◌∙◌, None, false, ap}
 use Rattle.wm_core.specs.DeskValue.{DeskValue}
-use Rattle.wm_core.specs.Events.{later_events}
+use Rattle.wm_history.specs.Events.{later_events}
 use Rattle.wm_core.proofs.StepLemmas.{taken}
 use Rattle.wm_core.proofs.desk.Desk.tell.Goals as goal
 

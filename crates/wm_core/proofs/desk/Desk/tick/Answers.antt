@@ -1,8 +1,8 @@
 use Rattle.std.proofs.Common.{◌≡◌, None, Some, false, ap, sym}
 use Rattle.wm_json.specs.declared.views.EventBody.TheVariants as body
-use Rattle.wm_core.specs.Act.{Tick}
-use Rattle.wm_core.specs.Effect.{passing}
-use Rattle.wm_core.specs.declared.step.Answer.TheVariants.{Done}
+use Rattle.wm_history.specs.Act.{Tick}
+use Rattle.wm_history.specs.Effect.{passing}
+use Rattle.wm_history.specs.declared.step.Answer.TheVariants.{Done}
 use Rattle.wm_core.proofs.desk.Desk.tick.Goals as goal
 
 -- a tick leaves the desk alone

@@ -1,10 +1,10 @@
 use Rattle.std.proofs.Common.{refl}
 use Rattle.wm_txn.specs.History as commits
-use Rattle.wm_core.specs.Act.{Deadline}
+use Rattle.wm_history.specs.Act.{Deadline}
 use Rattle.wm_core.specs.DeskValue.{DeskValue, StandsFrom}
-use Rattle.wm_core.specs.Effect.{telling}
-use Rattle.wm_core.specs.History.{Entry}
-use Rattle.wm_core.specs.declared.step.Answer.TheVariants.{Done}
+use Rattle.wm_history.specs.Effect.{telling}
+use Rattle.wm_history.specs.History.{Entry}
+use Rattle.wm_history.specs.declared.step.Answer.TheVariants.{Done}
 use Rattle.wm_core.proofs.StandsLemmas.{answered, place, stands_told}
 use Rattle.wm_core.proofs.desk.Desk.time_out.Goals as goal
 

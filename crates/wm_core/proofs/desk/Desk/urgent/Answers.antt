@@ -1,14 +1,14 @@
 use Rattle.std.proofs.Common.{◌≡◌, Bool, true, false, cond, [], ◌∷◌, ◌++◌, None, ap, refl, sym, ◌∙◌}
-use Rattle.wm_core.specs.Act.{Urgent}
+use Rattle.wm_history.specs.Act.{Urgent}
 use Rattle.wm_opens.proofs.KeptLemmas.{Kept, kept_nodes}
 use Rattle.wm_forest.specs.Recency.{lists}
 use Rattle.wm_tree.specs.TreeValue.{TreeValue}
 use Rattle.wm_tree.specs.Words.{settled}
 use Rattle.wm_core.specs.DeskValue.{DeskValue}
-use Rattle.wm_core.specs.Effect.{leaving}
-use Rattle.wm_core.specs.declared.step.Answer.TheVariants.{Done}
-use Rattle.wm_core.proofs.FollowLemmas.{follows_made}
-use Rattle.wm_core.specs.Windows.{is_window, with_urgent, without_urgent}
+use Rattle.wm_history.specs.Effect.{leaving}
+use Rattle.wm_history.specs.declared.step.Answer.TheVariants.{Done}
+use Rattle.wm_history.proofs.FollowLemmas.{follows_made}
+use Rattle.wm_history.specs.Windows.{is_window, with_urgent, without_urgent}
 use Rattle.wm_base.specs.declared.ids.ConId.{ConId}
 use Rattle.wm_core.proofs.StepLemmas.{taken}
 use Rattle.wm_core.proofs.desk.Desk.urgent.Goals as goal

@@ -1,7 +1,0 @@
-use Rattle.std.proofs.Common.{◌≡◌, map, take}
-use Rattle.wm_core.specs.Effect.{reply_to}
-use Rattle.wm_core.proofs.replies.replies_to.Given as goal
-
--- the replies so far are those to the first ones
-abbrev pub invariant-loop-reply : goal.invariant-loop-reply
-invariant-loop-reply l = l.all.items ≡ map reply_to (take l.reply-index l.replies)

@@ -1,0 +1,11 @@
+pub mod BackLemmas
+pub mod BeginningLemmas
+pub mod EventLemmas
+pub mod FollowLemmas
+pub mod GoneLemmas
+pub mod KeyLemmas
+pub mod LookLemmas
+pub mod MapLemmas
+pub mod OpenLemmas
+pub mod OwnedLemmas
+pub mod OwnerLemmas

@@ -1,0 +1,14 @@
+pub mod Act
+pub mod ByWindow
+pub mod Effect
+pub mod Events
+pub mod Follows
+pub mod Frame
+pub mod History
+pub mod Keys
+pub mod Look
+pub mod Opening
+pub mod Outputs
+pub mod Screen
+pub mod Sizes
+pub mod Windows
