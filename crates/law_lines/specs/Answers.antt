@@ -1,12 +1,15 @@
 -- The answer that a line tells.
 use Rattle.std.specs.Prelude.{ℕ, ◌<◌, List, [], ◌∷◌, ◌++◌, Option, None, Some, codes, if◌then◌else◌}
+use Rattle.std.specs.List.{AllByRecursion}
 use Rattle.std.specs.Str.{bytes_eq}
 use Rattle.wm_base.specs.ErrorText.{word_of}
 use Rattle.wm_base.specs.declared.errors.Limit.{Limit}
 use Rattle.wm_base.specs.declared.errors.Limit.TheVariants as limits
-use Rattle.wm_core.specs.declared.step.Answer.{Answer}
-use Rattle.wm_core.specs.declared.step.Answer.TheVariants as answers
+use Rattle.wm_history.specs.declared.step.Answer.{Answer}
+use Rattle.wm_history.specs.declared.step.Answer.TheVariants as answers
 use Rattle.wm_fields.specs.Fields.{behind, number_at, or_else, or_none, serial_at}
+use Rattle.wm_json.specs.declared.replies.Reply.{Reply}
+use Rattle.wm_json.specs.declared.replies.Reply.TheVariants as replies
 use Rattle.wm_lines.specs.Lines.{con_of}
 
 -- the value, where a line feed and nothing else is left
@@ -52,7 +55,18 @@ answer_of line =
 
 -- it has no replies, and its numbers are within their types
 abbrev pub IsPlain : Answer → Type 0
-IsPlain (answers.Replies replies) = ⊥
+IsPlain (answers.Replies given) = ⊥
 IsPlain (answers.Mapped id) = id.0 < 4294967296
 IsPlain (answers.BadSerial asked last) = (asked < 18446744073709551616) × (last < 18446744073709551616)
 IsPlain other = Unit {0}
+
+-- the numbers of a reply are within their types
+abbrev pub IsFitReply : Reply → Type 0
+IsFitReply (replies.Parse at) = at < 18446744073709551616
+IsFitReply (replies.Pattern pattern) = pattern < 4294967296
+IsFitReply other = Unit {0}
+
+-- the numbers of an answer, and of its replies, are within their types
+abbrev pub IsFitAnswer : Answer → Type 0
+IsFitAnswer (answers.Replies given) = AllByRecursion IsFitReply given
+IsFitAnswer other = IsPlain other

@@ -3,4 +3,4 @@
 
 mod answers;
 
-pub use answers::a_printed_answer_reads_back;
+pub use answers::{a_printed_answer_is_no_other, a_printed_answer_reads_back};

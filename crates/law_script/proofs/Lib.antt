@@ -1,0 +1,16 @@
+pub mod DeedLemmas
+pub mod FieldSplits
+pub mod FirstWords
+pub mod GivenLemmas
+pub mod Laws
+pub mod LineLemmas
+pub mod NumberLemmas
+pub mod PlanLemmas
+pub mod PropertyLemmas
+pub mod ScriptLemmas
+pub mod StepReads
+pub mod StepSplits
+pub mod TextLemmas
+pub mod Turns
+pub mod Utf8Lemmas
+pub mod WordLemmas
