@@ -17,7 +17,8 @@ use Rattle.wm_words.specs.Pieces.{until, from, has, skip, ends, is_word, single,
 use Rattle.wm_words.specs.Forms.{verb_of, plain_form, only_output, focus_word, focus_form, past_to, position_form, move_to_form, past_one_to, move_workspace_form, move_form, border_form, kill_form, scratchpad_form}
 use Rattle.wm_grammar.specs.Openings.{made, command_at}
 use Rattle.wm_language.specs.Spelling.{spelled, quoted}
-use Rattle.wm_grammar.specs.Readable.{IsArgument, IsOutput, IsSentTo, IsShown, IsSwap, IsReadableCommand, IsMaybeArgument}
+use Rattle.wm_language.specs.Words.{IsArgument}
+use Rattle.wm_grammar.specs.Readable.{IsOutput, IsSentTo, IsShown, IsSwap, IsReadableCommand, IsMaybeArgument}
 use Rattle.wm_grammar.proofs.Again.{command_plain, command_quoted, IsOpening}
 use Rattle.wm_grammar.proofs.Places.{sides_again, position_again, renaming_again}
 use Rattle.wm_grammar.proofs.Spelled.{argument_again, split_again, layout_again, cycle_again, kind_again, focus_dir_again, floating_again, fullscreen_again, sticky_again, focus_output_opening, to_workspace_opening, to_numbered_opening, to_output_opening, workspace_to_opening, to_mark_opening, swap_opening, mark_both_opening, mark_add_opening, mark_toggle_opening, mark_opening, unmark_opening, workspace_opening, numbered_opening, rename_opening, mode_opening, append_opening, title_opening, border_again, con_again, window_again, gaps_again, move_again, resize_again}

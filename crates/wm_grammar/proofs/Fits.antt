@@ -23,7 +23,8 @@ use Rattle.wm_grammar.specs.declared.opening.Opening.TheVariants as openings
 use Rattle.wm_words.specs.Pieces.{◌>>=◌, first_of, is_nil, is_end, until, from, skip, word, after, is_word, says, choice, single, only, is_text, ends_name, starts, digit, digits_from, natural, integer, below_zero, above_zero, only_number, argument}
 use Rattle.wm_words.specs.Forms.{move_in, side_of, split_words, layout_words, cycle_words, switch_words, kind_words, op_words, gap_words, scope_words, dir_words, sent_words, target_words, verb_of, plain_form, split_form, layout_form, whole, only_output, output_of, focus_word, focus_form, past_px, past_to, move_by, position_form, move_to_form, past_one_to, move_workspace_form, move_form, past_with, swap_form, hundredths, amounts, resize_by, resize_set, resize_form, fullscreen_form, width_form, border_form, gaps_form, kill_form, scratchpad_form}
 use Rattle.wm_grammar.specs.Openings.{Opened, named, opened, finished, text_at, made, before_rest, renamed, word_at, past_keyword_to, command_at, verb_command, first_finished}
-use Rattle.wm_grammar.specs.Readable.{IsArgument, IsNumber, IsOutput, IsSentTo, IsShown, IsReadableCommand, IsReadableKey, AreNew, IsReadableCriteria, AreReadableCommands, IsReadableGroup, AreReadableGroups, IsReadable}
+use Rattle.wm_language.specs.Words.{IsArgument}
+use Rattle.wm_grammar.specs.Readable.{IsNumber, IsOutput, IsSentTo, IsShown, IsReadableCommand, IsReadableKey, AreNew, IsReadableCriteria, AreReadableCommands, IsReadableGroup, AreReadableGroups, IsReadable}
 use Rattle.wm_language.specs.declared.batch.Key.{Key}
 use Rattle.wm_language.specs.declared.batch.Key.TheVariants as keys
 use Rattle.wm_grammar.specs.declared.keys.KeyName.{KeyName}

@@ -11,7 +11,8 @@ use Rattle.wm_language.specs.declared.batch.Criteria.{Criteria}
 use Rattle.wm_words.specs.Pieces.{is_nil, ends_value, starts, until, from, skip, is_word, is_text, argument, unquote}
 use Rattle.wm_grammar.specs.Criteria.{key_of, value_at, valued_at, key_at, place_of, has_place, closed_keys, keys_at, criteria_at}
 use Rattle.wm_language.specs.Spelling.{quoted, escaped, key_text, keys_text, criteria_text}
-use Rattle.wm_grammar.specs.Readable.{IsArgument, IsNumber, IsReadableKey, AreNew, IsReadableCriteria}
+use Rattle.wm_language.specs.Words.{IsArgument}
+use Rattle.wm_grammar.specs.Readable.{IsNumber, IsReadableKey, AreNew, IsReadableCriteria}
 use Rattle.wm_grammar.specs.Reading.{criteria_part}
 use Rattle.wm_grammar.proofs.Loops.{keys_at_close}
 use Rattle.wm_words.proofs.NumbersAgain.{NoDigit, number_clean, number_digits, natural_decimal, until_past, from_past}

@@ -10,7 +10,8 @@ use Rattle.wm_words.specs.Pieces.{◌>>=◌, is_blank, is_end, until, from, has,
 use Rattle.wm_words.specs.Forms.{verb_of, plain_form, past_px, past_to, position_form, move_to_form, move_form, resize_set, resize_form}
 use Rattle.wm_grammar.specs.Openings.{opened, rename_opened, finished, text_at, closed, renamed, word_at, past_keyword_to, command_at}
 use Rattle.wm_language.specs.Spelling.{escaped, position_text, sides_text, renaming_text}
-use Rattle.wm_grammar.specs.Readable.{IsArgument, IsNumber}
+use Rattle.wm_language.specs.Words.{IsArgument}
+use Rattle.wm_grammar.specs.Readable.{IsNumber}
 use Rattle.wm_words.proofs.NumbersAgain.{stops_at, number_word, number_after, number_other, natural_decimal, number_has, no_end, number_digits}
 use Rattle.wm_grammar.proofs.Again.{unquote_again, command_plain, quoted_again, closed_again}
 use Rattle.wm_grammar.proofs.Again.{command_opened}

@@ -30,7 +30,8 @@ use Rattle.wm_words.specs.Pieces.{◌>>=◌, first_of, is_nil, is_blank, is_end,
 use Rattle.wm_words.specs.Forms.{sent_words, target_words, verb_of, plain_form, split_form, layout_form, whole, only_output, output_of, focus_word, focus_form, past_px, past_to, move_by, position_form, move_to_form, past_one_to, move_workspace_form, move_form, past_with, swap_form, hundredths, amounts, resize_by, resize_set, resize_form, fullscreen_form, width_form, border_form, gaps_form, kill_form, scratchpad_form}
 use Rattle.wm_grammar.specs.Openings.{opened, targets_opened, focus_opened, move_to_opened, move_opened, swap_opened, toggle_opened, mark_opened, rename_opened, finished, text_at, made, command_at}
 use Rattle.wm_language.specs.Spelling.{spelled, move_text, resize_text, gaps_text}
-use Rattle.wm_grammar.specs.Readable.{IsArgument, IsNumber, IsBorder}
+use Rattle.wm_language.specs.Words.{IsArgument}
+use Rattle.wm_grammar.specs.Readable.{IsNumber, IsBorder}
 use Rattle.wm_words.proofs.NumbersAgain.{number_word, number_after, number_some, natural_decimal, only_number_decimal, number_has, no_end, no_blank, number_clean, number_digits}
 use Rattle.wm_grammar.proofs.Again.{command_plain, IsOpening}
 

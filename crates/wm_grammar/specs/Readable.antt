@@ -1,6 +1,5 @@
 -- Which batches some text reads as.
-use Rattle.std.specs.Prelude.{◌≡◌, ℕ, ◌<◌, ◌≤◌, true, false, List, [], ◌∷◌, ◌++◌, length, Option, Some, None, nat_abs}
-use Rattle.std.specs.Str.{is_utf8}
+use Rattle.std.specs.Prelude.{◌≡◌, ℕ, ◌<◌, ◌≤◌, false, List, [], ◌∷◌, ◌++◌, length, Option, Some, None, nat_abs}
 use Rattle.wm_base.specs.declared.plan.Border.{Border}
 use Rattle.wm_base.specs.declared.plan.Border.TheVariants as borders
 use Rattle.wm_language.specs.declared.arguments.OutArg.{OutArg}
@@ -16,13 +15,9 @@ use Rattle.wm_language.specs.declared.batch.Key.TheVariants as keys
 use Rattle.wm_language.specs.declared.batch.Criteria.{Criteria}
 use Rattle.wm_language.specs.declared.batch.Group.{Group}
 use Rattle.wm_language.specs.declared.batch.Batch.{Batch}
+use Rattle.wm_language.specs.Words.{IsArgument}
 use Rattle.wm_words.specs.Pieces.{is_nil}
 use Rattle.wm_grammar.specs.Criteria.{place_of, has_place}
-
--- a text in UTF-8 of at most 1,024 bytes
-pub record IsArgument (x : List ℕ) : Type 0 where
-  pub utf8 : is_utf8 x ≡ true
-  pub short : length x ≤ 1024
 
 -- a number of 32 bits
 abbrev pub IsNumber : ℕ → Type 0

@@ -1,10 +1,10 @@
 //! Reading a text as a batch, and printing a batch as a text.
-ghost use Rattle.std.specs.Prelude.{◌≡◌, ℕ, List, string_bytes, IfOk};
-ghost use Rattle.wm_grammar.specs.Answer.{IsAnswer};
+ghost use Rattle.std.specs.Prelude.{◌≡◌, string_bytes, IfOk};
+ghost use Rattle.wm_grammar.specs.Answer.{IsAnswer, IsScanned};
 ghost use Rattle.wm_grammar.specs.Readable.{IsReadable};
-ghost use Rattle.wm_language.specs.Spelling.{spelling};
 ghost use Rattle.wm_grammar.specs.Reading.{Reads, IsReach};
-ghost use Rattle.wm_language.specs.declared.batch.Batch.{Batch};
+ghost use Rattle.wm_language.specs.Batches.{Spells};
+ghost use Rattle.wm_language.specs.Spelling.{spelling};
 
 use crate::groups::groups_of;
 use crate::search::farthest;
@@ -12,11 +12,12 @@ use std::alloc::Global;
 use wm_base::{List, NoMemory};
 use wm_language::{Batch, ReadRefusal, spell};
 
-/// The batch of which the text is a spelling. The text is refused exactly where there is none, with the number
-/// of bytes at its front that are empty, or read and end with `;`.
+/// The batch of which the text is a spelling. The text is refused exactly where it is a spelling of none, with the
+/// greatest number of bytes at its front that are empty, or are a spelling and end with `;`.
 #[tactic(auto, using(crate::proofs::Fits::readable))]
 pub fn read(alloc: Global, text: &str) -> Result<Batch, ReadRefusal>
     ensures answer { IsAnswer text.now result }
+    ensures scanned { IsScanned text.now result }
     ensures readable { IfOk result (λ b. IsReadable b) }
 {
     let bytes = text.as_bytes();
@@ -39,35 +40,14 @@ fn reach(alloc: Global, text: &[u8]) -> Result<usize, NoMemory>
     }
 }
 
-/// A spelling of the batch, with keywords in lower case and quoted arguments. The batch is one that some text
-/// reads as.
-#[tactic(auto, using(crate::proofs::BatchesAgain::batch_again))]
+/// A spelling of the batch, with keywords in lower case and quoted arguments. The batch is one that some text is
+/// a spelling of.
+#[tactic(auto, using(crate::proofs::BatchesAgain::batch_again, crate::proofs::GroupLemmas::printed))]
 pub fn print(alloc: Global, batch: &Batch) -> Result<String, NoMemory>
     requires { IsReadable batch.now }
     ensures spelling { IfOk result (λ s. string_bytes s ≡ spelling batch.now) }
+    ensures spells { IfOk result (λ s. Spells (string_bytes s) batch.now) }
     ensures reads { IfOk result (λ s. Reads (string_bytes s) batch.now) }
 {
     spell(alloc, batch)
 }
-
-/// A text is a spelling of at most one batch.
-pub fn one_batch()
-    ensures { (text : List ℕ) (a b : Batch) → Reads text a → Reads text b → a ≡ b }
-{}
-
-/// A text reads up to one place alone.
-pub fn one_reach()
-    ensures { (text : List ℕ) (m n : ℕ) → IsReach text m → IsReach text n → m ≡ n }
-{}
-
-/// A batch that some text reads as can be printed.
-#[tactic(auto, using(crate::proofs::Fits::readable))]
-pub fn readable()
-    ensures { (text : List ℕ) (b : Batch) → Reads text b → IsReadable b }
-{}
-
-/// A batch that can be printed is one that some text reads as, and its printed spelling is such a text.
-#[tactic(auto, using(crate::proofs::BatchesAgain::batch_again))]
-pub fn printed_again()
-    ensures { (b : Batch) → IsReadable b → Reads (spelling b) b }
-{}

@@ -1,1 +1,13 @@
+pub mod Bytes
+pub mod Words
+pub mod Slots
+pub mod Arguments
+pub mod TreeForms
+pub mod WindowForms
+pub mod ArgumentForms
+pub mod Spoken
+pub mod Criteria
+pub mod Batches
+pub mod Places
 pub mod Spelling
+pub mod Written

@@ -1,5 +1,0 @@
-use Rattle.law_language.proofs.WrittenLemmas.{form_spelled}
-use Rattle.law_language.proofs.printing.each_form_has_a_spelling.Goals as goal
-
-pub returns : goal.returns
-returns c = λ slots k f h. form_spelled slots k f h

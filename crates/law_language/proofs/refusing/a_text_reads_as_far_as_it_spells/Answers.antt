@@ -1,5 +1,0 @@
-use Rattle.law_language.proofs.PlaceLemmas.{farthest_place}
-use Rattle.law_language.proofs.refusing.a_text_reads_as_far_as_it_spells.Goals as goal
-
-pub returns : goal.returns
-returns c = λ text n h. farthest_place text n h
