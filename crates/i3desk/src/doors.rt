@@ -37,7 +37,7 @@ impl Sockets {
     }
 
     /// All doors, those for clients that speak i3-ipc first. At one without a socket every accepting fails.
-    pub fn doors(&self, alloc: Global) -> Result<Vec<UnixListen>, AllocError>
+    pub fn doors(&self, net: &impl Net, alloc: Global) -> Result<Vec<UnixListen>, AllocError>
         ensures { IfOk result (λ doors. length doors.items ≡ 24) }
     {
         let mut doors = Vec::with_capacity(alloc, ALL)?;
@@ -47,7 +47,7 @@ impl Sockets {
             } else {
                 &self.clients
             };
-            doors.push(listen(socket))?;
+            doors.push(listen(net, alloc, socket))?;
         }
         Ok(doors)
     }
@@ -75,9 +75,9 @@ fn socket<R: Files + Net>(rt: &HostRuntime, system: &R, path: &str) -> Option<So
 }
 
 /// A door on the socket.
-fn listen(socket: &Option<SocketFile>) -> UnixListen {
+fn listen(net: &impl Net, alloc: Global, socket: &Option<SocketFile>) -> UnixListen {
     match socket {
-        Some(socket) => match socket.listen() {
+        Some(socket) => match socket.listen(net, alloc) {
             Ok(listen) => listen,
             Err(_) => UnixListen::without_socket(),
         },

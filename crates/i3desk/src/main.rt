@@ -109,7 +109,7 @@ fn run_at<R: Threads + Wait + Files + Net + Sync>(
     words: &[String],
     sockets: &Sockets,
 ) -> Result<ServeStatus, AllocError> {
-    let mut doors = sockets.doors(rt.alloc())?;
+    let mut doors = sockets.doors(system, rt.alloc())?;
     let mut builds = builds(rt.alloc())?;
     let mut source = StdSource::new(rt.stdin());
     let mut frames = StdSink::new(rt.stdout());

@@ -1,12 +1,12 @@
 -- A configuration whose names are kept by their letters is read as one whose names are kept in a list.
-use Rattle.std.proofs.Common.{◌≡◌, ◌∙◌, refl, ap, sym, subst, Bool, true, false, cond, ℕ, ◌+◌, ◌≤◌, ◌<◌, List, [], ◌∷◌, Option, None, Some, Result, Ok, Err, arith}
-use Rattle.std.proofs.lemmas.Bool.{le-leb, leb-true}
+use Rattle.std.proofs.Common.{◌≡◌, ◌∙◌, refl, ap, sym, subst, Bool, true, false, cond, ℕ, ◌+◌, ◌≤◌, List, [], ◌∷◌, Option, None, Some, Result, Ok, Err}
+use Rattle.std.proofs.lemmas.Bool.{le-leb}
 use Rattle.std.specs.Prelude.{◌-◌, nat_le, length}
 use Rattle.std.specs.Str.{is_utf8}
 use Rattle.wm_fields.specs.Split.{lines_of}
 use Rattle.wm_binds.specs.Blocks.{blank_draft}
 use Rattle.wm_binds.specs.Letters.{Letters, end, put_name}
-use Rattle.wm_binds.specs.LettersReading.{Finds, IsTooLong, letters_after, line_by, read_by, set_or_entered_by, text_by}
+use Rattle.wm_binds.specs.LettersReading.{Finds, letters_after, line_by, read_by, set_or_entered_by, text_by}
 use Rattle.wm_binds.specs.Lines.{entry_of}
 use Rattle.wm_binds.specs.Naming.{longest, replaced, set_at, set_line}
 use Rattle.wm_binds.specs.Reading.{after_line, after_text, config, config_of, entered, finished, go_on, names_after, or_outside, read_from, read_in, refusal_at, set_or_entered, with_draft}
@@ -23,16 +23,6 @@ use Rattle.wm_binds.proofs.NameLemmas.{finds_none, finds_put, replaced_by, set_b
 -- a text for which there is room is read
 pub read_within : {A : Type 0} (draft : Draft) (text : List ℕ) (go : Draft → Result A LineRefusal) → length text ≤ draft.room → read_in draft text go ≡ go (record draft { room = draft.room - length text })
 read_within draft text go room = ap (λ t. cond t (go (record draft { room = draft.room - length text })) (Err faults.Outside)) (le-leb (length text) draft.room room)
-
--- one for which there is none is refused, unless there was no memory
-pub read_beyond : {A : Type 0} (draft : Draft) (text : List ℕ) (go : Draft → Result A LineRefusal) (e : LineRefusal) → IsTooLong draft.room text e → (e ≡ faults.NoMemory → ⊥) → read_in draft text go ≡ Err e
-read_beyond draft text go faults.Outside long known = by (nat_le (length text) draft.room) refl
-  where
-    by : (t : Bool) → nat_le (length text) draft.room ≡ t → cond t (go (record draft { room = draft.room - length text })) (Err faults.Outside) ≡ Err faults.Outside
-    by true e = let small = leb-true (length text) draft.room e in let no : ⊥ = omega (arith, small, long) in absurd no
-    by false e = refl
-read_beyond draft text go faults.Full long known = absurd long
-read_beyond draft text go faults.NoMemory long known = absurd (known refl)
 
 -- both give the same draft, and letters that find what the names say; or both refuse alike
 abbrev Agree : Result (Letters × Draft) LineRefusal → Result (List Name × Draft) LineRefusal → Type 0

@@ -143,23 +143,8 @@ pub name_new : (key : String Global) (name : List ℕ) (keys : List (String Glob
 name_new key name keys names found this same e f =
     ap (λ t. cond t names (names ++ name ∷ [])) (sym (key_among key name keys names this same) ∙ is_new found (list_any (string_eq key) keys) e f)
 
--- and so does its key
-pub key_new : (key : String Global) (name : List ℕ) (keys : List (String Global)) (names : List (List ℕ)) (found : Bool) → string_bytes key ≡ name → map string_bytes keys ≡ names → found ≡ not (list_any (string_eq key) keys) → found ≡ true
-    → map string_bytes (insert_key string_eq keys key) ≡ names ++ name ∷ []
-key_new key name keys names found this same e f =
-    ap (λ t. map string_bytes (cond t keys (keys ++ key ∷ []))) (is_new found (list_any (string_eq key) keys) e f)
-    ∙ by keys ∙ ap₂ (λ ns n. ns ++ n ∷ []) same this
-  where
-    by : (ks : List (String Global)) → map string_bytes (ks ++ key ∷ []) ≡ map string_bytes ks ++ string_bytes key ∷ []
-    by [] = refl
-    by (k ∷ ks) = ap (λ t. string_bytes k ∷ t) (by ks)
-
 -- a name whose key is one of these is there
 pub name_again : (key : String Global) (name : List ℕ) (keys : List (String Global)) (names : List (List ℕ)) (found : Bool) → string_bytes key ≡ name → map string_bytes keys ≡ names → found ≡ not (list_any (string_eq key) keys) → found ≡ false
     → with_name name names ≡ names
 name_again key name keys names found this same e f =
     ap (λ t. cond t names (names ++ name ∷ [])) (sym (key_among key name keys names this same) ∙ not_new found (list_any (string_eq key) keys) e f)
-
--- the keys stay then
-pub key_again : (key : String Global) (keys : List (String Global)) (found : Bool) → found ≡ not (list_any (string_eq key) keys) → found ≡ false → insert_key string_eq keys key ≡ keys
-key_again key keys found e f = ap (λ t. cond t keys (keys ++ key ∷ [])) (not_new found (list_any (string_eq key) keys) e f)

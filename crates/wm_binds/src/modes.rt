@@ -54,6 +54,9 @@ impl ModeTable {
     pub fn put(&mut self, alloc: Global, name: &Text) -> Result<(), NoMemory>
         ensures { OnOk result (self.new ≡ with_name name.now self.old) }
     {
+        if self.has(name) {
+            return Ok(());
+        }
         let key = String::from_str(alloc, name.as_str())?;
         let name = name.clone()?;
         self.put_keyed(key, name)

@@ -41,10 +41,10 @@ impl SocketFile {
     }
 
     /// A listener over the socket. All of them share it.
-    pub fn listen(&self) -> io::Result<UnixListen>
+    pub fn listen(&self, rt: &impl Net, alloc: Global) -> io::Result<UnixListen>
         ensures { IfOk result (λ listen. listen.faults ≡ 0) }
     {
-        UnixListen::new(self.socket.try_clone()?)
+        UnixListen::new(rt, alloc, self.socket.try_clone()?)
     }
 
     /// Removes the file, unless another one stands at its path now or none.

@@ -7,6 +7,7 @@ mod linking;
 mod listening;
 #[cfg(test)]
 mod tests;
+mod watching;
 
 pub use clocks::RealClock;
 pub use files::SocketFile;

@@ -5,14 +5,15 @@ ghost use Rattle.wm_ports.specs.declared.links.Received.TheVariants as received;
 ghost use Rattle.wm_ports.specs.declared.links.SendFault.TheVariants as faults;
 ghost use Rattle.wm_sockets.specs.Tallies.{after_receiving, one_more};
 
+use crate::watching::Watch;
 use std::io;
 use std::io::{ErrorKind, Read, Write};
 use std::os::unix::net::UnixStream;
 use std::time::Duration;
 use wm_ports::{Link, Received, SendFault};
 
-/// How long a receiving waits for bytes before it is quiet, and whoever serves the link looks for something to send. The
-/// system rounds that up to its ticks and adds one, so with ticks of 4 ms or less it is quiet within 8 ms.
+/// How long a receiving waits for bytes where nothing watches the socket. The system rounds that up to its ticks and adds
+/// one, so with ticks of 4 ms it is quiet within 8 ms as a rule, and 12 at most.
 const RECEIVE_WAIT_MS: u64 = 3;
 
 /// How long a sending waits for a peer that does not read. A peer that stopped for so long is given up, so that it holds
@@ -21,9 +22,12 @@ const SEND_WAIT_MS: u64 = 10_000;
 
 /// A link over a Unix stream socket, which is closed where the link is dropped. A call that a signal interrupts is tried
 /// again.
-#[derive(Debug, Drop)]
+#[derive(Drop)]
 pub struct UnixLink {
     pub(crate) stream: UnixStream,
+    pub(crate) watch: Option<Watch>,
+    /// Nothing was left to receive when the socket was last read.
+    empty: bool,
     pub(crate) faults: u64,
 }
 
@@ -35,7 +39,31 @@ impl UnixLink {
     {
         stream.set_read_timeout(Some(Duration::from_millis(RECEIVE_WAIT_MS)))?;
         stream.set_write_timeout(Some(Duration::from_millis(SEND_WAIT_MS)))?;
-        Ok(UnixLink { stream, faults: 0 })
+        Ok(UnixLink {
+            stream,
+            watch: None,
+            empty: false,
+            faults: 0,
+        })
+    }
+
+    /// The link, with a watch that waits for its bytes from now on. Where the system cannot watch its socket, the link
+    /// waits in its receivings.
+    pub(crate) fn watched(self, watch: Option<Watch>) -> UnixLink
+        ensures { result.faults ≡ self.faults }
+    {
+        let watch = watch.filter(|watch| watch.begin(&self.stream).is_ok());
+        UnixLink { watch, ..self }
+    }
+
+    /// Whether a receiving is worth while: something was left the last time, or came since. Without a watch it is.
+    fn is_worth_receiving(&mut self) -> bool
+        ensures { self.new ≡ record self.old { watch = self.new.watch } }
+    {
+        match &mut self.watch {
+            Some(watch) if self.empty => watch.wait(),
+            _ => true,
+        }
     }
 }
 
@@ -53,7 +81,12 @@ impl Link for UnixLink {
         ensures memory { result ≢ received.NoMemory }
         ensures tally { self.new.faults ≡ after_receiving result self.old.faults }
     {
-        match received(&mut self.stream, room) {
+        if !self.is_worth_receiving() {
+            return Received::Quiet;
+        }
+        let read = received(&mut self.stream, room);
+        self.empty = !matches!(&read, Ok(n) if *n == room.len());
+        match read {
             Ok(0) => Received::End,
             Ok(n) => Received::Got(n),
             Err(error) if is_time_out(error.kind()) => Received::Quiet,

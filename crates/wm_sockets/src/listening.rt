@@ -5,8 +5,11 @@ ghost use Rattle.wm_ports.specs.declared.listens.Accepted.TheVariants as accepte
 ghost use Rattle.wm_sockets.specs.Tallies.{IfLink, after_accepting};
 
 use crate::linking::{UnixLink, is_time_out};
+use crate::watching::Watch;
+use std::alloc::Global;
 use std::io;
 use std::io::ErrorKind;
+use std::net::Net;
 use std::os::fd::OwnedFd;
 use std::os::unix::net::{UnixListener, UnixStream};
 use std::time::Duration;
@@ -19,22 +22,25 @@ const ACCEPT_WAIT_MS: u64 = 500;
 
 /// A listener over a Unix socket, or one that has none and fails at each accepting. Several may share one socket, which
 /// is closed where the last of them is dropped; each peer comes to one of them.
-#[derive(Debug, Drop)]
+#[derive(Drop)]
 pub struct UnixListen {
     socket: Option<UnixListener>,
+    /// What waits for the bytes of the next link, where no link has it.
+    watch: Option<Watch>,
     pub(crate) faults: u64,
 }
 
 impl UnixListen {
     /// A listener over this socket, with no faults so far, whose acceptings wait only so long. An `Err` is the
     /// system's, and the socket is closed.
-    pub fn new(socket: UnixListener) -> io::Result<UnixListen>
+    pub fn new(rt: &impl Net, alloc: Global, socket: UnixListener) -> io::Result<UnixListen>
         ensures socket { IfOk result (λ listen. listen.socket ≡ Some socket) }
         ensures faults { IfOk result (λ listen. listen.faults ≡ 0) }
     {
         limit_wait(&socket)?;
         Ok(UnixListen {
             socket: Some(socket),
+            watch: Watch::new(rt, alloc).ok(),
             faults: 0,
         })
     }
@@ -46,20 +52,20 @@ impl UnixListen {
     {
         UnixListen {
             socket: None,
+            watch: None,
             faults: 0,
         }
     }
 
     /// Another listener over the same socket, with no faults so far. An `Err` is the system's.
-    pub fn try_clone(&self) -> io::Result<UnixListen>
+    pub fn try_clone(&self, rt: &impl Net, alloc: Global) -> io::Result<UnixListen>
         ensures socket { IfOk result (λ listen. IsSome listen.socket ↔ IsSome self.now.socket) }
         ensures faults { IfOk result (λ listen. listen.faults ≡ 0) }
     {
-        let socket = match &self.socket {
-            Some(socket) => Some(socket.try_clone()?),
-            None => None,
-        };
-        Ok(UnixListen { socket, faults: 0 })
+        match &self.socket {
+            Some(socket) => UnixListen::new(rt, alloc, socket.try_clone()?),
+            None => Ok(UnixListen::without_socket()),
+        }
     }
 }
 
@@ -78,7 +84,7 @@ impl Listen<UnixLink> for UnixListen {
     {
         if let Some(socket) = &self.socket {
             match next_link(socket) {
-                Ok(Some(link)) => return Accepted::Link(link),
+                Ok(Some(link)) => return Accepted::Link(link.watched(self.watch.take())),
                 Ok(None) => return Accepted::Quiet,
                 Err(_) => {}
             }
@@ -87,13 +93,17 @@ impl Listen<UnixLink> for UnixListen {
         Accepted::Failed
     }
 
-    /// Closes the link.
+    /// Closes the link. What waited for its bytes waits for those of the next one.
     fn give_back(&mut self, link: UnixLink)
         ensures told { IsGivenBack None None link }
         ensures grown { self.old.faults ≤ self.new.faults }
-        ensures same { self.new ≡ self.old }
+        ensures same { self.new ≡ record self.old { watch = self.new.watch } }
     {
-        drop(link);
+        let UnixLink { stream, watch, .. } = link;
+        drop(stream);
+        if watch.is_some() {
+            self.watch = watch;
+        }
     }
 }
 
