@@ -93,17 +93,33 @@ turned c n t = edited n (edits.Share (share_in n t.nodes)) (edited c (edits.Shar
 abbrev pub space_over : Dir → ConId → TreeValue → Option ConId
 space_over d c t = option_and_then (λ (o : ConId). shown_on o t) (output_from d c t)
 
+-- no limit is passed where c goes to the place
+abbrev pub move_refusal : ConId → Place → TreeValue → Option Refusal
+move_refusal c p t = full_error (passed_by_move c p t.nodes)
+
+-- neither comes too deep where the two change places
+abbrev pub turn_refusal : ConId → ConId → TreeValue → Option Refusal
+turn_refusal c n t = deep_error (is_too_deep c n t.nodes)
+
 abbrev pub over_refusal : Dir → ConId → Option ConId → TreeValue → Option Refusal
 over_refusal d c None t = Some (NoTarget texts.NoNeighbour)
-over_refusal d c (Some w) t = full_error (passed_by_move c (near_end d w) t.nodes)
+over_refusal d c (Some w) t = move_refusal c (near_end d w) t
+
+-- there is an output in that direction, and no limit is passed where c goes to what it shows
+abbrev pub cross_refusal : Dir → ConId → TreeValue → Option Refusal
+cross_refusal d c t = over_refusal d c (space_over d c t) t
 
 abbrev pub out_refusal : Dir → ConId → Option ConId → TreeValue → Option Refusal
-out_refusal d c None t = over_refusal d c (space_over d c t) t
-out_refusal d c (Some child) t = full_error (passed_by_move c (side_of d child) t.nodes)
+out_refusal d c None t = cross_refusal d c t
+out_refusal d c (Some child) t = move_refusal c (side_of d child) t
+
+-- there is a node above along the axis or an output in that direction, and no limit is passed where c goes there
+abbrev pub leave_refusal : Dir → ConId → TreeValue → Option Refusal
+leave_refusal d c t = out_refusal d c (held_out d c t) t
 
 abbrev pub step_refusal : Dir → ConId → Option ConId → TreeValue → Option Refusal
-step_refusal d c None t = out_refusal d c (held_out d c t) t
-step_refusal d c (Some n) t = if is_split_con t n then full_error (passed_by_move c (entry d n t) t.nodes) else deep_error (is_too_deep c n t.nodes)
+step_refusal d c None t = leave_refusal d c t
+step_refusal d c (Some n) t = if is_split_con t n then move_refusal c (entry d n t) t else turn_refusal c n t
 
 -- one in the scratchpad has no workspace, and a workspace does not move; no limit is passed, and there is a neighbour, a
 -- node above or an output to go to; a floating window stays within the range of places
@@ -117,12 +133,20 @@ abbrev pub over_tree : Dir → ConId → Option ConId → TreeValue → TreeValu
 over_tree d c None t = t
 over_tree d c (Some w) t = remembering t (entered c (moved c (near_end d w) t))
 
+-- at the near end of what the output in that direction shows
+abbrev pub cross_tree : Dir → ConId → TreeValue → TreeValue
+cross_tree d c t = over_tree d c (space_over d c t) t
+
 abbrev pub out_tree : Dir → ConId → Option ConId → TreeValue → TreeValue
-out_tree d c None t = over_tree d c (space_over d c t) t
+out_tree d c None t = cross_tree d c t
 out_tree d c (Some child) t = moved c (side_of d child) t
 
+-- beside the child that holds it of the nearest node above along the axis, or over to another output
+abbrev pub leave_tree : Dir → ConId → TreeValue → TreeValue
+leave_tree d c t = out_tree d c (held_out d c t) t
+
 abbrev pub step_tree : Dir → ConId → Option ConId → TreeValue → TreeValue
-step_tree d c None t = out_tree d c (held_out d c t) t
+step_tree d c None t = leave_tree d c t
 step_tree d c (Some n) t = if is_split_con t n then moved c (entry d n t) t else turned c n t
 
 -- c changes places with a window or placeholder beside it, goes into a split beside it, out of its parent, or to the

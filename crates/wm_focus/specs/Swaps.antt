@@ -78,12 +78,20 @@ swap_tree c arg t = exchanged_with c (partner arg t) t
 
 -- ---- moving
 
+-- no limit is passed where c is sent to the workspace of another one
+abbrev pub send_beside_refusal : ConId → ConId → TreeValue → Option Refusal
+send_beside_refusal c o t = sent_some_refusal (workspace_of t o) c t
+
+-- c is sent to the workspace of another one, if that has one
+abbrev pub sent_beside : ConId → ConId → TreeValue → TreeValue
+sent_beside c o t = sent_some (workspace_of t o) c t
+
 -- the marked one is not part of the other, is tiled, and there is room beside it, or for a floating window in its workspace
 abbrev pub beside_refusal : ConId → Option ConId → TreeValue → Option Refusal
 beside_refusal c None t = Some (NoTarget texts.NoMark)
 beside_refusal c (Some m) t =
     error_if (has m (only c t.nodes)) texts.SameContainer (error_if (not (is_tiled_con t m)) texts.NotTiled
-    (if is_tiled_con t c then full_error (passed_by_move c (After m) t.nodes) else sent_some_refusal (workspace_of t m) c t))
+    (if is_tiled_con t c then full_error (passed_by_move c (After m) t.nodes) else send_beside_refusal c m t))
 
 -- one in the scratchpad has no workspace, and a workspace moves beside none
 abbrev pub move_to_mark_refusal : ConId → List ℕ → TreeValue → Option Refusal
@@ -92,7 +100,7 @@ move_to_mark_refusal c name t =
 
 abbrev pub moved_after : ConId → Option ConId → TreeValue → TreeValue
 moved_after c None t = t
-moved_after c (Some m) t = if is_tiled_con t c then moved c (After m) t else sent_some (workspace_of t m) c t
+moved_after c (Some m) t = if is_tiled_con t c then moved c (After m) t else sent_beside c m t
 
 -- the container is put after the marked one; a floating window is sent to the workspace of that one
 abbrev pub move_to_mark_tree : ConId → List ℕ → TreeValue → TreeValue

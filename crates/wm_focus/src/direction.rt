@@ -1,7 +1,7 @@
 //! Focusing in a direction.
-ghost use Rattle.std.specs.Prelude.{◌≡◌, true, None, Some, OnOk, OnErr, IfErr, IfOk};
+ghost use Rattle.std.specs.Prelude.{◌≡◌, true, Some, OnOk, OnErr, IfOk};
 ghost use Rattle.wm_focus.specs.Direction.{IsListed, focus_dir_refusal, focus_dir_tree, focusing_some, goal_of, gone_to};
-ghost use Rattle.wm_shared.specs.Refusing.{IsCause};
+ghost use Rattle.wm_shared.specs.Does.{Does};
 ghost use Rattle.wm_shared.specs.Subject.{IsSubject};
 ghost use Rattle.wm_tree.specs.Sound.{IsSound};
 ghost use Rattle.wm_tree.specs.TreeValue.{leaf};
@@ -24,11 +24,7 @@ pub enum Goal {
 /// next one by id is focused, or the one before it, round both ends.
 pub fn focus_dir(t: &mut Tree, from: ConId, d: Dir) -> Result<(), Refusal>
     requires { IsSubject t.old from }
-    ensures tree { OnOk result (t.new ≡ focus_dir_tree from d t.old) }
-    ensures fine { OnOk result (focus_dir_refusal from d t.old ≡ None) }
-    ensures err { OnErr result (t.new ≡ t.old) }
-    ensures cause { IfErr result (IsCause (focus_dir_refusal from d t.old)) }
-    ensures sound { IsSound t.new }
+    ensures { Does t.old t.new result (focus_dir_refusal from d) (focus_dir_tree from d) }
 {
     if is_floating(t, from) {
         return focus_round(t, from, d);

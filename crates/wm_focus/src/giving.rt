@@ -3,6 +3,7 @@ ghost use Rattle.std.specs.Prelude.{◌≡◌, ◌≤◌, true, false, Some, Non
 ghost use Rattle.std.specs.Option.{option_copied};
 ghost use Rattle.std.proofs.Math.ListN.{drop};
 ghost use Rattle.wm_focus.specs.Marks.{cleared, give_refusal, given_mark, is_marked, kept_marks, taken_off, with_mark};
+ghost use Rattle.wm_shared.specs.Does.{Does};
 ghost use Rattle.wm_shared.specs.Refusing.{IsCause};
 ghost use Rattle.wm_focus.specs.Stripped.{IsGiveCause, MayGive, all_marks, all_off, all_or_none, is_given, lacks, left, with_given};
 ghost use Rattle.wm_shared.specs.Subject.{is_container};
@@ -117,11 +118,8 @@ fn is_given(mark: &Text, given: Option<&Text>) -> bool
 pub(crate) fn give(t: &mut Tree, con: ConId, name: &Text, add: bool) -> Result<(), Refusal>
     requires sound { IsSound t.old }
     requires kind { is_container t.old con ≡ true }
-    ensures tree { OnOk result (t.new ≡ given_mark con name.now add t.old) }
-    ensures fine { OnOk result (give_refusal con name.now add t.old ≡ None) }
-    ensures err { OnErr result (t.new ≡ t.old) }
-    ensures cause { IfErr result (IsCause (give_refusal con name.now add t.old)) }
-    ensures sound { IsSound t.new }
+    ensures { Does t.old t.new result (give_refusal con name.now add)
+        (given_mark con name.now add) }
 {
     match give_alone(t, con, name, add) {
         Ok(()) => {
@@ -156,11 +154,8 @@ fn give_in_place(t: &mut Tree, con: ConId, name: &Text, add: bool) -> Result<(),
     requires sound { IsSound t.old }
     requires kind { is_container t.old con ≡ true }
     requires other { is_marked con name.now t.old ≡ false }
-    ensures tree { OnOk result (t.new ≡ given_mark con name.now add t.old) }
-    ensures fine { OnOk result (give_refusal con name.now add t.old ≡ None) }
-    ensures err { OnErr result (t.new ≡ t.old) }
-    ensures cause { IfErr result (IsCause (give_refusal con name.now add t.old)) }
-    ensures sound { IsSound t.new }
+    ensures { Does t.old t.new result (give_refusal con name.now add)
+        (given_mark con name.now add) }
 {
     match t.copy() {
         Ok(copy) => match given_in(copy, con, name, add) {

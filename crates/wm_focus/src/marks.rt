@@ -1,9 +1,9 @@
 //! Giving marks to containers and taking them off.
-ghost use Rattle.std.specs.Prelude.{◌≡◌, Some, None, OnOk, OnErr, IfErr};
+ghost use Rattle.std.specs.Prelude.{◌≡◌, None, OnOk, OnErr, IfErr};
 ghost use Rattle.std.specs.Option.{option_copied};
 ghost use Rattle.wm_focus.specs.Marks.{holder_of, is_mark, mark_refusal, mark_tree, unmark_refusal, unmark_tree};
-ghost use Rattle.wm_shared.specs.Refusing.{IsCause};
 ghost use Rattle.wm_focus.specs.Stripped.{IsUnmarked};
+ghost use Rattle.wm_shared.specs.Does.{DoesIfSound};
 ghost use Rattle.wm_shared.specs.Subject.{IsSubject};
 ghost use Rattle.wm_tree.specs.Sound.{IsSound};
 
@@ -27,11 +27,8 @@ pub fn marked(t: &Tree, name: &Text) -> Option<ConId>
 /// with `toggle` it loses this one alone where it has it.
 pub fn mark(t: &mut Tree, con: ConId, name: &Text, add: bool, toggle: bool) -> Result<(), Refusal>
     requires { IsSubject t.old con }
-    ensures tree { OnOk result (t.new ≡ mark_tree con name.now add toggle t.old) }
-    ensures fine { OnOk result (mark_refusal con name.now add toggle t.old ≡ None) }
-    ensures err { OnErr result (t.new ≡ t.old) }
-    ensures cause { IfErr result (IsCause (mark_refusal con name.now add toggle t.old)) }
-    ensures sound { IsSound t.old → IsSound t.new }
+    ensures { DoesIfSound t.old t.new result (mark_refusal con name.now add toggle)
+        (mark_tree con name.now add toggle) }
 {
     if is_space(t, con) {
         return Err(Refusal::NoTarget(ErrorText::AtWorkspace));
@@ -57,11 +54,8 @@ fn is_mark(name: &Text) -> bool
 /// Takes the mark, or all marks, off the container, or off all containers.
 pub fn unmark(t: &mut Tree, con: Option<ConId>, name: Option<&Text>) -> Result<(), Refusal>
     requires { IsUnmarked con t.old }
-    ensures tree { OnOk result (t.new ≡ unmark_tree con (option_copied name.entry) t.old) }
-    ensures fine { OnOk result (unmark_refusal con (option_copied name.entry) t.old ≡ None) }
-    ensures err { OnErr result (t.new ≡ t.old) }
-    ensures cause { IfErr result (IsCause (unmark_refusal con (option_copied name.entry) t.old)) }
-    ensures sound { IsSound t.old → IsSound t.new }
+    ensures { DoesIfSound t.old t.new result (unmark_refusal con (option_copied name.entry))
+        (unmark_tree con (option_copied name.entry)) }
 {
     match (con, name) {
         (Some(con), Some(name)) => {

@@ -1,12 +1,11 @@
 //! Moving a container in a direction.
-ghost use Rattle.std.specs.Prelude.{◌≡◌, Some, None, OnOk, OnErr, IfErr, false, true};
-ghost use Rattle.wm_focus.specs.Moves.{IsGoal, IsTurn, after_child, beside, entry, held_out, is_split_con, move_dir_refusal, move_dir_tree, near_end, out_refusal, out_tree, over_refusal, over_tree, runs_split, side_of, space_over, step_refusal, step_tree, turned};
-ghost use Rattle.wm_shared.specs.Refusing.{IsCause, full_error};
+ghost use Rattle.std.specs.Prelude.{◌≡◌, Some, false, true};
+ghost use Rattle.wm_focus.specs.Moves.{IsGoal, IsTurn, after_child, beside, cross_refusal, cross_tree, entry, held_out, is_split_con, leave_refusal, leave_tree, move_dir_refusal, move_dir_tree, move_refusal, near_end, runs_split, side_of, space_over, step_refusal, step_tree, turn_refusal, turned};
+ghost use Rattle.wm_shared.specs.Does.{Does};
 ghost use Rattle.wm_shared.specs.Subject.{IsSubject};
-ghost use Rattle.wm_focus.specs.Swaps.{deep_error};
 ghost use Rattle.wm_focus.specs.Walks.{neighbour_at};
 ghost use Rattle.wm_forest.specs.Change.{is_split};
-ghost use Rattle.wm_tree.specs.Move.{is_too_deep, moved, passed_by_move, share_in};
+ghost use Rattle.wm_tree.specs.Move.{moved, share_in};
 ghost use Rattle.wm_tree.specs.Sound.{IsSound};
 ghost use Rattle.wm_tree.specs.TreeValue.{is_tiled_con};
 
@@ -23,11 +22,7 @@ use wm_tree::{ConKind, Cursor, Place, Tree};
 /// split without children, which settling removes.
 pub fn move_dir(t: &mut Tree, con: ConId, d: Dir, px: u32) -> Result<(), Refusal>
     requires { IsSubject t.old con }
-    ensures tree { OnOk result (t.new ≡ move_dir_tree con d px t.old) }
-    ensures fine { OnOk result (move_dir_refusal con d px t.old ≡ None) }
-    ensures err { OnErr result (t.new ≡ t.old) }
-    ensures cause { IfErr result (IsCause (move_dir_refusal con d px t.old)) }
-    ensures sound { IsSound t.new }
+    ensures { Does t.old t.new result (move_dir_refusal con d px) (move_dir_tree con d px) }
 {
     if is_hidden(t, con) {
         return Err(Refusal::NoTarget(ErrorText::NoWorkspace));
@@ -74,11 +69,8 @@ fn pass(t: &mut Tree, con: ConId, next: ConId, d: Dir) -> Result<(), Refusal>
     requires sound { IsSound t.old }
     requires tiled { is_tiled_con t.old con ≡ true }
     requires next { beside d con t.old ≡ Some next }
-    ensures tree { OnOk result (t.new ≡ step_tree d con (Some next) t.old) }
-    ensures fine { OnOk result (step_refusal d con (Some next) t.old ≡ None) }
-    ensures err { OnErr result (t.new ≡ t.old) }
-    ensures cause { IfErr result (IsCause (step_refusal d con (Some next) t.old)) }
-    ensures sound { IsSound t.new }
+    ensures { Does t.old t.new result (step_refusal d con (Some next))
+        (step_tree d con (Some next)) }
 {
     if is_split_con(t, next) {
         let at = entry(t, next, d);
@@ -92,11 +84,7 @@ fn pass(t: &mut Tree, con: ConId, next: ConId, d: Dir) -> Result<(), Refusal>
 fn leave(t: &mut Tree, con: ConId, d: Dir) -> Result<(), Refusal>
     requires sound { IsSound t.old }
     requires tiled { is_tiled_con t.old con ≡ true }
-    ensures tree { OnOk result (t.new ≡ out_tree d con (held_out d con t.old) t.old) }
-    ensures fine { OnOk result (out_refusal d con (held_out d con t.old) t.old ≡ None) }
-    ensures err { OnErr result (t.new ≡ t.old) }
-    ensures cause { IfErr result (IsCause (out_refusal d con (held_out d con t.old) t.old)) }
-    ensures sound { IsSound t.new }
+    ensures { Does t.old t.new result (leave_refusal d con) (leave_tree d con) }
 {
     match held_out(t, con, d) {
         Some(child) => go(t, con, side_of(d, child)),
@@ -115,11 +103,7 @@ fn space_over(t: &Tree, con: ConId, d: Dir) -> Option<ConId>
 fn cross(t: &mut Tree, con: ConId, d: Dir) -> Result<(), Refusal>
     requires sound { IsSound t.old }
     requires tiled { is_tiled_con t.old con ≡ true }
-    ensures tree { OnOk result (t.new ≡ over_tree d con (space_over d con t.old) t.old) }
-    ensures fine { OnOk result (over_refusal d con (space_over d con t.old) t.old ≡ None) }
-    ensures err { OnErr result (t.new ≡ t.old) }
-    ensures cause { IfErr result (IsCause (over_refusal d con (space_over d con t.old) t.old)) }
-    ensures sound { IsSound t.new }
+    ensures { Does t.old t.new result (cross_refusal d con) (cross_tree d con) }
 {
     let Some(space) = space_over(t, con, d) else {
         return Err(Refusal::NoTarget(ErrorText::NoNeighbour));
@@ -138,11 +122,7 @@ fn cross(t: &mut Tree, con: ConId, d: Dir) -> Result<(), Refusal>
 fn go(t: &mut Tree, con: ConId, at: Place) -> Result<(), Refusal>
     requires sound { IsSound t.old }
     requires goal { IsGoal con at t.old }
-    ensures tree { OnOk result (t.new ≡ moved con at t.old) }
-    ensures fine { OnOk result (full_error (passed_by_move con at t.old.nodes) ≡ None) }
-    ensures err { OnErr result (t.new ≡ t.old) }
-    ensures cause { IfErr result (IsCause (full_error (passed_by_move con at t.old.nodes))) }
-    ensures sound { IsSound t.new }
+    ensures { Does t.old t.new result (move_refusal con at) (moved con at) }
 {
     match t.move_to(con, at) {
         Ok(()) => Ok(()),
@@ -154,11 +134,7 @@ fn go(t: &mut Tree, con: ConId, at: Place) -> Result<(), Refusal>
 fn turn(t: &mut Tree, con: ConId, next: ConId) -> Result<(), Refusal>
     requires sound { IsSound t.old }
     requires turn { IsTurn con next t.old }
-    ensures tree { OnOk result (t.new ≡ turned con next t.old) }
-    ensures fine { OnOk result (deep_error (is_too_deep con next t.old.nodes) ≡ None) }
-    ensures err { OnErr result (t.new ≡ t.old) }
-    ensures cause { IfErr result (IsCause (deep_error (is_too_deep con next t.old.nodes))) }
-    ensures sound { IsSound t.new }
+    ensures { Does t.old t.new result (turn_refusal con next) (turned con next) }
 {
     let own = share(t, con);
     let other = share(t, next);

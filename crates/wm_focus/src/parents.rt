@@ -1,8 +1,7 @@
 //! Focusing the parent and the child of a container.
-ghost use Rattle.std.specs.Prelude.{◌≡◌, None, Some, OnOk, OnErr, IfErr};
 ghost use Rattle.wm_focus.specs.Parents.{focus_child_refusal, focus_child_tree, focus_parent_refusal, focus_parent_tree};
+ghost use Rattle.wm_shared.specs.Does.{DoesExactlyIfSound};
 ghost use Rattle.wm_shared.specs.Subject.{IsSubject};
-ghost use Rattle.wm_tree.specs.Sound.{IsSound};
 
 use wm_base::{ConId, ErrorText, Refusal};
 use wm_shared::{is_hidden, is_space};
@@ -11,11 +10,8 @@ use wm_tree::Tree;
 /// Raises the container's parent, which is a workspace for the containers at the top of it and for floating windows.
 pub fn focus_parent(t: &mut Tree, from: ConId) -> Result<(), Refusal>
     requires { IsSubject t.old from }
-    ensures tree { OnOk result (t.new ≡ focus_parent_tree from t.old) }
-    ensures fine { OnOk result (focus_parent_refusal from t.old ≡ None) }
-    ensures err { OnErr result (t.new ≡ t.old) }
-    ensures cause { IfErr result (λ e. focus_parent_refusal from t.old ≡ Some e) }
-    ensures sound { IsSound t.old → IsSound t.new }
+    ensures { DoesExactlyIfSound t.old t.new result (focus_parent_refusal from)
+        (focus_parent_tree from) }
 {
     if is_hidden(t, from) {
         return Err(Refusal::NoTarget(ErrorText::NoWorkspace));
@@ -32,11 +28,8 @@ pub fn focus_parent(t: &mut Tree, from: ConId) -> Result<(), Refusal>
 /// Raises the focused child of the container or workspace.
 pub fn focus_child(t: &mut Tree, from: ConId) -> Result<(), Refusal>
     requires { IsSubject t.old from }
-    ensures tree { OnOk result (t.new ≡ focus_child_tree from t.old) }
-    ensures fine { OnOk result (focus_child_refusal from t.old ≡ None) }
-    ensures err { OnErr result (t.new ≡ t.old) }
-    ensures cause { IfErr result (λ e. focus_child_refusal from t.old ≡ Some e) }
-    ensures sound { IsSound t.old → IsSound t.new }
+    ensures { DoesExactlyIfSound t.old t.new result (focus_child_refusal from)
+        (focus_child_tree from) }
 {
     if is_hidden(t, from) {
         return Err(Refusal::NoTarget(ErrorText::NoWorkspace));

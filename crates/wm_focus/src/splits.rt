@@ -1,9 +1,8 @@
 //! Splitting containers, and the layouts of what holds them.
-ghost use Rattle.std.specs.Prelude.{◌≡◌, ◌≢◌, None, Some, OnOk, OnErr, IfErr};
-ghost use Rattle.wm_shared.specs.Refusing.{IsCause};
+ghost use Rattle.std.specs.Prelude.{◌≡◌, ◌≢◌, None, Some, OnOk, IfErr};
 ghost use Rattle.wm_focus.specs.Splits.{asked_split, chosen, cycle_layout_refusal, cycle_layout_tree, gives_layout, has_no_second, is_plain_split, laid, layout_refusal, layouts_by, layouts_of, next_layout, other_split, set_layout_refusal, set_layout_tree, split_layouts, split_refusal, split_tree};
+ghost use Rattle.wm_shared.specs.Does.{DoesExactlyIfSound, DoesIfSound};
 ghost use Rattle.wm_shared.specs.Subject.{IsSubject};
-ghost use Rattle.wm_tree.specs.Sound.{IsSound};
 ghost use Rattle.wm_forest.specs.declared.part.ConPart.{ConPart};
 
 use wm_base::{ConId, ErrorText, Layout, Refusal};
@@ -81,11 +80,8 @@ fn layout_refusal(t: &Tree, con: ConId) -> Result<(), Refusal>
 /// had.
 pub fn set_layout(t: &mut Tree, con: ConId, arg: LayoutArg) -> Result<(), Refusal>
     requires { IsSubject t.old con }
-    ensures tree { OnOk result (t.new ≡ set_layout_tree con arg t.old) }
-    ensures fine { OnOk result (set_layout_refusal con arg t.old ≡ None) }
-    ensures err { OnErr result (t.new ≡ t.old) }
-    ensures cause { IfErr result (λ e. set_layout_refusal con arg t.old ≡ Some e) }
-    ensures sound { IsSound t.old → IsSound t.new }
+    ensures { DoesExactlyIfSound t.old t.new result (set_layout_refusal con arg)
+        (set_layout_tree con arg) }
 {
     layout_refusal(t, con)?;
     let at = laid(t, con);
@@ -110,11 +106,8 @@ fn chosen(arg: LayoutArg, last: Layout) -> Layout
 /// and the last split, or of all four.
 pub fn cycle_layout(t: &mut Tree, con: ConId, arg: Cycle) -> Result<(), Refusal>
     requires { IsSubject t.old con }
-    ensures tree { OnOk result (t.new ≡ cycle_layout_tree con arg t.old) }
-    ensures fine { OnOk result (cycle_layout_refusal con arg t.old ≡ None) }
-    ensures err { OnErr result (t.new ≡ t.old) }
-    ensures cause { IfErr result (λ e. cycle_layout_refusal con arg t.old ≡ Some e) }
-    ensures sound { IsSound t.old → IsSound t.new }
+    ensures { DoesExactlyIfSound t.old t.new result (cycle_layout_refusal con arg)
+        (cycle_layout_tree con arg) }
 {
     layout_refusal(t, con)?;
     let at = laid(t, con);
@@ -144,11 +137,7 @@ fn next_layout(arg: Cycle, layouts: Layouts) -> Layout
 /// Otherwise a new split with the layout takes the container's place and holds it.
 pub fn split(t: &mut Tree, con: ConId, arg: SplitArg) -> Result<(), Refusal>
     requires { IsSubject t.old con }
-    ensures tree { OnOk result (t.new ≡ split_tree con arg t.old) }
-    ensures fine { OnOk result (split_refusal con arg t.old ≡ None) }
-    ensures err { OnErr result (t.new ≡ t.old) }
-    ensures cause { IfErr result (IsCause (split_refusal con arg t.old)) }
-    ensures sound { IsSound t.old → IsSound t.new }
+    ensures { DoesIfSound t.old t.new result (split_refusal con arg) (split_tree con arg) }
 {
     layout_refusal(t, con)?;
     let at = laid(t, con);

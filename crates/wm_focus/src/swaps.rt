@@ -1,12 +1,10 @@
 //! Exchanging the places of two containers, and moving one after another.
-ghost use Rattle.std.specs.Prelude.{◌≡◌, ◌≢◌, ◌&&◌, ◌||◌, Some, None, OnOk, OnErr, IfErr, false, true};
-ghost use Rattle.wm_shared.specs.Refusing.{IsCause};
+ghost use Rattle.std.specs.Prelude.{◌≡◌, ◌≢◌, ◌&&◌, ◌||◌, Some, None, false, true};
+ghost use Rattle.wm_shared.specs.Does.{DoesExactly, DoesExactlyIfSound};
 ghost use Rattle.wm_shared.specs.Subject.{IsSubject};
-ghost use Rattle.wm_focus.specs.Swaps.{beside_refusal, exchange_refusal, exchanged_with, is_part, is_window_kind, moved_after, move_to_mark_refusal, move_to_mark_tree, partner, partner_text, swap_refusal, swap_tree};
-ghost use Rattle.wm_spaces.specs.Sending.{sent_some, sent_some_refusal};
+ghost use Rattle.wm_focus.specs.Swaps.{beside_refusal, exchange_refusal, exchanged_with, is_part, is_window_kind, moved_after, move_to_mark_refusal, move_to_mark_tree, partner, partner_text, send_beside_refusal, sent_beside, swap_refusal, swap_tree};
 ghost use Rattle.wm_forest.specs.Look.{con_kind, has, kind_of, only};
 ghost use Rattle.wm_tree.specs.Sound.{IsSound};
-ghost use Rattle.wm_tree.specs.TreeValue.{workspace_of};
 
 use crate::marks::marked;
 use crate::within::is_within;
@@ -56,11 +54,8 @@ fn partner_text(arg: &SwapArg) -> ErrorText
 /// Exchanges the places of the container and of another one; the shares stay with the places.
 pub fn swap(t: &mut Tree, con: ConId, arg: &SwapArg) -> Result<(), Refusal>
     requires { IsSubject t.old con }
-    ensures tree { OnOk result (t.new ≡ swap_tree con arg.now t.old) }
-    ensures fine { OnOk result (swap_refusal con arg.now t.old ≡ None) }
-    ensures err { OnErr result (t.new ≡ t.old) }
-    ensures cause { IfErr result (λ e. swap_refusal con arg.now t.old ≡ Some e) }
-    ensures sound { IsSound t.old → IsSound t.new }
+    ensures { DoesExactlyIfSound t.old t.new result (swap_refusal con arg.now)
+        (swap_tree con arg.now) }
 {
     if is_hidden(t, con) {
         return Err(Refusal::NoTarget(ErrorText::NoWorkspace));
@@ -76,11 +71,8 @@ pub fn swap(t: &mut Tree, con: ConId, arg: &SwapArg) -> Result<(), Refusal>
 
 /// Exchanges the places of two containers.
 fn exchange(t: &mut Tree, con: ConId, other: ConId) -> Result<(), Refusal>
-    ensures tree { OnOk result (t.new ≡ exchanged_with con (Some other) t.old) }
-    ensures fine { OnOk result (exchange_refusal con (Some other) ErrorText.NoMark t.old ≡ None) }
-    ensures err { OnErr result (t.new ≡ t.old) }
-    ensures cause { IfErr result (λ e. exchange_refusal con (Some other) ErrorText.NoMark t.old ≡ Some e) }
-    ensures sound { IsSound t.old → IsSound t.new }
+    ensures { DoesExactlyIfSound t.old t.new result (exchange_refusal con (Some other) ErrorText.NoMark)
+        (exchanged_with con (Some other)) }
 {
     if is_within(t, con, other) || is_within(t, other, con) {
         return Err(Refusal::NoTarget(ErrorText::SameContainer));
@@ -98,11 +90,8 @@ fn exchange(t: &mut Tree, con: ConId, other: ConId) -> Result<(), Refusal>
 /// leave a split without children, which settling removes.
 pub fn move_to_mark(t: &mut Tree, con: ConId, name: &Text) -> Result<(), Refusal>
     requires { IsSubject t.old con }
-    ensures tree { OnOk result (t.new ≡ move_to_mark_tree con name.now t.old) }
-    ensures fine { OnOk result (move_to_mark_refusal con name.now t.old ≡ None) }
-    ensures err { OnErr result (t.new ≡ t.old) }
-    ensures cause { IfErr result (λ e. move_to_mark_refusal con name.now t.old ≡ Some e) }
-    ensures sound { IsSound t.old → IsSound t.new }
+    ensures { DoesExactlyIfSound t.old t.new result (move_to_mark_refusal con name.now)
+        (move_to_mark_tree con name.now) }
 {
     if is_hidden(t, con) {
         return Err(Refusal::NoTarget(ErrorText::NoWorkspace));
@@ -120,11 +109,8 @@ pub fn move_to_mark(t: &mut Tree, con: ConId, name: &Text) -> Result<(), Refusal
 fn move_after(t: &mut Tree, con: ConId, other: ConId) -> Result<(), Refusal>
     requires sound { IsSound t.old }
     requires con { kind_of con_kind con t.old.nodes ≢ None }
-    ensures tree { OnOk result (t.new ≡ moved_after con (Some other) t.old) }
-    ensures fine { OnOk result (beside_refusal con (Some other) t.old ≡ None) }
-    ensures err { OnErr result (t.new ≡ t.old) }
-    ensures cause { IfErr result (λ e. beside_refusal con (Some other) t.old ≡ Some e) }
-    ensures sound { IsSound t.old → IsSound t.new }
+    ensures { DoesExactlyIfSound t.old t.new result (beside_refusal con (Some other))
+        (moved_after con (Some other)) }
 {
     if is_within(t, con, other) {
         return Err(Refusal::NoTarget(ErrorText::SameContainer));
@@ -145,11 +131,8 @@ fn move_after(t: &mut Tree, con: ConId, other: ConId) -> Result<(), Refusal>
 fn send_beside(t: &mut Tree, con: ConId, other: ConId) -> Result<(), Refusal>
     requires sound { IsSound t.old }
     requires con { kind_of con_kind con t.old.nodes ≢ None }
-    ensures tree { OnOk result (t.new ≡ sent_some (workspace_of t.old other) con t.old) }
-    ensures fine { OnOk result (sent_some_refusal (workspace_of t.old other) con t.old ≡ None) }
-    ensures err { OnErr result (t.new ≡ t.old) }
-    ensures cause { IfErr result (λ e. sent_some_refusal (workspace_of t.old other) con t.old ≡ Some e) }
-    ensures sound { IsSound t.new }
+    ensures { DoesExactly t.old t.new result (send_beside_refusal con other)
+        (sent_beside con other) }
 {
     match t.workspace_of(other) {
         Some(w) => send(t, con, w),

@@ -6,9 +6,15 @@ use Rattle.wm_focus.specs.Swaps.{is_part}
 use Rattle.wm_tree.specs.TreeValue.{is_tiled_con}
 use Rattle.wm_focus.proofs.swaps.exchange.Goals as goal
 
-pub returns-in-Err-clause-cause : goal.returns-in-Err-clause-cause
-returns-in-Err-clause-cause c =
-    let apart : is_part c.args.t.now c.args.con c.args.other ≡ false = first_of (search rules, grind (arith, common_steps)) in
-    let own : is_tiled_con c.args.t.now c.args.con ≡ true = first_of (search rules, grind (arith, common_steps)) in
-    let others : is_tiled_con c.args.t.now c.args.other ≡ true = first_of (search rules, grind (arith, common_steps)) in
-    rw c.refused.ensures (exchange_cause c.args.t.now c.args.con c.args.other NoMark c.in-Err.error apart own others c.in-Err.ensures.cause)
+pub returns-in-Err : goal.returns-in-Err
+returns-in-Err c = record {
+  tree = search rules;
+  fine = search rules;
+  err = search rules;
+  cause =
+      let apart : is_part c.args.t.now c.args.con c.args.other ≡ false = first_of (search rules, grind (arith, common_steps)) in
+      let own : is_tiled_con c.args.t.now c.args.con ≡ true = first_of (search rules, grind (arith, common_steps)) in
+      let others : is_tiled_con c.args.t.now c.args.other ≡ true = first_of (search rules, grind (arith, common_steps)) in
+      rw c.refused.ensures (exchange_cause c.args.t.now c.args.con c.args.other NoMark c.in-Err.error apart own others c.in-Err.ensures.cause);
+  sound = search rules;
+}
