@@ -24,6 +24,10 @@ use Rattle.wm_tree.specs.TreeValue.{TreeValue, is_tiled_con, leaf, or_id, worksp
 abbrev pub IsGoal : ConId → Place → TreeValue → Type 0
 IsGoal c p t = (has c t.nodes ≡ true) × (has (named p) t.nodes ≡ true) × IsMove c p t.nodes
 
+-- the move passes no limit
+abbrev pub moved_refusal : ConId → Place → TreeValue → Option Refusal
+moved_refusal c p t = full_error (passed_by_move c p t.nodes)
+
 -- ---- its rectangle
 
 abbrev pub rect_or : Option Rect → Rect → Rect
@@ -60,7 +64,7 @@ floated c (Some w) t = if is_tiled_con t c then moved c (Float w (floating_rect 
 
 abbrev pub floated_refusal : ConId → Option ConId → TreeValue → Option Refusal
 floated_refusal c None t = None
-floated_refusal c (Some w) t = if is_tiled_con t c then full_error (passed_by_move c (Float w (floating_rect c t)) t.nodes) else None
+floated_refusal c (Some w) t = if is_tiled_con t c then moved_refusal c (Float w (floating_rect c t)) t else None
 
 -- a tiled window comes last among the floating windows of its workspace; a floating one stays as it is
 abbrev pub float_tree : ConId → TreeValue → TreeValue
@@ -81,7 +85,7 @@ sunk c (Some w) t = if is_tiled_con t c then t else flag_set false c (moved c (t
 
 abbrev pub sunk_refusal : ConId → Option ConId → TreeValue → Option Refusal
 sunk_refusal c None t = None
-sunk_refusal c (Some w) t = if is_tiled_con t c then None else full_error (passed_by_move c (tiling_place w t) t.nodes)
+sunk_refusal c (Some w) t = if is_tiled_con t c then None else moved_refusal c (tiling_place w t) t
 
 -- a floating window is tiled in its workspace, and no longer flagged for the scratchpad; a tiled one stays as it is
 abbrev pub sink_tree : ConId → TreeValue → TreeValue

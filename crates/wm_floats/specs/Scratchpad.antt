@@ -7,18 +7,17 @@ use Rattle.wm_base.specs.declared.errors.Refusal.TheVariants.{NoTarget}
 use Rattle.wm_base.specs.declared.geometry.Rect.{Rect}
 use Rattle.wm_base.specs.declared.ids.ConId.{ConId}
 use Rattle.wm_floats.specs.declared.kinds.Kind.TheVariants as kinds
-use Rattle.wm_floats.specs.Floating.{floating_rect}
+use Rattle.wm_floats.specs.Floating.{floating_rect, moved_refusal}
 use Rattle.wm_floats.specs.Kinds.{is_of_space, latest}
 use Rattle.wm_floats.specs.Places.{held_middle}
 use Rattle.wm_floats.specs.Windows.{flag_set, window_refusal}
-use Rattle.wm_shared.specs.Refusing.{full_error}
 use Rattle.wm_shared.specs.Subject.{is_hidden}
 use Rattle.wm_shared.specs.Rects.{rect_of}
 use Rattle.wm_forest.specs.declared.part.OutputPart.{OutputPart}
 use Rattle.wm_forest.specs.declared.place.Place.{Place}
 use Rattle.wm_forest.specs.declared.place.Place.TheVariants.{Float, Scratchpad}
 use Rattle.wm_forest.specs.Look.{first_floats, kind_of, nth_id, output_kind}
-use Rattle.wm_tree.specs.Move.{moved, passed_by_move}
+use Rattle.wm_tree.specs.Move.{moved}
 use Rattle.wm_tree.specs.TreeValue.{TreeValue, current, focused, shown}
 use Rattle.wm_tree.specs.Words.{with_raised}
 
@@ -29,14 +28,14 @@ abbrev pub to_scratchpad_tree : ConId → TreeValue → TreeValue
 to_scratchpad_tree c t = flag_set true c (moved c (Scratchpad (floating_rect c t)) t)
 
 abbrev pub to_scratchpad_refusal : ConId → TreeValue → Option Refusal
-to_scratchpad_refusal c t = option_or (window_refusal c t) (full_error (passed_by_move c (Scratchpad (floating_rect c t)) t.nodes))
+to_scratchpad_refusal c t = option_or (window_refusal c t) (moved_refusal c (Scratchpad (floating_rect c t)) t)
 
 -- a floating window comes last into the scratchpad as it is
 abbrev pub put_away : ConId → TreeValue → TreeValue
 put_away c t = moved c (Scratchpad (rect_of c t)) t
 
 abbrev pub put_away_refusal : ConId → TreeValue → Option Refusal
-put_away_refusal c t = full_error (passed_by_move c (Scratchpad (rect_of c t)) t.nodes)
+put_away_refusal c t = moved_refusal c (Scratchpad (rect_of c t)) t
 
 -- ---- showing
 
@@ -53,7 +52,7 @@ abbrev pub brought : ConId → TreeValue → TreeValue
 brought c t = with_raised c (moved c (coming_place c t) t)
 
 abbrev pub brought_refusal : ConId → TreeValue → Option Refusal
-brought_refusal c t = full_error (passed_by_move c (coming_place c t) t.nodes)
+brought_refusal c t = moved_refusal c (coming_place c t) t
 
 abbrev pub first_brought : Option ConId → TreeValue → TreeValue
 first_brought None t = t
@@ -67,12 +66,20 @@ first_brought_refusal (Some c) t = brought_refusal c t
 abbrev pub first_hidden : TreeValue → Option ConId
 first_hidden t = nth_id 0 (first_floats t.nodes)
 
+-- the first window of the scratchpad comes
+abbrev pub bring_first_tree : TreeValue → TreeValue
+bring_first_tree t = first_brought (first_hidden t) t
+
+-- the scratchpad is not empty, and no limit is passed
+abbrev pub bring_first_refusal : TreeValue → Option Refusal
+bring_first_refusal t = first_brought_refusal (first_hidden t) t
+
 abbrev pub latest_or_first : Option ConId → TreeValue → TreeValue
-latest_or_first None t = first_brought (first_hidden t) t
+latest_or_first None t = bring_first_tree t
 latest_or_first (Some c) t = with_raised c t
 
 abbrev pub latest_or_first_refusal : Option ConId → TreeValue → Option Refusal
-latest_or_first_refusal None t = first_brought_refusal (first_hidden t) t
+latest_or_first_refusal None t = bring_first_refusal t
 latest_or_first_refusal (Some c) t = None
 
 -- a flagged window that floats on the focused workspace is put away where it is focused, and else focused; where there is

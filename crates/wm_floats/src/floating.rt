@@ -1,11 +1,11 @@
 //! Windows float, and are tiled again.
-ghost use Rattle.std.specs.Prelude.{◌≡◌, ◌≢◌, None, Some, true, false, OnOk, OnErr, IfErr};
+ghost use Rattle.std.specs.Prelude.{◌≡◌, ◌≢◌, None, Some, true, false, OnOk};
 ghost use Rattle.std.specs.Option.{option_copied};
-ghost use Rattle.wm_floats.specs.Floating.{IsGoal, earlier, float_refusal, float_tree, floated, floated_refusal, floating_by, floating_rect, new_rect, sink_refusal, sink_tree, sunk, sunk_refusal, tiling_place};
-ghost use Rattle.wm_shared.specs.Refusing.{full_error};
+ghost use Rattle.wm_floats.specs.Floating.{IsGoal, earlier, float_refusal, float_tree, floated, floated_refusal, floating_by, floating_rect, moved_refusal, new_rect, sink_refusal, sink_tree, sunk, sunk_refusal, tiling_place};
+ghost use Rattle.wm_shared.specs.Does.{DoesExactly};
 ghost use Rattle.wm_shared.specs.Subject.{IsSubject, is_space};
 ghost use Rattle.wm_floats.specs.Windows.{natural_of};
-ghost use Rattle.wm_tree.specs.Move.{moved, passed_by_move};
+ghost use Rattle.wm_tree.specs.Move.{moved};
 ghost use Rattle.wm_forest.specs.Look.{con_kind, kind_of};
 ghost use Rattle.wm_tree.specs.Sound.{IsSound};
 ghost use Rattle.wm_tree.specs.TreeValue.{is_tiled_con, workspace_of};
@@ -20,11 +20,7 @@ use wm_tree::{ConPart, OutputPart, Place, Tree};
 pub(crate) fn go(t: &mut Tree, con: ConId, at: Place) -> Result<(), Refusal>
     requires sound { IsSound t.old }
     requires goal { IsGoal con at t.old }
-    ensures tree { OnOk result (t.new ≡ moved con at t.old) }
-    ensures fine { OnOk result (full_error (passed_by_move con at t.old.nodes) ≡ None) }
-    ensures err { OnErr result (t.new ≡ t.old) }
-    ensures cause { IfErr result (λ e. full_error (passed_by_move con at t.old.nodes) ≡ Some e) }
-    ensures sound { IsSound t.new }
+    ensures { DoesExactly t.old t.new result (moved_refusal con at) (moved con at) }
 {
     match t.move_to(con, at) {
         Ok(()) => Ok(()),
@@ -69,11 +65,7 @@ pub(crate) fn floating_rect(t: &Tree, con: ConId) -> Rect
 /// Nothing changes where it floats.
 pub fn float(t: &mut Tree, con: ConId) -> Result<(), Refusal>
     requires { IsSubject t.old con }
-    ensures tree { OnOk result (t.new ≡ float_tree con t.old) }
-    ensures fine { OnOk result (float_refusal con t.old ≡ None) }
-    ensures err { OnErr result (t.new ≡ t.old) }
-    ensures cause { IfErr result (λ e. float_refusal con t.old ≡ Some e) }
-    ensures sound { IsSound t.new }
+    ensures does { DoesExactly t.old t.new result (float_refusal con) (float_tree con) }
 
     // The window that was tiled has that rectangle.
     ensures rect { is_tiled_con t.old con ≡ true → OnOk result (earlier con t.new ≡ Some (floating_rect con t.old)) }
@@ -92,11 +84,8 @@ fn float_on(t: &mut Tree, con: ConId, w: ConId) -> Result<(), Refusal>
     requires sound { IsSound t.old }
     requires con { kind_of con_kind con t.old.nodes ≢ None }
     requires space { is_space t.old w ≡ true }
-    ensures tree { OnOk result (t.new ≡ floated con (Some w) t.old) }
-    ensures fine { OnOk result (floated_refusal con (Some w) t.old ≡ None) }
-    ensures err { OnErr result (t.new ≡ t.old) }
-    ensures cause { IfErr result (λ e. floated_refusal con (Some w) t.old ≡ Some e) }
-    ensures sound { IsSound t.new }
+    ensures does { DoesExactly t.old t.new result (floated_refusal con (Some w))
+        (floated con (Some w)) }
     ensures rect { is_tiled_con t.old con ≡ true → OnOk result (earlier con t.new ≡ Some (floating_rect con t.old)) }
 {
     if !t.is_tiled(con) {
@@ -122,11 +111,7 @@ fn tiling_place(t: &Tree, w: ConId) -> Place
 /// the scratchpad. Nothing changes where it is tiled.
 pub fn sink(t: &mut Tree, con: ConId) -> Result<(), Refusal>
     requires { IsSubject t.old con }
-    ensures tree { OnOk result (t.new ≡ sink_tree con t.old) }
-    ensures fine { OnOk result (sink_refusal con t.old ≡ None) }
-    ensures err { OnErr result (t.new ≡ t.old) }
-    ensures cause { IfErr result (λ e. sink_refusal con t.old ≡ Some e) }
-    ensures sound { IsSound t.new }
+    ensures does { DoesExactly t.old t.new result (sink_refusal con) (sink_tree con) }
 
     // It keeps the rectangle with which it floated, and with which it floats again.
     ensures rect { OnOk result (earlier con t.new ≡ earlier con t.old) }
@@ -145,11 +130,7 @@ fn sink_on(t: &mut Tree, con: ConId, w: ConId) -> Result<(), Refusal>
     requires sound { IsSound t.old }
     requires window { natural_of con t.old ≢ None }
     requires space { workspace_of t.old con ≡ Some w }
-    ensures tree { OnOk result (t.new ≡ sunk con (Some w) t.old) }
-    ensures fine { OnOk result (sunk_refusal con (Some w) t.old ≡ None) }
-    ensures err { OnErr result (t.new ≡ t.old) }
-    ensures cause { IfErr result (λ e. sunk_refusal con (Some w) t.old ≡ Some e) }
-    ensures sound { IsSound t.new }
+    ensures does { DoesExactly t.old t.new result (sunk_refusal con (Some w)) (sunk con (Some w)) }
     ensures rect { OnOk result (earlier con t.new ≡ earlier con t.old) }
 {
     if t.is_tiled(con) {

@@ -1,7 +1,8 @@
 //! Windows that fill their output.
-ghost use Rattle.std.specs.Prelude.{◌≡◌, None, Some, true, OnOk, OnErr, IfErr};
+ghost use Rattle.std.specs.Prelude.{◌≡◌, Some, true, OnOk};
 ghost use Rattle.wm_floats.specs.Fullscreen.{fills_alone, full_in, fullscreen_tree, is_full, other_full, others_unfull};
 ghost use Rattle.wm_floats.specs.Windows.{window_refusal};
+ghost use Rattle.wm_shared.specs.Does.{DoesExactly};
 ghost use Rattle.wm_shared.specs.Subject.{IsSubject};
 ghost use Rattle.std.specs.Option.{option_or};
 ghost use Rattle.wm_forest.specs.Look.{first_floats, first_kids};
@@ -114,11 +115,7 @@ fn fill(t: &mut Tree, con: ConId)
 /// Makes the window fullscreen (`on`), which takes that from the others of its workspace, or no longer so.
 pub fn fullscreen(t: &mut Tree, con: ConId, on: bool) -> Result<(), Refusal>
     requires { IsSubject t.old con }
-    ensures tree { OnOk result (t.new ≡ fullscreen_tree con on t.old) }
-    ensures fine { OnOk result (window_refusal con t.old ≡ None) }
-    ensures err { OnErr result (t.new ≡ t.old) }
-    ensures cause { IfErr result (λ e. window_refusal con t.old ≡ Some e) }
-    ensures sound { IsSound t.new }
+    ensures does { DoesExactly t.old t.new result (window_refusal con) (fullscreen_tree con on) }
 
     // No other window of its workspace is fullscreen beside it.
     ensures alone { on ≡ true → OnOk result (fills_alone con (workspace_of t.old con) t.new ≡ true) }

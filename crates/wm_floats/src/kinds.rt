@@ -1,11 +1,11 @@
 //! The most recent tiled or floating container of a workspace.
-ghost use Rattle.std.specs.Prelude.{◌≡◌, None, Some, OnOk, OnErr, IfErr};
+ghost use Rattle.std.specs.Prelude.{◌≡◌, Some};
 ghost use Rattle.wm_floats.specs.Kinds.{first_of, focus_kind_refusal, focus_kind_tree, is_of, is_flagged_state, is_of_space, kind_by, latest};
 ghost use Rattle.wm_floats.specs.declared.kinds.Kind.TheVariants as kinds;
 ghost use Rattle.wm_floats.specs.Windows.{state_of};
+ghost use Rattle.wm_shared.specs.Does.{DoesExactly};
 ghost use Rattle.wm_tree.specs.TreeValue.{workspace_of};
 ghost use Rattle.wm_shared.specs.Subject.{IsSubject};
-ghost use Rattle.wm_tree.specs.Sound.{IsSound};
 
 use crate::windows::state_of;
 use wm_base::{ConId, ErrorText, Refusal};
@@ -94,11 +94,8 @@ fn latest_beside(t: &Tree, kind: Kind, con: ConId) -> Option<ConId>
 /// Raises the most recent floating window (`floating`) or tiled container of the subject's workspace.
 pub fn focus_kind(t: &mut Tree, from: ConId, floating: bool) -> Result<(), Refusal>
     requires { IsSubject t.old from }
-    ensures tree { OnOk result (t.new ≡ focus_kind_tree from floating t.old) }
-    ensures fine { OnOk result (focus_kind_refusal from floating t.old ≡ None) }
-    ensures err { OnErr result (t.new ≡ t.old) }
-    ensures cause { IfErr result (λ e. focus_kind_refusal from floating t.old ≡ Some e) }
-    ensures sound { IsSound t.new }
+    ensures { DoesExactly t.old t.new result (focus_kind_refusal from floating)
+        (focus_kind_tree from floating) }
 {
     if is_hidden(t, from) {
         return Err(Refusal::NoTarget(ErrorText::NoWorkspace));

@@ -1,9 +1,9 @@
 //! Moving floating windows about on the screen.
-ghost use Rattle.std.specs.Prelude.{◌≡◌, ◌+ℤ◌, None, Some, OnOk, OnErr, IfErr};
+ghost use Rattle.std.specs.Prelude.{◌≡◌, ◌+ℤ◌};
 ghost use Rattle.wm_floats.specs.Placing.{centre_refusal, centre_tree, middle_x, middle_y, move_by_refusal, move_by_tree, place_at_refusal, place_at_tree};
 ghost use Rattle.std.specs.Option.{option_copied};
+ghost use Rattle.wm_shared.specs.Does.{DoesExactly};
 ghost use Rattle.wm_shared.specs.Subject.{IsSubject};
-ghost use Rattle.wm_tree.specs.Sound.{IsSound};
 
 use crate::places::{is_in_range, middle_of};
 use crate::windows::set_rect;
@@ -33,11 +33,7 @@ fn place_refusal(t: &Tree, con: ConId, x: i64, y: i64) -> Option<Refusal>
 /// Puts the floating window's outer rectangle at this place, in pixels. Its size stays.
 pub fn place_at(t: &mut Tree, con: ConId, x: i64, y: i64) -> Result<(), Refusal>
     requires { IsSubject t.old con }
-    ensures tree { OnOk result (t.new ≡ place_at_tree con x y t.old) }
-    ensures fine { OnOk result (place_at_refusal con x y t.old ≡ None) }
-    ensures err { OnErr result (t.new ≡ t.old) }
-    ensures cause { IfErr result (λ e. place_at_refusal con x y t.old ≡ Some e) }
-    ensures sound { IsSound t.new }
+    ensures { DoesExactly t.old t.new result (place_at_refusal con x y) (place_at_tree con x y) }
 {
     if let Some(error) = place_refusal(t, con, x, y) {
         return Err(error);
@@ -62,11 +58,7 @@ fn sum(a: i32, b: i32) -> i64
 /// Shifts the floating window by so many pixels to the right and down.
 pub fn move_by(t: &mut Tree, con: ConId, dx: i32, dy: i32) -> Result<(), Refusal>
     requires { IsSubject t.old con }
-    ensures tree { OnOk result (t.new ≡ move_by_tree con dx dy t.old) }
-    ensures fine { OnOk result (move_by_refusal con dx dy t.old ≡ None) }
-    ensures err { OnErr result (t.new ≡ t.old) }
-    ensures cause { IfErr result (λ e. move_by_refusal con dx dy t.old ≡ Some e) }
-    ensures sound { IsSound t.new }
+    ensures { DoesExactly t.old t.new result (move_by_refusal con dx dy) (move_by_tree con dx dy) }
 {
     let rect = rect_of(t, con);
     let x = sum(rect.x, dx);
@@ -97,11 +89,7 @@ fn middle_y(output: Option<&OutputPart>, rect: Rect) -> i64
 /// Puts the floating window in the middle of its output: half of what is left is before it, rounded down.
 pub fn centre(t: &mut Tree, con: ConId) -> Result<(), Refusal>
     requires { IsSubject t.old con }
-    ensures tree { OnOk result (t.new ≡ centre_tree con t.old) }
-    ensures fine { OnOk result (centre_refusal con t.old ≡ None) }
-    ensures err { OnErr result (t.new ≡ t.old) }
-    ensures cause { IfErr result (λ e. centre_refusal con t.old ≡ Some e) }
-    ensures sound { IsSound t.new }
+    ensures { DoesExactly t.old t.new result (centre_refusal con) (centre_tree con) }
 {
     let rect = rect_of(t, con);
     let x = middle_x(output_part_of(t, con), rect);

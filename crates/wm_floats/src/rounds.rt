@@ -1,10 +1,9 @@
 //! Floating windows in a direction: the next one by id, round both ends, and a shift by so many pixels.
-ghost use Rattle.std.specs.Prelude.{◌≡◌, None, Some, OnOk, OnErr, IfErr};
+ghost use Rattle.std.specs.Prelude.{◌≡◌};
 ghost use Rattle.wm_floats.specs.Rounds.{ahead, floats_at, focus_round_refusal, focus_round_tree, key_round, keys_round, off, round_to, shift_refusal, shift_tree, shifted_x, shifted_y};
+ghost use Rattle.wm_shared.specs.Does.{Does, DoesExactly};
 ghost use Rattle.wm_shared.specs.Keys.{least};
-ghost use Rattle.wm_shared.specs.Refusing.{IsCause};
 ghost use Rattle.wm_shared.specs.Subject.{IsSubject};
-ghost use Rattle.wm_tree.specs.Sound.{IsSound};
 
 use crate::placing::place_at;
 use wm_base::{ConId, Dir, ErrorText, NoMemory, Rect, Refusal};
@@ -93,11 +92,7 @@ fn round_to(t: &Tree, con: ConId, d: Dir) -> Option<ConId>
 /// (left, up); behind the last one comes the first.
 pub fn focus_round(t: &mut Tree, from: ConId, d: Dir) -> Result<(), Refusal>
     requires { IsSubject t.old from }
-    ensures tree { OnOk result (t.new ≡ focus_round_tree from d t.old) }
-    ensures fine { OnOk result (focus_round_refusal from d t.old ≡ None) }
-    ensures err { OnErr result (t.new ≡ t.old) }
-    ensures cause { IfErr result (IsCause (focus_round_refusal from d t.old)) }
-    ensures sound { IsSound t.new }
+    ensures { Does t.old t.new result (focus_round_refusal from d) (focus_round_tree from d) }
 {
     if is_hidden(t, from) {
         return Err(Refusal::NoTarget(ErrorText::NoWorkspace));
@@ -136,11 +131,7 @@ fn shifted_y(d: Dir, px: u32, rect: Rect) -> i64
 /// Shifts the floating window by so many pixels in the direction.
 pub fn shift(t: &mut Tree, con: ConId, d: Dir, px: u32) -> Result<(), Refusal>
     requires { IsSubject t.old con }
-    ensures tree { OnOk result (t.new ≡ shift_tree con d px t.old) }
-    ensures fine { OnOk result (shift_refusal con d px t.old ≡ None) }
-    ensures err { OnErr result (t.new ≡ t.old) }
-    ensures cause { IfErr result (λ e. shift_refusal con d px t.old ≡ Some e) }
-    ensures sound { IsSound t.new }
+    ensures { DoesExactly t.old t.new result (shift_refusal con d px) (shift_tree con d px) }
 {
     let rect = rect_of(t, con);
     let x = shifted_x(d, px, rect);

@@ -1,10 +1,11 @@
 //! Windows hide in the scratchpad and come back.
-ghost use Rattle.std.specs.Prelude.{◌≡◌, ◌≢◌, None, Some, false, true, OnOk, OnErr, IfErr, IfSome};
+ghost use Rattle.std.specs.Prelude.{◌≡◌, ◌≢◌, None, Some, false, true, OnOk, IfSome};
 ghost use Rattle.wm_floats.specs.Floating.{earlier, floating_rect};
 ghost use Rattle.wm_floats.specs.Kinds.{is_flagged_state};
 ghost use Rattle.wm_floats.specs.Windows.{state_of};
-ghost use Rattle.wm_floats.specs.Scratchpad.{brought, brought_refusal, coming_place, first_brought, first_brought_refusal, first_hidden, middle_on, put_away, put_away_refusal, show_next_refusal, show_next_tree, show_scratchpad_refusal, show_scratchpad_tree, show_this_refusal, show_this_tree, to_scratchpad_refusal, to_scratchpad_tree};
+ghost use Rattle.wm_floats.specs.Scratchpad.{bring_first_refusal, bring_first_tree, brought, brought_refusal, coming_place, middle_on, put_away, put_away_refusal, show_next_refusal, show_next_tree, show_scratchpad_refusal, show_scratchpad_tree, show_this_refusal, show_this_tree, to_scratchpad_refusal, to_scratchpad_tree};
 ghost use Rattle.std.specs.Option.{option_copied};
+ghost use Rattle.wm_shared.specs.Does.{DoesExactly};
 ghost use Rattle.wm_shared.specs.Subject.{IsSubject, is_hidden};
 ghost use Rattle.wm_forest.specs.Look.{con_kind, kind_of};
 ghost use Rattle.wm_tree.specs.Sound.{IsSound};
@@ -20,11 +21,8 @@ use wm_tree::{OutputPart, Place, Tree};
 /// Puts the window last into the scratchpad, floating and flagged. It loses fullscreen.
 pub fn to_scratchpad(t: &mut Tree, con: ConId) -> Result<(), Refusal>
     requires { IsSubject t.old con }
-    ensures tree { OnOk result (t.new ≡ to_scratchpad_tree con t.old) }
-    ensures fine { OnOk result (to_scratchpad_refusal con t.old ≡ None) }
-    ensures err { OnErr result (t.new ≡ t.old) }
-    ensures cause { IfErr result (λ e. to_scratchpad_refusal con t.old ≡ Some e) }
-    ensures sound { IsSound t.new }
+    ensures does { DoesExactly t.old t.new result (to_scratchpad_refusal con)
+        (to_scratchpad_tree con) }
 
     // It is flagged and has a rectangle there.
     ensures flagged { OnOk result (is_flagged_state (state_of con t.new) ≡ true) }
@@ -44,11 +42,7 @@ fn put_away(t: &mut Tree, con: ConId) -> Result<(), Refusal>
     requires sound { IsSound t.old }
     requires con { kind_of con_kind con t.old.nodes ≢ None }
     requires seen { is_hidden t.old con ≡ false }
-    ensures tree { OnOk result (t.new ≡ put_away con t.old) }
-    ensures fine { OnOk result (put_away_refusal con t.old ≡ None) }
-    ensures err { OnErr result (t.new ≡ t.old) }
-    ensures cause { IfErr result (λ e. put_away_refusal con t.old ≡ Some e) }
-    ensures sound { IsSound t.new }
+    ensures { DoesExactly t.old t.new result (put_away_refusal con) (put_away con) }
 {
     let rect = rect_of(t, con);
     go(t, con, Place::Scratchpad(rect))
@@ -77,11 +71,7 @@ fn coming_place(t: &Tree, con: ConId) -> Place
 fn bring(t: &mut Tree, con: ConId) -> Result<(), Refusal>
     requires sound { IsSound t.old }
     requires con { kind_of con_kind con t.old.nodes ≢ None }
-    ensures tree { OnOk result (t.new ≡ brought con t.old) }
-    ensures fine { OnOk result (brought_refusal con t.old ≡ None) }
-    ensures err { OnErr result (t.new ≡ t.old) }
-    ensures cause { IfErr result (λ e. brought_refusal con t.old ≡ Some e) }
-    ensures sound { IsSound t.new }
+    ensures { DoesExactly t.old t.new result (brought_refusal con) (brought con) }
 {
     let at = coming_place(t, con);
     go(t, con, at)?;
@@ -92,11 +82,7 @@ fn bring(t: &mut Tree, con: ConId) -> Result<(), Refusal>
 /// Brings the first window of the scratchpad.
 fn bring_first(t: &mut Tree) -> Result<(), Refusal>
     requires { IsSound t.old }
-    ensures tree { OnOk result (t.new ≡ first_brought (first_hidden t.old) t.old) }
-    ensures fine { OnOk result (first_brought_refusal (first_hidden t.old) t.old ≡ None) }
-    ensures err { OnErr result (t.new ≡ t.old) }
-    ensures cause { IfErr result (λ e. first_brought_refusal (first_hidden t.old) t.old ≡ Some e) }
-    ensures sound { IsSound t.new }
+    ensures { DoesExactly t.old t.new result bring_first_refusal bring_first_tree }
 {
     match t.scratchpad(0) {
         Some(con) => bring(t, con),
@@ -108,11 +94,7 @@ fn bring_first(t: &mut Tree) -> Result<(), Refusal>
 /// workspace; else brings the first window of the scratchpad.
 fn show_next(t: &mut Tree) -> Result<(), Refusal>
     requires { IsSound t.old }
-    ensures tree { OnOk result (t.new ≡ show_next_tree t.old) }
-    ensures fine { OnOk result (show_next_refusal t.old ≡ None) }
-    ensures err { OnErr result (t.new ≡ t.old) }
-    ensures cause { IfErr result (λ e. show_next_refusal t.old ≡ Some e) }
-    ensures sound { IsSound t.new }
+    ensures { DoesExactly t.old t.new result show_next_refusal show_next_tree }
 {
     let w = t.shown();
     let focused = t.focused();
@@ -132,11 +114,7 @@ fn show_next(t: &mut Tree) -> Result<(), Refusal>
 /// workspace.
 fn show_this(t: &mut Tree, con: ConId) -> Result<(), Refusal>
     requires { IsSubject t.old con }
-    ensures tree { OnOk result (t.new ≡ show_this_tree con t.old) }
-    ensures fine { OnOk result (show_this_refusal con t.old ≡ None) }
-    ensures err { OnErr result (t.new ≡ t.old) }
-    ensures cause { IfErr result (λ e. show_this_refusal con t.old ≡ Some e) }
-    ensures sound { IsSound t.new }
+    ensures { DoesExactly t.old t.new result (show_this_refusal con) (show_this_tree con) }
 {
     if is_hidden(t, con) {
         return bring(t, con);
@@ -151,11 +129,8 @@ fn show_this(t: &mut Tree, con: ConId) -> Result<(), Refusal>
 pub fn show_scratchpad(t: &mut Tree, con: Option<ConId>) -> Result<(), Refusal>
     requires sound { IsSound t.old }
     requires subject { IfSome con (λ c. IsSubject t.old c) }
-    ensures tree { OnOk result (t.new ≡ show_scratchpad_tree con t.old) }
-    ensures fine { OnOk result (show_scratchpad_refusal con t.old ≡ None) }
-    ensures err { OnErr result (t.new ≡ t.old) }
-    ensures cause { IfErr result (λ e. show_scratchpad_refusal con t.old ≡ Some e) }
-    ensures sound { IsSound t.new }
+    ensures { DoesExactly t.old t.new result (show_scratchpad_refusal con)
+        (show_scratchpad_tree con) }
 {
     match con {
         Some(con) => show_this(t, con),

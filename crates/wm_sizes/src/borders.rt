@@ -1,6 +1,7 @@
 //! Borders of windows.
-ghost use Rattle.std.specs.Prelude.{◌≡◌, None, Some, OnOk, OnErr, IfErr};
+ghost use Rattle.std.specs.Prelude.{◌≡◌};
 ghost use Rattle.wm_sizes.specs.Borders.{cycle_border_refusal, cycle_border_tree, is_wide, next_border, set_border_refusal, set_border_tree};
+ghost use Rattle.wm_shared.specs.Does.{DoesExactly};
 ghost use Rattle.wm_shared.specs.Subject.{IsSubject};
 ghost use Rattle.wm_tree.specs.Sound.{IsSound};
 
@@ -27,11 +28,8 @@ fn is_wide(border: Border) -> bool
 /// Gives the window this border, of at most 64 pixels.
 pub fn set_border(t: &mut Tree, con: ConId, border: Border) -> Result<(), Refusal>
     requires { IsSubject t.old con }
-    ensures tree { OnOk result (t.new ≡ set_border_tree con border t.old) }
-    ensures fine { OnOk result (set_border_refusal con border t.old ≡ None) }
-    ensures err { OnErr result (t.new ≡ t.old) }
-    ensures cause { IfErr result (λ e. set_border_refusal con border t.old ≡ Some e) }
-    ensures sound { IsSound t.new }
+    ensures { DoesExactly t.old t.new result (set_border_refusal con border)
+        (set_border_tree con border) }
 {
     if let Some(error) = look_refusal(t, con) {
         return Err(error);
@@ -67,11 +65,7 @@ fn turn_border(t: &mut Tree, con: ConId)
 /// Goes from a normal border to none, from none to a frame of 2 pixels, and from a frame to a normal one of 2 pixels.
 pub fn cycle_border(t: &mut Tree, con: ConId) -> Result<(), Refusal>
     requires { IsSubject t.old con }
-    ensures tree { OnOk result (t.new ≡ cycle_border_tree con t.old) }
-    ensures fine { OnOk result (cycle_border_refusal con t.old ≡ None) }
-    ensures err { OnErr result (t.new ≡ t.old) }
-    ensures cause { IfErr result (λ e. cycle_border_refusal con t.old ≡ Some e) }
-    ensures sound { IsSound t.new }
+    ensures { DoesExactly t.old t.new result (cycle_border_refusal con) (cycle_border_tree con) }
 {
     if let Some(error) = look_refusal(t, con) {
         return Err(error);

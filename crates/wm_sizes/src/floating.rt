@@ -1,7 +1,8 @@
 //! Sizes of floating windows.
-ghost use Rattle.std.specs.Prelude.{◌≡◌, ◌+ℤ◌, ◌-ℤ◌, pos, nat_abs, true, None, Some, OnOk, OnErr, IfErr};
+ghost use Rattle.std.specs.Prelude.{◌≡◌, ◌+ℤ◌, ◌-ℤ◌, pos, nat_abs, true};
 ghost use Rattle.wm_floats.specs.Places.{is_in_range};
 ghost use Rattle.wm_sizes.specs.Floating.{IsStep, as_rect, fits, grow_refusal, grow_tree, grown, has_place, has_sides, is_side, is_size, resize_set_refusal, resize_set_tree, step};
+ghost use Rattle.wm_shared.specs.Does.{DoesExactly};
 ghost use Rattle.wm_shared.specs.Subject.{IsSubject};
 ghost use Rattle.wm_tree.specs.Sound.{IsSound};
 
@@ -57,11 +58,8 @@ fn size_refusal(t: &Tree, con: ConId, w: u32, h: u32) -> Option<Refusal>
 /// Gives the floating window this outer size, in pixels. Its place stays.
 pub fn resize_set(t: &mut Tree, con: ConId, w: u32, h: u32) -> Result<(), Refusal>
     requires { IsSubject t.old con }
-    ensures tree { OnOk result (t.new ≡ resize_set_tree con w h t.old) }
-    ensures fine { OnOk result (resize_set_refusal con w h t.old ≡ None) }
-    ensures err { OnErr result (t.new ≡ t.old) }
-    ensures cause { IfErr result (λ e. resize_set_refusal con w h t.old ≡ Some e) }
-    ensures sound { IsSound t.new }
+    ensures { DoesExactly t.old t.new result (resize_set_refusal con w h)
+        (resize_set_tree con w h) }
 {
     if let Some(error) = size_refusal(t, con, w, h) {
         return Err(error);
@@ -192,11 +190,8 @@ pub(crate) fn grow_floating(
     px: u32,
 ) -> Result<(), Refusal>
     requires { IsSound t.old }
-    ensures tree { OnOk result (t.new ≡ grow_tree con side (step grow px) t.old) }
-    ensures fine { OnOk result (grow_refusal con side (step grow px) t.old ≡ None) }
-    ensures err { OnErr result (t.new ≡ t.old) }
-    ensures cause { IfErr result (λ e. grow_refusal con side (step grow px) t.old ≡ Some e) }
-    ensures sound { IsSound t.new }
+    ensures { DoesExactly t.old t.new result (grow_refusal con side (step grow px))
+        (grow_tree con side (step grow px)) }
 {
     let frame = grown(rect_of(t, con), side, step(grow, px));
     if !fits(frame) {

@@ -1,6 +1,7 @@
 //! Gaps of workspaces.
-ghost use Rattle.std.specs.Prelude.{◌≡◌, ◌<◌, true, slice_get, length, OnSome, None, Some, OnOk, OnErr, IfErr};
+ghost use Rattle.std.specs.Prelude.{◌≡◌, ◌<◌, true, slice_get, length, OnSome, OnOk};
 ghost use Rattle.wm_language.specs.declared.arguments.GapOp.{GapOp};
+ghost use Rattle.wm_shared.specs.Does.{DoesExactly};
 ghost use Rattle.wm_shared.specs.Subject.{IsSubject};
 ghost use Rattle.wm_sizes.specs.Gaps.{AllGapped, all_gapped, default_gapped, each_gapped, gap_after, gapped, set_gaps_refusal, set_gaps_tree, space_gapped};
 ghost use Rattle.wm_tree.specs.Sound.{IsSound};
@@ -106,11 +107,8 @@ pub fn set_gaps(
     px: u32,
 ) -> Result<(), Refusal>
     requires { IsSubject t.old con }
-    ensures tree { OnOk result (t.new ≡ set_gaps_tree con outer all op px t.old) }
-    ensures fine { OnOk result (set_gaps_refusal con t.old ≡ None) }
-    ensures err { OnErr result (t.new ≡ t.old) }
-    ensures cause { IfErr result (λ e. set_gaps_refusal con t.old ≡ Some e) }
-    ensures sound { IsSound t.new }
+    ensures does { DoesExactly t.old t.new result (set_gaps_refusal con)
+        (set_gaps_tree con outer all op px) }
 
     // With `all` the gap of each workspace is changed once.
     ensures each { all ≡ true → OnOk result (AllGapped (record { outer = outer; op = op; px = px }) t.old t.new) }

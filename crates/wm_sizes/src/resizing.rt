@@ -1,10 +1,10 @@
 //! Growing and shrinking containers.
-ghost use Rattle.std.specs.Prelude.{◌≡◌, true, None, Some, OnOk, OnErr, IfErr};
+ghost use Rattle.std.specs.Prelude.{◌≡◌, true, OnOk};
 ghost use Rattle.wm_sizes.specs.Climbing.{rung_of, side_axis};
 ghost use Rattle.wm_sizes.specs.Laws.{IsSharedAnew};
 ghost use Rattle.wm_sizes.specs.Resizing.{resize_refusal, resize_tree};
+ghost use Rattle.wm_shared.specs.Does.{DoesExactly};
 ghost use Rattle.wm_shared.specs.Subject.{IsSubject};
-ghost use Rattle.wm_tree.specs.Sound.{IsSound};
 ghost use Rattle.wm_tree.specs.TreeValue.{is_tiled_con};
 
 use crate::floating::grow_floating;
@@ -26,11 +26,8 @@ pub fn resize(
     ppt: u32,
 ) -> Result<(), Refusal>
     requires { IsSubject t.old con }
-    ensures tree { OnOk result (t.new ≡ resize_tree con grow side px ppt t.old) }
-    ensures fine { OnOk result (resize_refusal con grow side px ppt t.old ≡ None) }
-    ensures err { OnErr result (t.new ≡ t.old) }
-    ensures cause { IfErr result (λ e. resize_refusal con grow side px ppt t.old ≡ Some e) }
-    ensures sound { IsSound t.new }
+    ensures does { DoesExactly t.old t.new result (resize_refusal con grow side px ppt)
+        (resize_tree con grow side px ppt) }
 
     // The sum of the shares of the children that share anew is as it was, and the node's share grew or shrank by the
     // amount.

@@ -1,5 +1,5 @@
 //! Sizes of tiled containers: the children of a node give shares to each other.
-ghost use Rattle.std.specs.Prelude.{◌≡◌, ◌≤◌, ◌-◌, true, None, Some, OnOk, OnErr, IfErr, MatchOption, drop, length};
+ghost use Rattle.std.specs.Prelude.{◌≡◌, ◌≤◌, ◌-◌, true, Some, OnOk, MatchOption, drop, length};
 ghost use Rattle.wm_arrange.specs.Areas.{side_of};
 ghost use Rattle.wm_sizes.specs.Deals.{dealt, fits_all, siblings};
 ghost use Rattle.wm_sizes.specs.Climbing.{rung_of, side_axis};
@@ -7,6 +7,7 @@ ghost use Rattle.wm_sizes.specs.Laws.{IsSharedAnew, SharesAnew};
 ghost use Rattle.wm_sizes.specs.Tiled.{IsFamily, IsReady, HasFamily, cannot, children_of, deal_of, lacks, length_of, nth_sibling, partner_of, partners_of, rung_refusal, rung_tree, shares_set, tiled_refusal, tiled_tree};
 ghost use Rattle.wm_forest.specs.Counts.{row_length};
 ghost use Rattle.wm_forest.specs.Look.{has, first_kids, only};
+ghost use Rattle.wm_shared.specs.Does.{DoesExactly};
 ghost use Rattle.wm_tree.specs.Sound.{IsSound};
 
 use crate::climbing::{Rung, kids_in, rung_of, side_axis};
@@ -154,11 +155,8 @@ fn hand_out(t: &mut Tree, parent: ConId, deal: Deal, number: u32, turn: u64)
 fn share_anew(t: &mut Tree, rung: Rung, growth: Growth) -> Result<(), Refusal>
     requires sound { IsSound t.old }
     requires family { HasFamily rung t.old.nodes }
-    ensures tree { OnOk result (t.new ≡ rung_tree growth (Some rung) t.old) }
-    ensures fine { OnOk result (rung_refusal growth (Some rung) t.old ≡ None) }
-    ensures err { OnErr result (t.new ≡ t.old) }
-    ensures cause { IfErr result (λ e. rung_refusal growth (Some rung) t.old ≡ Some e) }
-    ensures sound { IsSound t.new }
+    ensures does { DoesExactly t.old t.new result (rung_refusal growth (Some rung))
+        (rung_tree growth (Some rung)) }
     ensures shares { OnOk result (SharesAnew growth rung t.old t.new) }
 {
     let Some(row) = kids_in(t.nodes(), rung.parent) else {
@@ -179,11 +177,8 @@ fn share_anew(t: &mut Tree, rung: Rung, growth: Growth) -> Result<(), Refusal>
 /// Lets the tiled container, or the nearest node above it that has neighbours along the axis, grow or shrink.
 pub(crate) fn grow_tiled(t: &mut Tree, con: ConId, growth: Growth) -> Result<(), Refusal>
     requires { IsSound t.old }
-    ensures tree { OnOk result (t.new ≡ tiled_tree con growth t.old) }
-    ensures fine { OnOk result (tiled_refusal con growth t.old ≡ None) }
-    ensures err { OnErr result (t.new ≡ t.old) }
-    ensures cause { IfErr result (λ e. tiled_refusal con growth t.old ≡ Some e) }
-    ensures sound { IsSound t.new }
+    ensures does { DoesExactly t.old t.new result (tiled_refusal con growth)
+        (tiled_tree con growth) }
     ensures shares { OnOk result (IsSharedAnew growth (rung_of (side_axis growth.side) con t.old) t.old t.new) }
 {
     match rung_of(t, con, side_axis(growth.side)) {

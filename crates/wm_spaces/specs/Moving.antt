@@ -3,17 +3,16 @@ use Rattle.std.specs.Prelude.{◌≡◌, false, true, if◌then◌else◌, Optio
 use Rattle.wm_base.specs.declared.errors.Refusal.{Refusal}
 use Rattle.wm_base.specs.declared.ids.ConId.{ConId}
 use Rattle.wm_shared.specs.declared.keys.Key.{Key}
-use Rattle.wm_shared.specs.Refusing.{full_error}
 use Rattle.wm_shared.specs.Showing.{shown_on}
 use Rattle.wm_shared.specs.Subject.{is_space}
 use Rattle.wm_spaces.specs.declared.order.Pick.TheVariants as picking
 use Rattle.wm_spaces.specs.Coming.{free_name}
 use Rattle.wm_spaces.specs.Order.{best_with, keys_in}
-use Rattle.wm_spaces.specs.Shows.{then_shown}
+use Rattle.wm_spaces.specs.Shows.{new_space_refusal, then_shown}
 use Rattle.wm_spaces.specs.Targets.{spaces_of}
 use Rattle.wm_forest.specs.Change.{is_id}
 use Rattle.wm_forest.specs.Look.{same}
-use Rattle.wm_tree.specs.Outputs.{IsNotShown, IsOutput, passed_by_space, space_moved, with_space}
+use Rattle.wm_tree.specs.Outputs.{IsNotShown, IsOutput, space_moved, with_space}
 use Rattle.wm_tree.specs.Sets.{with_shown}
 use Rattle.wm_tree.specs.Sound.{IsSound}
 use Rattle.wm_tree.specs.TreeValue.{TreeValue, parent}
@@ -30,7 +29,7 @@ showing_other None p t = with_shown (id t.next_id) (with_space p (free_name t) t
 
 abbrev pub other_refusal : Option Key → TreeValue → Option Refusal
 other_refusal (Some k) t = None
-other_refusal None t = full_error (passed_by_space t.nodes t.next_id)
+other_refusal None t = new_space_refusal t
 
 -- where the output p shows w, it shows the first of its others, or a new one
 abbrev pub set_aside : ConId → ConId → TreeValue → TreeValue

@@ -21,6 +21,10 @@ then_shown w old new = remembering old (shown_there w (parent new w) new)
 abbrev pub showing_new : ConId → List ℕ → TreeValue → TreeValue
 showing_new o n t = then_shown (id t.next_id) t (with_space o n t)
 
+-- a new workspace passes no limit
+abbrev pub new_space_refusal : TreeValue → Option Refusal
+new_space_refusal t = full_error (passed_by_space t.nodes t.next_id)
+
 abbrev pub goal_shown : Goal → List (List ℕ × List ℕ) → TreeValue → TreeValue
 goal_shown (There w) homes t = showing w t
 goal_shown (Absent n) homes t = showing_new (home n homes t) n t
@@ -29,7 +33,7 @@ goal_shown (Refused text) homes t = t
 -- a workspace that is not there passes no limit
 abbrev pub goal_refusal : Goal → TreeValue → Option Refusal
 goal_refusal (There w) t = None
-goal_refusal (Absent n) t = full_error (passed_by_space t.nodes t.next_id)
+goal_refusal (Absent n) t = new_space_refusal t
 goal_refusal (Refused text) t = Some (NoTarget text)
 
 abbrev pub show_refusal : Target → TreeValue → Option Refusal

@@ -1,8 +1,8 @@
 //! Outputs that come, go and become the current one.
-ghost use Rattle.std.specs.Prelude.{◌≡◌, ◌≤◌, ◌+◌, None, Some, true, IfOk, OnOk, OnErr, IfErr, length, is_some};
+ghost use Rattle.std.specs.Prelude.{◌≡◌, ◌≤◌, ◌+◌, true, IfOk, OnOk, OnErr, IfErr, length, is_some};
 ghost use Rattle.std.specs.Fmt.{decimal};
 ghost use Rattle.wm_base.specs.declared.errors.Refusal.TheVariants as refusals;
-ghost use Rattle.wm_shared.specs.Refusing.{IsCause};
+ghost use Rattle.wm_shared.specs.Does.{Does};
 ghost use Rattle.wm_shared.specs.Showing.{output_focused};
 ghost use Rattle.wm_spaces.specs.Coming.{free_from, free_name, left_output, output_added_refusal, output_added_tree, output_gone, output_removed_refusal, output_removed_tree};
 ghost use Rattle.wm_forest.specs.Counts.{but};
@@ -57,11 +57,7 @@ pub(crate) fn free_name(alloc: Global, t: &Tree) -> Result<Text, NoMemory>
 pub fn output_added(alloc: Global, t: &mut Tree, o: &OutputPlan) -> Result<(), Refusal>
     requires sound { IsSound t.old }
     requires rect { IsOutputRect o.now.rect }
-    ensures tree { OnOk result (t.new ≡ output_added_tree o.now t.old) }
-    ensures fine { OnOk result (output_added_refusal o.now t.old ≡ None) }
-    ensures err { OnErr result (t.new ≡ t.old) }
-    ensures cause { IfErr result (IsCause (output_added_refusal o.now t.old)) }
-    ensures sound { IsSound t.new }
+    ensures { Does t.old t.new result (output_added_refusal o.now) (output_added_tree o.now) }
 {
     if output_named(t, o.name.as_str()).is_some() {
         return Err(Refusal::NameTaken);
@@ -126,11 +122,8 @@ fn leave_output(t: &mut Tree, output: ConId, heir: ConId) -> Result<(), NoMemory
 /// one becomes current where the removed one was, and the name of the workspace that was focused is kept then.
 pub fn output_removed(t: &mut Tree, name: &Text) -> Result<(), Refusal>
     requires { IsSound t.old }
-    ensures tree { OnOk result (t.new ≡ output_removed_tree name.now t.old) }
-    ensures fine { OnOk result (output_removed_refusal name.now t.old ≡ None) }
-    ensures err { OnErr result (t.new ≡ t.old) }
-    ensures cause { IfErr result (IsCause (output_removed_refusal name.now t.old)) }
-    ensures sound { IsSound t.new }
+    ensures { Does t.old t.new result (output_removed_refusal name.now)
+        (output_removed_tree name.now) }
 {
     let Some(output) = output_named(t, name.as_str()) else {
         return Err(Refusal::NoTarget(ErrorText::NoOutput));

@@ -1,5 +1,6 @@
 //! Moving workspaces to other outputs.
 ghost use Rattle.std.specs.Prelude.{◌≡◌, Some, None, true, OnOk, OnErr, IfErr};
+ghost use Rattle.wm_shared.specs.Does.{Does};
 ghost use Rattle.wm_shared.specs.Refusing.{IsCause};
 ghost use Rattle.wm_shared.specs.Showing.{shown_there};
 ghost use Rattle.wm_shared.specs.Subject.{is_space};
@@ -23,11 +24,8 @@ pub fn move_workspace(alloc: Global, t: &mut Tree, w: ConId, output: ConId) -> R
     requires sound { IsSound t.old }
     requires space { is_space t.old w ≡ true }
     requires output { IsOutput output t.old.nodes }
-    ensures tree { OnOk result (t.new ≡ move_workspace_tree w output t.old) }
-    ensures fine { OnOk result (move_workspace_refusal w output t.old ≡ None) }
-    ensures err { OnErr result (t.new ≡ t.old) }
-    ensures cause { IfErr result (IsCause (move_workspace_refusal w output t.old)) }
-    ensures sound { IsSound t.new }
+    ensures { Does t.old t.new result (move_workspace_refusal w output)
+        (move_workspace_tree w output) }
 {
     let Some(own) = t.parent(w) else {
         return Ok(());

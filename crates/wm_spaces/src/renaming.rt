@@ -1,8 +1,8 @@
 //! Renaming workspaces.
-ghost use Rattle.std.specs.Prelude.{◌≡◌, None, Some, OnOk, OnErr, IfErr};
+ghost use Rattle.std.specs.Prelude.{◌≡◌};
 ghost use Rattle.std.specs.Option.{option_copied};
-ghost use Rattle.wm_shared.specs.Refusing.{IsCause};
 ghost use Rattle.wm_spaces.specs.Renaming.{rename_refusal, rename_tree, renamed_space, renaming_refusal};
+ghost use Rattle.wm_shared.specs.Does.{Does};
 ghost use Rattle.wm_tree.specs.Sound.{IsSound};
 
 use crate::names::{is_reserved, other_has, space_named};
@@ -23,11 +23,8 @@ fn renamed_space(t: &Tree, was: Option<&Text>) -> Option<ConId>
 /// workspace stays as it was.
 pub fn rename(t: &mut Tree, was: Option<&Text>, name: &Text) -> Result<(), Refusal>
     requires { IsSound t.old }
-    ensures tree { OnOk result (t.new ≡ rename_tree (option_copied was.entry) name.now t.old) }
-    ensures fine { OnOk result (rename_refusal (option_copied was.entry) name.now t.old ≡ None) }
-    ensures err { OnErr result (t.new ≡ t.old) }
-    ensures cause { IfErr result (IsCause (rename_refusal (option_copied was.entry) name.now t.old)) }
-    ensures sound { IsSound t.new }
+    ensures { Does t.old t.new result (rename_refusal (option_copied was.entry) name.now)
+        (rename_tree (option_copied was.entry) name.now) }
 {
     let Some(w) = renamed_space(t, was) else {
         return Err(Refusal::NoTarget(ErrorText::NoWorkspace));

@@ -1,7 +1,7 @@
 //! Sending containers to other workspaces.
-ghost use Rattle.std.specs.Prelude.{◌≡◌, ◌≢◌, ◌+ℤ◌, ◌-ℤ◌, None, Some, true, OnOk, OnErr, IfErr};
+ghost use Rattle.std.specs.Prelude.{◌≡◌, ◌≢◌, ◌+ℤ◌, ◌-ℤ◌, None, true};
 ghost use Rattle.std.specs.Option.{option_copied};
-ghost use Rattle.wm_shared.specs.Refusing.{IsCause};
+ghost use Rattle.wm_shared.specs.Does.{Does, DoesExactly};
 ghost use Rattle.wm_shared.specs.Showing.{shown_on};
 ghost use Rattle.wm_shared.specs.Subject.{IsSubject, is_space};
 ghost use Rattle.wm_spaces.specs.Sending.{send_to_output_refusal, send_to_output_tree, send_to_refusal, send_to_tree, sent, sent_new, sent_new_refusal, sent_place, sent_refusal, shifted};
@@ -84,11 +84,7 @@ pub fn send(t: &mut Tree, con: ConId, w: ConId) -> Result<(), Refusal>
     requires sound { IsSound t.old }
     requires con { kind_of con_kind con t.old.nodes ≢ None }
     requires space { is_space t.old w ≡ true }
-    ensures tree { OnOk result (t.new ≡ sent con w t.old) }
-    ensures fine { OnOk result (sent_refusal con w t.old ≡ None) }
-    ensures err { OnErr result (t.new ≡ t.old) }
-    ensures cause { IfErr result (λ e. sent_refusal con w t.old ≡ Some e) }
-    ensures sound { IsSound t.new }
+    ensures { DoesExactly t.old t.new result (sent_refusal con w) (sent con w) }
 {
     if !apart(t, con, w) {
         return Ok(());
@@ -104,11 +100,8 @@ pub fn send(t: &mut Tree, con: ConId, w: ConId) -> Result<(), Refusal>
 pub fn send_to_output(t: &mut Tree, con: ConId, output: ConId) -> Result<(), Refusal>
     requires subject { IsSubject t.old con }
     requires output { IsOutput output t.old.nodes }
-    ensures tree { OnOk result (t.new ≡ send_to_output_tree con output t.old) }
-    ensures fine { OnOk result (send_to_output_refusal con output t.old ≡ None) }
-    ensures err { OnErr result (t.new ≡ t.old) }
-    ensures cause { IfErr result (λ e. send_to_output_refusal con output t.old ≡ Some e) }
-    ensures sound { IsSound t.new }
+    ensures { DoesExactly t.old t.new result (send_to_output_refusal con output)
+        (send_to_output_tree con output) }
 {
     if is_hidden(t, con) {
         return Err(Refusal::NoTarget(ErrorText::NoWorkspace));
@@ -131,11 +124,8 @@ pub fn send_to(
     homes: &[(Text, Text)],
 ) -> Result<(), Refusal>
     requires { IsSubject t.old con }
-    ensures tree { OnOk result (t.new ≡ send_to_tree con target.now homes.now t.old) }
-    ensures fine { OnOk result (send_to_refusal con target.now homes.now t.old ≡ None) }
-    ensures err { OnErr result (t.new ≡ t.old) }
-    ensures cause { IfErr result (IsCause (send_to_refusal con target.now homes.now t.old)) }
-    ensures sound { IsSound t.new }
+    ensures { Does t.old t.new result (send_to_refusal con target.now homes.now)
+        (send_to_tree con target.now homes.now) }
 {
     if is_space(t, con) {
         return Err(Refusal::NoTarget(ErrorText::AtWorkspace));
@@ -158,11 +148,8 @@ fn send_new(t: &mut Tree, con: ConId, output: ConId, name: &Text) -> Result<(), 
     requires sound { IsSound t.old }
     requires con { kind_of con_kind con t.old.nodes ≢ None }
     requires output { IsOutput output t.old.nodes }
-    ensures tree { OnOk result (t.new ≡ sent_new con output name.now t.old) }
-    ensures fine { OnOk result (sent_new_refusal con output name.now t.old ≡ None) }
-    ensures err { OnErr result (t.new ≡ t.old) }
-    ensures cause { IfErr result (IsCause (sent_new_refusal con output name.now t.old)) }
-    ensures sound { IsSound t.new }
+    ensures { Does t.old t.new result (sent_new_refusal con output name.now)
+        (sent_new con output name.now) }
 {
     let Ok(before) = t.copy() else {
         return Err(Refusal::NoMemory);

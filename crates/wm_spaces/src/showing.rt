@@ -1,10 +1,10 @@
 //! Showing the workspace that a command names.
-ghost use Rattle.std.specs.Prelude.{◌≡◌, None, true, OnOk, OnErr, IfErr};
-ghost use Rattle.wm_shared.specs.Refusing.{IsCause, full_error};
+ghost use Rattle.std.specs.Prelude.{true};
+ghost use Rattle.wm_shared.specs.Does.{Does};
 ghost use Rattle.wm_shared.specs.Showing.{followed, shown_there};
 ghost use Rattle.wm_shared.specs.Subject.{is_space};
-ghost use Rattle.wm_spaces.specs.Shows.{show_refusal, show_tree, showing_new};
-ghost use Rattle.wm_tree.specs.Outputs.{IsOutput, passed_by_space};
+ghost use Rattle.wm_spaces.specs.Shows.{new_space_refusal, show_refusal, show_tree, showing_new};
+ghost use Rattle.wm_tree.specs.Outputs.{IsOutput};
 ghost use Rattle.wm_tree.specs.Sound.{IsSound};
 ghost use Rattle.wm_tree.specs.TreeValue.{parent};
 
@@ -18,11 +18,7 @@ use wm_tree::Tree;
 /// give its name, if that is there, else on the current one.
 pub fn show(t: &mut Tree, target: &Target, homes: &[(Text, Text)]) -> Result<(), Refusal>
     requires { IsSound t.old }
-    ensures tree { OnOk result (t.new ≡ show_tree target.now homes.now t.old) }
-    ensures fine { OnOk result (show_refusal target.now t.old ≡ None) }
-    ensures err { OnErr result (t.new ≡ t.old) }
-    ensures cause { IfErr result (IsCause (show_refusal target.now t.old)) }
-    ensures sound { IsSound t.new }
+    ensures { Does t.old t.new result (show_refusal target.now) (show_tree target.now homes.now) }
 {
     let Ok(goal) = find_goal(t, target) else {
         return Err(Refusal::NoMemory);
@@ -44,11 +40,7 @@ pub fn show(t: &mut Tree, target: &Target, homes: &[(Text, Text)]) -> Result<(),
 fn show_new(t: &mut Tree, output: ConId, name: &Text) -> Result<(), Refusal>
     requires sound { IsSound t.old }
     requires output { IsOutput output t.old.nodes }
-    ensures tree { OnOk result (t.new ≡ showing_new output name.now t.old) }
-    ensures fine { OnOk result (full_error (passed_by_space t.old.nodes t.old.next_id) ≡ None) }
-    ensures err { OnErr result (t.new ≡ t.old) }
-    ensures cause { IfErr result (IsCause (full_error (passed_by_space t.old.nodes t.old.next_id))) }
-    ensures sound { IsSound t.new }
+    ensures { Does t.old t.new result new_space_refusal (showing_new output name.now) }
 {
     let was = t.shown();
     let Ok(old) = space_name(t, was) else {

@@ -11,11 +11,17 @@ hand_out-requires c =
     let no : cannot c.args.growth c.length_of-length.result c.deal_of-deal.result (children_of c.args.rung.parent c.args.t.now) ≡ false = first_of (search rules, grind (arith, common_steps)) in
     first_ready c.args.growth c.length_of-length.result c.deal_of-deal.result (children_of c.args.rung.parent c.args.t.now) no c.deal_of-deal.ensures.small c.requires.family.family.few
 
-pub returns-clause-sound : goal.returns-clause-sound
-returns-clause-sound c =
-    let no : cannot c.args.growth c.length_of-length.result c.deal_of-deal.result (children_of c.args.rung.parent c.args.t.now) ≡ false = first_of (search rules, grind (arith, common_steps)) in
-    let r = first_ready c.args.growth c.length_of-length.result c.deal_of-deal.result (children_of c.args.rung.parent c.args.t.now) no c.deal_of-deal.ensures.small c.requires.family.family.few in
-    anew_sound c.deal_of-deal.result c.args.rung c.args.t.now c.hand_out.new.t c.requires.sound c.requires.family r c.hand_out.ensures
+pub returns-clause-does : goal.returns-clause-does
+returns-clause-does c = record {
+  tree = search rules;
+  fine = search rules;
+  err = search rules;
+  cause = search rules;
+  sound =
+      let no : cannot c.args.growth c.length_of-length.result c.deal_of-deal.result (children_of c.args.rung.parent c.args.t.now) ≡ false = first_of (search rules, grind (arith, common_steps)) in
+      let r = first_ready c.args.growth c.length_of-length.result c.deal_of-deal.result (children_of c.args.rung.parent c.args.t.now) no c.deal_of-deal.ensures.small c.requires.family.family.few in
+      anew_sound c.deal_of-deal.result c.args.rung c.args.t.now c.hand_out.new.t c.requires.sound c.requires.family r c.hand_out.ensures;
+}
 
 pub returns-clause-shares : goal.returns-clause-shares
 returns-clause-shares c =

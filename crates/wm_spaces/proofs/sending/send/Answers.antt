@@ -4,14 +4,26 @@ use Rattle.wm_spaces.proofs.SendLemmas.{is_move, ready_by, send_cause}
 use Rattle.wm_tree.specs.Move.{apart}
 use Rattle.wm_spaces.proofs.sending.send.Goals as goal
 
-pub returns-in-Ok-clause-sound : goal.returns-in-Ok-clause-sound
-returns-in-Ok-clause-sound c =
-    let far : apart c.args.t.now c.args.con c.args.w ≡ true = first_of (search rules, grind (arith, common_steps)) in
-    let r = ready_by c.args.con c.args.w c.sent_place-at.result c.args.t.now c.sent_place-at.ensures c.requires.sound c.requires.con c.requires.space far in
-    c.move_to.ensures.sound (is_move c.args.con c.sent_place-at.result c.args.t.now c.requires.con r) c.requires.sound
+pub returns-in-Ok : goal.returns-in-Ok
+returns-in-Ok c = record {
+  tree = search rules;
+  fine = search rules;
+  err = search rules;
+  cause = search rules;
+  sound =
+      let far : apart c.args.t.now c.args.con c.args.w ≡ true = first_of (search rules, grind (arith, common_steps)) in
+      let r = ready_by c.args.con c.args.w c.sent_place-at.result c.args.t.now c.sent_place-at.ensures c.requires.sound c.requires.con c.requires.space far in
+      c.move_to.ensures.sound (is_move c.args.con c.sent_place-at.result c.args.t.now c.requires.con r) c.requires.sound;
+}
 
-pub returns-in-Err-clause-cause : goal.returns-in-Err-clause-cause
-returns-in-Err-clause-cause c =
-    let far : apart c.args.t.now c.args.con c.args.w ≡ true = first_of (search rules, grind (arith, common_steps)) in
-    let r = ready_by c.args.con c.args.w c.sent_place-at.result c.args.t.now c.sent_place-at.ensures c.requires.sound c.requires.con c.requires.space far in
-    rw c.refused.ensures (send_cause c.args.con c.args.w c.sent_place-at.result c.args.t.now c.in-Err.error c.sent_place-at.ensures far c.requires.con r c.in-Err.ensures.cause)
+pub returns-in-Err : goal.returns-in-Err
+returns-in-Err c = record {
+  tree = search rules;
+  fine = search rules;
+  err = search rules;
+  cause =
+      let far : apart c.args.t.now c.args.con c.args.w ≡ true = first_of (search rules, grind (arith, common_steps)) in
+      let r = ready_by c.args.con c.args.w c.sent_place-at.result c.args.t.now c.sent_place-at.ensures c.requires.sound c.requires.con c.requires.space far in
+      rw c.refused.ensures (send_cause c.args.con c.args.w c.sent_place-at.result c.args.t.now c.in-Err.error c.sent_place-at.ensures far c.requires.con r c.in-Err.ensures.cause);
+  sound = search rules;
+}

@@ -6,8 +6,15 @@ use Rattle.wm_spaces.proofs.ShowLemmas.{new_is, space_cause_or}
 use Rattle.wm_tree.proofs.SpaceLemmas.{has_output}
 use Rattle.wm_spaces.proofs.sending.send_new.Goals as goal
 
-pub returns-in-Err-clause-cause : goal.returns-in-Err-clause-cause
-returns-in-Err-clause-cause c = rw c.refused.ensures (space_cause_or c.args.t.now c.args.output c.in-Err.error _ (has_output c.args.output c.args.t.now.nodes c.requires.output) c.in-Err.ensures.cause)
+pub returns-in-Err : goal.returns-in-Err
+returns-in-Err c = record {
+  tree = search rules;
+  fine = search rules;
+  err = search rules;
+  cause =
+      rw c.refused.ensures (space_cause_or c.args.t.now c.args.output c.in-Err.error _ (has_output c.args.output c.args.t.now.nodes c.requires.output) c.in-Err.ensures.cause);
+  sound = search rules;
+}
 
 pub send-requires-clause-con : goal.send-requires-clause-con
 send-requires-clause-con c =
