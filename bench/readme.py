@@ -13,6 +13,7 @@ TOP = os.getcwd()
 SKIPPED = ("rt ci", "i3replay ", "i3desk ")
 SAID_BY_CLIENTS = ("map", "title", "urgent", "close", "ack", "buffer")
 LONGEST = 20
+PAINTED = 0.5  # what was said before is painted by then, in seconds
 
 
 def commands(page):
@@ -95,6 +96,7 @@ def session(page, desk):
                 other = talked(client, shown)
                 wrong += tell(not other, time.time() - begin, page, command, other)
             else:
+                time.sleep(PAINTED)
                 wrong += ran(page, command, run, shown, folder)
             if command.endswith(" exit") and server:
                 wrong += tell(server.wait(LONGEST) == 0, time.time() - begin, page, "the server's end", "it ended with another status than 0")
