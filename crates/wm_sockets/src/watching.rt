@@ -9,7 +9,7 @@ use std::os::unix::net::UnixStream;
 use std::time::Duration;
 
 /// How long a wait for bytes takes before a link is quiet, and whoever serves it looks for something to send.
-const WATCH_WAIT_MS: u64 = 7;
+const WATCH_WAIT_MS: u64 = 8;
 
 /// Waits for the bytes of one socket.
 #[derive(Drop)]
