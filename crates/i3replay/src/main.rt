@@ -34,7 +34,7 @@ and then:
   map INK WxH PROPERTY=\"T\" ..             open a window: six hexadecimal digits, its buffer's size, and its properties
   title ID \"T\"                            give it another title
   urgent ID on | off                      make it urgent or not
-  close ID, gone                          close the window of this id, or all
+  close ID, gone                          close the window of this id, or all of the caller's
   output-add NAME X,Y WxH                 add an output
   output-remove NAME                      remove it
   reserve NAME TOP RIGHT BOTTOM LEFT      keep its edges free
