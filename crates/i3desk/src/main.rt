@@ -13,13 +13,11 @@ use std::rt::Files;
 use std::sync::Wait;
 use std::thread::Threads;
 use wm_crew::ServeStatus;
+use wm_json::VERSION;
 use wm_options::options_of;
 use wm_ports::{StdSink, StdSource};
 use wm_serve::serve;
 use wm_sockets::RealClock;
-
-/// What `--version` writes.
-const VERSION: &str = "i3desk 1.0.0";
 
 /// What `--help` writes.
 const HELP: &str = "\
@@ -78,7 +76,7 @@ fn answer<R: Threads + Wait + Files + Net + Sync>(
 ) -> ServeStatus {
     match words {
         [word] if word.as_str() == "--help" => say(rt, HELP),
-        [word] if word.as_str() == "--version" => say(rt, VERSION),
+        [word] if word.as_str() == "--version" => say_version(rt),
         _ => match run(rt, system, words) {
             Ok(status) => status,
             Err(AllocError) => ServeStatus::NoMemory,
@@ -127,6 +125,15 @@ fn run_at<R: Threads + Wait + Files + Net + Sync>(
         &mut frames,
         &mut clock,
     ))
+}
+
+/// Writes the version, whose number is that of the reply to GET_VERSION.
+fn say_version(rt: &HostRuntime) -> ServeStatus {
+    let number = VERSION.strip_prefix("i3replay ").unwrap_or(VERSION);
+    match println!(rt; "i3desk {number}") {
+        Ok(()) => ServeStatus::Done,
+        Err(_) => ServeStatus::WriteFault,
+    }
 }
 
 /// Writes a text and a line feed to standard output.
