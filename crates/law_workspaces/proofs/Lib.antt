@@ -1,0 +1,15 @@
+pub mod AddLaws
+pub mod BestLemmas
+pub mod FoundNames
+pub mod MoveLaws
+pub mod NameLemmas
+pub mod OutlineLemmas
+pub mod RenameLaws
+pub mod ReturnLaws
+pub mod RowLemmas
+pub mod SendLaws
+pub mod SettledShows
+pub mod SettledSteps
+pub mod ShowLaws
+pub mod StepKeys
+pub mod StepLaws
