@@ -3,13 +3,12 @@ use Rattle.std.proofs.Common.{◌≡◌, ◌≢◌, ℕ, Bool, true, false, cond
 use Rattle.std.specs.Option.{option_map, option_or}
 use Rattle.std.specs.Prelude.{is_some}
 use Rattle.law_layouts.proofs.LeafPlaces.{float_place, sink_place}
-use Rattle.law_layouts.proofs.MoveLooks.{Landed, Moved, arrived, has_moved}
+use Rattle.law_layouts.proofs.MoveLooks.{Moved, arrived, has_moved}
 use Rattle.law_layouts.proofs.StateChanges.{restated_is, tiled_kept, with_state, workspace_kept}
-use Rattle.law_layouts.specs.Afloat.{IsAfloat, IsSunk, TogglesAfloat, TogglesAfloatAgain, TogglesSunkAgain, floating_toggled}
+use Rattle.law_layouts.specs.Afloat.{IsAfloat, TogglesAfloat, TogglesAfloatAgain, TogglesSunkAgain, floating_toggled}
 use Rattle.wm_base.specs.declared.errors.Limit.{Limit}
 use Rattle.wm_base.specs.declared.errors.Refusal.{Refusal}
 use Rattle.wm_base.specs.declared.geometry.Rect.{Rect}
-use Rattle.wm_base.specs.declared.geometry.Size.{Size}
 use Rattle.wm_base.specs.declared.ids.ConId.{ConId}
 use Rattle.wm_floats.proofs.FloatLemmas.{float_goal, window_con, window_is}
 use Rattle.wm_floats.proofs.LeafLemmas.{tiling_goal}
@@ -17,7 +16,7 @@ use Rattle.wm_floats.proofs.MovedLemmas.{as_before, moved_rect, sink_rect}
 use Rattle.wm_floats.specs.declared.kinds.Kind.TheVariants as kinds
 use Rattle.wm_floats.specs.Floating.{IsGoal, earlier, float_refusal, float_tree, floated, floated_refusal, floating_rect, moved_refusal, sink_refusal, sink_tree, sunk, sunk_refusal, tiling_place}
 use Rattle.wm_floats.specs.Kinds.{is_of}
-use Rattle.wm_floats.specs.Windows.{flag_set, natural_by, natural_in, natural_of, restated, state_of, window_refusal}
+use Rattle.wm_floats.specs.Windows.{flag_set, natural_in, natural_of, restated, state_of, window_refusal}
 use Rattle.wm_forest.proofs.EditLemmas.{fits_state}
 use Rattle.wm_forest.specs.declared.kind.KindEdit.TheVariants as edits
 use Rattle.wm_forest.specs.declared.part.ConState.{ConState}
@@ -26,13 +25,12 @@ use Rattle.wm_forest.specs.declared.part.NodeKind.TheVariants.{Root, Output, Spa
 use Rattle.wm_forest.specs.declared.part.Part.{Part}
 use Rattle.wm_forest.specs.declared.place.Place.{Place}
 use Rattle.wm_forest.specs.declared.place.Place.TheVariants.{After, Last, Float}
-use Rattle.wm_forest.specs.declared.spot.Spot.{Spot}
-use Rattle.wm_forest.specs.Look.{con_kind, first_kids, first_part, kind_by, kind_of, only}
+use Rattle.wm_forest.specs.Look.{con_kind, first_kids, first_part, kind_by, only}
 use Rattle.wm_forest.specs.Place.{named, tiles}
 use Rattle.wm_forest.specs.Spot.{spot_in, top}
 use Rattle.wm_shared.proofs.ShowLemmas.{workspace_is}
 use Rattle.wm_shared.specs.Refusing.{full_error}
-use Rattle.wm_shared.specs.Subject.{IsSubject, is_container}
+use Rattle.wm_shared.specs.Subject.{is_container}
 use Rattle.wm_tree.proofs.MoveLemmas.{sound-moved}
 use Rattle.wm_tree.proofs.SoundLemmas.{sound-edited}
 use Rattle.wm_tree.specs.Move.{apart, moved, moved_share, passed_by_move}

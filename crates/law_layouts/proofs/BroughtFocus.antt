@@ -1,5 +1,5 @@
 -- A window that comes from the scratchpad is focused.
-use Rattle.std.proofs.Common.{◌≡◌, ◌≢◌, ℕ, ◌+◌, ◌≤◌, Bool, true, false, cond, ◌||◌, List, [], ◌∷◌, Option, None, Some, refl, ap, sym, ◌∙◌, subst, arith}
+use Rattle.std.proofs.Common.{◌≡◌, ◌≢◌, ℕ, ◌≤◌, Bool, true, false, cond, ◌||◌, List, Option, None, Some, refl, ap, ◌∙◌, arith}
 use Rattle.law_layouts.proofs.LeafPlaces.{own_workspace}
 use Rattle.law_layouts.proofs.MoveLooks.{Led, Moved, has_moved, led}
 use Rattle.law_layouts.proofs.RaiseLooks.{end_looks, unfull_looks, unfull_tally}
@@ -11,8 +11,7 @@ use Rattle.wm_floats.proofs.FloatLemmas.{coming_goal, hidden_is}
 use Rattle.wm_floats.specs.Scratchpad.{brought, brought_refusal, coming_place, middle_on}
 use Rattle.wm_forest.proofs.CountLemmas.{count-without}
 use Rattle.wm_forest.proofs.LookLemmas.{seen-without}
-use Rattle.wm_forest.proofs.OnceLemmas.{in_floats, in_kids, in_rest}
-use Rattle.wm_forest.proofs.RecencyLemmas.{same_self}
+use Rattle.wm_forest.proofs.OnceLemmas.{in_floats, in_rest}
 use Rattle.wm_forest.specs.Change.{append, arriving, at, raised_at, raised_in, to_end, unfull, without}
 use Rattle.wm_forest.specs.declared.part.NodeKind.{NodeKind}
 use Rattle.wm_forest.specs.declared.part.NodeKind.TheVariants.{Root, Output, Space, Con}
@@ -20,7 +19,7 @@ use Rattle.wm_forest.specs.declared.part.Part.{Part}
 use Rattle.wm_forest.specs.declared.place.Place.{Place}
 use Rattle.wm_forest.specs.declared.place.Place.TheVariants.{Float}
 use Rattle.wm_forest.specs.Forest.{Forest, end, con}
-use Rattle.wm_forest.specs.Look.{con_kind, first_part, has, kind_by, kind_of, only, output_kind, same, space_kind}
+use Rattle.wm_forest.specs.Look.{first_part, has, kind_by, kind_of, only, output_kind, same, space_kind}
 use Rattle.wm_forest.specs.Place.{put_word}
 use Rattle.wm_forest.specs.Recency.{first_held, lists, raised}
 use Rattle.wm_forest.specs.SoundRow.{IsNode, IsSoundRow, one_of, outputs, rank_of, ranked, ranks, roots, spaces, tally}

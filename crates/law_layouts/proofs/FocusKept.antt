@@ -1,8 +1,8 @@
 -- `split` leaves the focus where it was.
-use Rattle.std.proofs.Common.{◌≡◌, ◌≢◌, ℕ, ◌+◌, ◌≤◌, Bool, true, false, cond, ◌&&◌, ◌||◌, not, List, [], ◌∷◌, ◌++◌, Option, None, Some, refl, ap, sym, ◌∙◌, subst, arith}
+use Rattle.std.proofs.Common.{◌≡◌, ◌≢◌, ℕ, ◌+◌, ◌≤◌, Bool, true, false, cond, ◌&&◌, ◌||◌, List, [], ◌∷◌, ◌++◌, Option, None, Some, refl, ap, sym, ◌∙◌, arith}
 use Rattle.std.specs.Option.{option_or}
 use Rattle.law_layouts.proofs.MoveLooks.{Led, led}
-use Rattle.law_layouts.proofs.SplitLaws.{Fresh, Ways, fresh_id, ways}
+use Rattle.law_layouts.proofs.SplitLaws.{fresh_id, ways}
 use Rattle.law_layouts.proofs.StaysBelow.{StaysBelow, stays_at}
 use Rattle.law_layouts.proofs.Steps.{listed, no_limit, second_none}
 use Rattle.law_layouts.proofs.UpperLooks.{blank, focused_is, level, shown_alike, upper, upper_at}
@@ -32,7 +32,7 @@ use Rattle.wm_shared.proofs.ShowLemmas.{space_is}
 use Rattle.wm_shared.proofs.SpaceLemmas.{IsSpaceIn}
 use Rattle.wm_shared.proofs.StandingLemmas.{shown_stands, stands_space}
 use Rattle.wm_shared.specs.Refusing.{full_error}
-use Rattle.wm_shared.specs.Subject.{IsSubject, is_space}
+use Rattle.wm_shared.specs.Subject.{is_space}
 use Rattle.wm_tree.proofs.SoundLemmas.{rank_le, sound-edited}
 use Rattle.wm_tree.proofs.WrapLemmas.{sound-wrapped}
 use Rattle.wm_tree.specs.Move.{passed_by_wrap, share_in, wrap_word, wrapped}

@@ -1,14 +1,14 @@
 -- `fullscreen toggle` twice, where another container of the workspace may be fullscreen.
-use Rattle.std.proofs.Common.{◌≡◌, ℕ, Bool, true, false, cond, ◌||◌, not, Option, None, Some, refl, ap, sym, ◌∙◌}
+use Rattle.std.proofs.Common.{◌≡◌, Bool, true, false, cond, not, Option, None, Some, refl, ap, sym, ◌∙◌}
 use Rattle.std.specs.Option.{option_map}
 use Rattle.law_layouts.proofs.NodeChanges.{has_kinded, kinded, part_kinded}
 use Rattle.law_layouts.proofs.RaiseLooks.{Looks, node_looks, same_looks, unfull_looks}
-use Rattle.law_layouts.proofs.StateChanges.{flipped, restated_is, state_alike, state_same, state_twice, stated, with_state, workspace_kept}
+use Rattle.law_layouts.proofs.StateChanges.{restated_is, state_alike, state_same, state_twice, stated, with_state, workspace_kept}
 use Rattle.law_layouts.specs.Switches.{FullTogglesTwice, full_toggled, is_fullscreen}
 use Rattle.wm_base.specs.declared.ids.ConId.{ConId}
 use Rattle.wm_floats.specs.Fullscreen.{fullscreen_tree, others_unfull, unfull_but}
 use Rattle.wm_floats.specs.Windows.{full_set, restated, state_of}
-use Rattle.wm_forest.specs.Change.{at, unfull, unfull_kind}
+use Rattle.wm_forest.specs.Change.{at, unfull}
 use Rattle.wm_forest.specs.declared.part.ConPart.{ConPart}
 use Rattle.wm_forest.specs.declared.part.ConState.{ConState}
 use Rattle.wm_forest.specs.declared.part.NodeKind.{NodeKind}

@@ -1,12 +1,12 @@
 -- A window that hides in the empty scratchpad is the one that comes back.
 use Rattle.std.proofs.Common.{◌≡◌, ◌≢◌, ℕ, Bool, true, false, cond, Option, None, Some, refl, ap, sym, ◌∙◌, subst}
-use Rattle.std.specs.Option.{option_map, option_or}
+use Rattle.std.specs.Option.{option_map}
 use Rattle.law_layouts.proofs.MoveLooks.{Led, led}
 use Rattle.law_layouts.proofs.NodeChanges.{kinded}
 use Rattle.law_layouts.proofs.StateChanges.{restated_is, stated}
 use Rattle.law_layouts.proofs.Steps.{no_limit, second_none}
 use Rattle.law_layouts.proofs.StowLaws.{moves_to_scratchpad, shows_first}
-use Rattle.law_layouts.specs.Stowing.{ComesFirst, IsBack, IsStowed, NoneIsOut, ShowsWhatHid, centred}
+use Rattle.law_layouts.specs.Stowing.{ComesFirst, IsBack, NoneIsOut, ShowsWhatHid, centred}
 use Rattle.wm_base.specs.declared.geometry.Rect.{Rect}
 use Rattle.wm_base.specs.declared.ids.ConId.{ConId}
 use Rattle.wm_floats.proofs.FloatLemmas.{hide_goal, window_con, window_is}
@@ -16,7 +16,7 @@ use Rattle.wm_floats.specs.Scratchpad.{first_hidden, show_scratchpad_refusal, sh
 use Rattle.wm_floats.specs.Windows.{flag_set, restated, state_of, window_refusal}
 use Rattle.wm_forest.proofs.EditLemmas.{fits_state}
 use Rattle.wm_forest.proofs.RecencyLemmas.{same_is, same_self}
-use Rattle.wm_forest.specs.Change.{append, arriving, at, without}
+use Rattle.wm_forest.specs.Change.{arriving, at, without}
 use Rattle.wm_forest.specs.declared.kind.KindEdit.TheVariants as edits
 use Rattle.wm_forest.specs.declared.part.ConPart.{ConPart}
 use Rattle.wm_forest.specs.declared.part.ConState.{ConState}

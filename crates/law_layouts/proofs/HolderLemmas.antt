@@ -1,5 +1,5 @@
 -- What holds a tiled container is a workspace or a split.
-use Rattle.std.proofs.Common.{◌≡◌, ◌≢◌, ℕ, ◌≤◌, Bool, true, false, cond, ◌&&◌, ◌||◌, ◌⊎◌, inl, inr, List, Option, None, Some, refl, ap, sym, ◌∙◌, subst}
+use Rattle.std.proofs.Common.{◌≡◌, ◌≢◌, ℕ, Bool, true, false, cond, ◌&&◌, ◌||◌, ◌⊎◌, inl, inr, List, Option, None, Some, refl, sym, ◌∙◌}
 use Rattle.std.specs.Prelude.{option_and_then}
 use Rattle.wm_base.specs.declared.ids.ConId.{ConId}
 use Rattle.wm_forest.proofs.RecencyLemmas.{same_self}
@@ -13,7 +13,7 @@ use Rattle.wm_forest.specs.Forest.{Forest, end, con}
 use Rattle.wm_forest.specs.Look.{con_kind, first_part, has, in_row, kind_by, only, same}
 use Rattle.wm_forest.specs.Place.{IsSplit, TakesFirst, TakesKids, is_tiled}
 use Rattle.wm_forest.specs.SoundRow.{HasKids, IsNode, IsSoundRow, Level, below, containers, outputs, roots, spaces}
-use Rattle.wm_forest.specs.Spot.{holder_by, room_below, spot_below, spot_in, spot_of, top}
+use Rattle.wm_forest.specs.Spot.{holder_by, spot_below, spot_in, spot_of, top}
 use Rattle.wm_shared.proofs.DownLemmas.{Once, down_floats, down_kids, down_rest, once_floats, once_kids, once_rest}
 use Rattle.wm_tree.specs.Sound.{IsSound}
 use Rattle.wm_tree.specs.TreeValue.{TreeValue, is_con, is_con_kind, is_tiled_con, is_tiled_spot, parent}

@@ -1,5 +1,5 @@
 -- `layout toggle` so often as to come round to the layout that was.
-use Rattle.std.proofs.Common.{◌≡◌, ℕ, Bool, true, false, cond, Option, None, Some, refl, ap, sym, ◌∙◌}
+use Rattle.std.proofs.Common.{◌≡◌, true, cond, Some, refl, ap, sym, ◌∙◌}
 use Rattle.std.specs.Prelude.{is_some, option_and_then}
 use Rattle.law_layouts.proofs.NodeChanges.{SameSort, as_kinded, kinded, kinded_alike, kinded_none, kinded_twice, seen_kinded, spot_kinded}
 use Rattle.law_layouts.specs.Layouts.{AllTogglesAsSet, AllTogglesBack, SplitTogglesAsSet, SplitTogglesBack, all_toggled, layouts_at, split_toggled}
@@ -7,18 +7,15 @@ use Rattle.wm_base.specs.declared.ids.ConId.{ConId}
 use Rattle.wm_base.specs.declared.plan.Layout.{Layout}
 use Rattle.wm_base.specs.declared.plan.Layout.TheVariants.{SplitH, SplitV, Stacked, Tabbed}
 use Rattle.wm_focus.specs.declared.splits.Layouts.{Layouts}
-use Rattle.wm_focus.specs.Splits.{cycle_layout_tree, is_plain_split, laid, laid_as, layouts_by, layouts_of, next_layout}
+use Rattle.wm_focus.specs.Splits.{cycle_layout_tree, is_plain_split, laid, laid_as, layouts_by, next_layout}
 use Rattle.wm_forest.specs.Change.{at}
 use Rattle.wm_forest.specs.declared.kind.KindEdit.TheVariants as edits
 use Rattle.wm_forest.specs.declared.part.ConKind.{ConKind}
 use Rattle.wm_forest.specs.declared.part.ConKind.TheVariants.{Split, Window, Placeholder}
-use Rattle.wm_forest.specs.declared.part.ConPart.{ConPart}
 use Rattle.wm_forest.specs.declared.part.NodeKind.{NodeKind}
 use Rattle.wm_forest.specs.declared.part.NodeKind.TheVariants.{Root, Output, Space, Con}
 use Rattle.wm_forest.specs.declared.part.Part.{Part}
-use Rattle.wm_forest.specs.declared.part.SpacePart.{SpacePart}
 use Rattle.wm_forest.specs.declared.spot.Spot.{Spot}
-use Rattle.wm_forest.specs.Forest.{Forest}
 use Rattle.wm_forest.specs.Kinds.{changed, last_split_of}
 use Rattle.wm_forest.specs.Look.{con_kind, first_part, kind_by, only, space_kind}
 use Rattle.wm_forest.specs.Spot.{top}

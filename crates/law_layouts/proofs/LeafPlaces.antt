@@ -1,7 +1,6 @@
 -- The workspace of the places where a window floats and is tiled.
 use Rattle.std.proofs.Common.{◌≡◌, ◌≢◌, Bool, true, false, cond, ◌&&◌, ◌||◌, List, Option, None, Some, refl, ap, sym, ◌∙◌}
-use Rattle.std.specs.Prelude.{is_some}
-use Rattle.law_layouts.proofs.MoveLooks.{Goal, beside, spaced}
+use Rattle.law_layouts.proofs.MoveLooks.{Goal, spaced}
 use Rattle.wm_base.specs.declared.geometry.Rect.{Rect}
 use Rattle.wm_base.specs.declared.ids.ConId.{ConId}
 use Rattle.wm_floats.specs.Floating.{tiling_place}
@@ -10,7 +9,6 @@ use Rattle.wm_forest.proofs.RecencyLemmas.{same_is, same_self}
 use Rattle.wm_forest.specs.declared.part.NodeKind.{NodeKind}
 use Rattle.wm_forest.specs.declared.part.NodeKind.TheVariants.{Root, Output, Space, Con}
 use Rattle.wm_forest.specs.declared.part.Part.{Part}
-use Rattle.wm_forest.specs.declared.place.Place.{Place}
 use Rattle.wm_forest.specs.declared.place.Place.TheVariants.{After, Last, Float}
 use Rattle.wm_forest.specs.declared.spot.Spot.{Spot}
 use Rattle.wm_forest.specs.Focus.{follow, leaf_at, leaf_of, tiled_by}

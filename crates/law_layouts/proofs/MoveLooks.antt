@@ -1,5 +1,5 @@
 -- What is seen of a container that has moved to a place, and where it stands there.
-use Rattle.std.proofs.Common.{◌≡◌, ◌≢◌, ℕ, ◌≤◌, Bool, true, false, cond, ◌||◌, Option, None, Some, refl, ap, sym, ◌∙◌, subst, arith}
+use Rattle.std.proofs.Common.{◌≡◌, ℕ, ◌≤◌, Bool, true, false, cond, ◌||◌, Option, Some, refl, ap, sym, ◌∙◌, subst, arith}
 use Rattle.std.specs.Prelude.{option_and_then}
 use Rattle.wm_base.specs.declared.geometry.Rect.{Rect}
 use Rattle.wm_base.specs.declared.ids.ConId.{ConId}
@@ -18,10 +18,10 @@ use Rattle.wm_forest.specs.Forest.{Forest, end, con}
 use Rattle.wm_forest.specs.Look.{first_part, has, only, same}
 use Rattle.wm_forest.specs.Place.{named, put, put_word, rect_at, tiles}
 use Rattle.wm_forest.specs.SoundRow.{one_of, tally}
-use Rattle.wm_forest.specs.Spot.{space_at, space_by, spot_below, spot_in, spot_of, top}
+use Rattle.wm_forest.specs.Spot.{space_by, spot_below, spot_in, spot_of, top}
 use Rattle.wm_tree.specs.Move.{apart, moved, moved_share}
 use Rattle.wm_tree.specs.Sound.{IsSound}
-use Rattle.wm_tree.specs.TreeValue.{TreeValue, is_con, is_con_kind, is_tiled_spot, workspace_of}
+use Rattle.wm_tree.specs.TreeValue.{TreeValue, is_con, is_con_kind, is_tiled_spot}
 
 abbrev pub spaced : Option Spot → Option ConId
 spaced o = option_and_then (λ (s : Spot). s.space) o

@@ -1,10 +1,9 @@
 -- Raising a container keeps its part and where it stands.
-use Rattle.std.proofs.Common.{◌≡◌, ℕ, ◌+◌, ◌≤◌, Bool, true, false, cond, ◌||◌, Option, None, Some, refl, ap, sym, ◌∙◌, arith}
+use Rattle.std.proofs.Common.{◌≡◌, ◌+◌, ◌≤◌, Bool, true, false, cond, ◌||◌, Option, None, Some, refl, ap, sym, ◌∙◌, arith}
 use Rattle.law_layouts.proofs.NodeChanges.{SameSort}
 use Rattle.wm_base.specs.declared.ids.ConId.{ConId}
 use Rattle.wm_forest.proofs.CountLemmas.{counted}
 use Rattle.wm_forest.proofs.LookLemmas.{none_of_four}
-use Rattle.wm_forest.proofs.OnceLemmas.{in_rest}
 use Rattle.wm_forest.specs.Change.{append, at, raised_at, raised_in, to_end, unfull, unfull_kind}
 use Rattle.wm_forest.specs.Counts.{but}
 use Rattle.wm_forest.specs.declared.part.NodeKind.{NodeKind}

@@ -1,9 +1,9 @@
 -- After `split`: the layout around its subject, and where that stands.
-use Rattle.std.proofs.Common.{◌≡◌, ◌≢◌, ℕ, ◌≤◌, Bool, true, false, cond, ◌&&◌, ◌||◌, not, ◌⊎◌, inl, inr, Option, None, Some, refl, ap, sym, ◌∙◌, subst, arith}
+use Rattle.std.proofs.Common.{◌≡◌, ◌≢◌, Bool, true, false, cond, ◌&&◌, ◌||◌, ◌⊎◌, inl, inr, Option, None, Some, refl, ap, sym, ◌∙◌, arith}
 use Rattle.std.specs.Option.{option_or}
 use Rattle.std.specs.Prelude.{is_some, option_and_then}
-use Rattle.law_layouts.proofs.LayoutLaws.{Keeps, laid_kind, look, same_sort, set_tuned, tuned}
-use Rattle.law_layouts.proofs.NodeChanges.{kinded, seen_kinded, spot_kinded}
+use Rattle.law_layouts.proofs.LayoutLaws.{laid_kind, look, same_sort, set_tuned, tuned}
+use Rattle.law_layouts.proofs.NodeChanges.{seen_kinded, spot_kinded}
 use Rattle.law_layouts.proofs.VisitLaws.{fine_subject, has_layout, look_tuned}
 use Rattle.law_layouts.proofs.WrapLooks.{Inside, new_found, old_seen, old_spot}
 use Rattle.law_layouts.specs.Layouts.{layouts_at}
@@ -12,7 +12,7 @@ use Rattle.wm_base.specs.declared.errors.Refusal.{Refusal}
 use Rattle.wm_base.specs.declared.ids.ConId.{ConId}
 use Rattle.wm_base.specs.declared.plan.Layout.{Layout}
 use Rattle.wm_focus.specs.declared.splits.Layouts.{Layouts}
-use Rattle.wm_focus.specs.Splits.{asked_split, gives_layout, laid, laid_as, layout_refusal, layouts_by, layouts_of, split_as, split_refusal, split_tree}
+use Rattle.wm_focus.specs.Splits.{asked_split, gives_layout, laid, laid_as, layout_refusal, layouts_by, layouts_of, split_refusal, split_tree}
 use Rattle.wm_forest.proofs.RecencyLemmas.{same_is}
 use Rattle.wm_forest.specs.declared.kind.KindEdit.TheVariants as edits
 use Rattle.wm_forest.specs.declared.part.ConKind.{ConKind}

@@ -1,5 +1,5 @@
 -- The tree with another state of one container, and two such changes one after the other.
-use Rattle.std.proofs.Common.{◌≡◌, ℕ, Bool, true, false, ◌&&◌, not, Option, None, Some, refl, ap, sym, ◌∙◌}
+use Rattle.std.proofs.Common.{◌≡◌, Bool, true, false, ◌&&◌, not, Option, None, Some, refl, ap, sym, ◌∙◌}
 use Rattle.std.specs.Option.{option_map}
 use Rattle.std.specs.Prelude.{option_and_then}
 use Rattle.law_layouts.proofs.NodeChanges.{SameSort, as_kinded, kinded, kinded_alike, kinded_none, kinded_twice, seen_kinded, spot_kinded}
@@ -11,7 +11,6 @@ use Rattle.wm_forest.specs.declared.part.ConPart.{ConPart}
 use Rattle.wm_forest.specs.declared.part.ConState.{ConState}
 use Rattle.wm_forest.specs.declared.part.NodeKind.{NodeKind}
 use Rattle.wm_forest.specs.declared.part.NodeKind.TheVariants.{Root, Output, Space, Con}
-use Rattle.wm_forest.specs.declared.part.Part.{Part}
 use Rattle.wm_forest.specs.declared.spot.Spot.{Spot}
 use Rattle.wm_forest.specs.Forest.{Forest}
 use Rattle.wm_forest.specs.Kinds.{changed}

@@ -1,5 +1,5 @@
 -- Changes of one node that keep what is below another one.
-use Rattle.std.proofs.Common.{◌≡◌, Bool, true, false, cond, ◌||◌, Option, None, Some, refl, ap, sym, ◌∙◌}
+use Rattle.std.proofs.Common.{◌≡◌, Bool, true, false, cond, ◌||◌, refl, ap}
 use Rattle.wm_base.specs.declared.ids.ConId.{ConId}
 use Rattle.wm_forest.proofs.ChangeLemmas.{by_change}
 use Rattle.wm_forest.specs.Change.{at}

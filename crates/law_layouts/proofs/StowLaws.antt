@@ -1,34 +1,30 @@
 -- A window hides in the scratchpad, and comes back.
 use Rattle.std.proofs.Common.{◌≡◌, ◌≢◌, ℕ, Bool, true, false, cond, ◌&&◌, not, List, [], ◌∷◌, Option, None, Some, refl, ap, sym, ◌∙◌, subst}
-use Rattle.std.specs.Option.{option_map, option_or}
 use Rattle.std.specs.Prelude.{is_none, is_some, option_and_then}
 use Rattle.law_layouts.proofs.LeafPlaces.{own_workspace}
-use Rattle.law_layouts.proofs.MoveLooks.{Goal, Moved, arrived, has_moved}
-use Rattle.law_layouts.proofs.RaiseLooks.{Looks, tree_raised}
+use Rattle.law_layouts.proofs.MoveLooks.{Moved, arrived, has_moved}
+use Rattle.law_layouts.proofs.RaiseLooks.{tree_raised}
 use Rattle.law_layouts.proofs.BroughtFocus.{brought_focused}
-use Rattle.law_layouts.proofs.StateChanges.{restated_is, with_state, workspace_kept}
+use Rattle.law_layouts.proofs.StateChanges.{restated_is, workspace_kept}
 use Rattle.law_layouts.proofs.Steps.{con_first, no_limit, second_none}
 use Rattle.law_layouts.specs.Afloat.{IsAfloat}
 use Rattle.law_layouts.specs.Stowing.{IsBack, IsStowed, MovesToScratchpad, NoneIsOut, ShowsFirst, ShowsThis, centred}
-use Rattle.wm_base.specs.declared.errors.Limit.{Limit}
 use Rattle.wm_base.specs.declared.errors.Refusal.{Refusal}
 use Rattle.wm_base.specs.declared.geometry.Rect.{Rect}
 use Rattle.wm_base.specs.declared.ids.ConId.{ConId}
 use Rattle.wm_floats.proofs.FloatLemmas.{coming_goal, hidden_is, hide_goal, window_con, window_is}
 use Rattle.wm_floats.proofs.MovedLemmas.{hidden_state, moved_rect}
 use Rattle.wm_floats.specs.declared.kinds.Kind.TheVariants as kinds
-use Rattle.wm_floats.specs.Floating.{IsGoal, earlier, earlier_in, floating_rect, moved_refusal}
-use Rattle.wm_floats.specs.Kinds.{first_of, is_flagged_state, is_of, is_of_space, latest}
-use Rattle.wm_floats.specs.Scratchpad.{brought, brought_refusal, coming_place, first_brought, first_brought_refusal, first_hidden, latest_or_first, latest_or_first_refusal, middle_on, put_away, put_away_refusal, show_next_refusal, show_next_tree, show_this_refusal, show_this_tree, to_scratchpad_tree}
-use Rattle.wm_floats.specs.Windows.{flag_set, state_of, window_refusal}
+use Rattle.wm_floats.specs.Floating.{earlier, earlier_in, floating_rect, moved_refusal}
+use Rattle.wm_floats.specs.Kinds.{first_of, latest}
+use Rattle.wm_floats.specs.Scratchpad.{brought, brought_refusal, coming_place, first_brought, first_brought_refusal, latest_or_first, latest_or_first_refusal, middle_on, put_away, put_away_refusal, show_next_refusal, show_next_tree}
+use Rattle.wm_floats.specs.Windows.{flag_set, window_refusal}
 use Rattle.wm_forest.proofs.RecencyLemmas.{same_self}
 use Rattle.wm_forest.specs.declared.part.ConPart.{ConPart}
-use Rattle.wm_forest.specs.declared.part.ConState.{ConState}
 use Rattle.wm_forest.specs.declared.part.NodeKind.{NodeKind}
 use Rattle.wm_forest.specs.declared.part.NodeKind.TheVariants.{Root, Output, Space, Con}
-use Rattle.wm_forest.specs.declared.part.Part.{Part}
 use Rattle.wm_forest.specs.declared.place.Place.{Place}
-use Rattle.wm_forest.specs.declared.place.Place.TheVariants.{Float, Scratchpad}
+use Rattle.wm_forest.specs.declared.place.Place.TheVariants.{Scratchpad}
 use Rattle.wm_forest.specs.declared.spot.Spot.{Spot}
 use Rattle.wm_forest.specs.Forest.{Forest, end, con}
 use Rattle.wm_forest.specs.Look.{con_kind, first_part, in_row, kind_by, kind_of, only, output_kind}
@@ -39,13 +35,11 @@ use Rattle.wm_forest.specs.Spot.{spot_in, top}
 use Rattle.wm_shared.proofs.ShowLemmas.{space_is}
 use Rattle.wm_shared.proofs.StandingLemmas.{shown_stands, stands_space}
 use Rattle.wm_shared.specs.Rects.{or_nowhere, rect_of, state_rect}
-use Rattle.wm_shared.specs.Refusing.{full_error}
 use Rattle.wm_shared.specs.Subject.{IsSubject, is_container, is_hidden}
 use Rattle.wm_tree.proofs.MoveLemmas.{sound-moved}
 use Rattle.wm_tree.specs.Move.{apart, moved, moved_share, passed_by_move}
 use Rattle.wm_tree.specs.Sound.{IsSound}
-use Rattle.wm_tree.specs.TreeValue.{TreeValue, current, focused, is_con, is_con_kind, is_tiled_con, is_tiled_spot, shown, workspace_of}
-use Rattle.wm_tree.specs.Words.{with_raised}
+use Rattle.wm_tree.specs.TreeValue.{TreeValue, current, focused, is_con, is_tiled_con, is_tiled_spot, shown, workspace_of}
 
 -- ---- small steps
 

@@ -1,5 +1,5 @@
 -- `sticky toggle` and `fullscreen toggle` twice, by what they do to the state.
-use Rattle.std.proofs.Common.{◌≡◌, Bool, true, false, not, Option, None, Some, refl, ap, sym, ◌∙◌, subst}
+use Rattle.std.proofs.Common.{◌≡◌, Bool, true, false, not, Option, None, Some, refl, ap, sym, ◌∙◌}
 use Rattle.std.specs.Prelude.{is_none}
 use Rattle.law_layouts.proofs.StateChanges.{flipped, not_not, state_all, state_same, state_twice, with_state, workspace_kept}
 use Rattle.law_layouts.specs.Switches.{FullTogglesBack, StickyTogglesBack, full_toggled, is_fullscreen, is_sticky, sticky_toggled}
@@ -7,7 +7,6 @@ use Rattle.wm_base.specs.declared.ids.ConId.{ConId}
 use Rattle.wm_floats.proofs.FullLemmas.{alone_kept, none_left}
 use Rattle.wm_floats.specs.Fullscreen.{fills_alone, full_in, fullscreen_tree, others_unfull}
 use Rattle.wm_floats.specs.Windows.{full_set, state_of}
-use Rattle.wm_forest.specs.declared.part.ConState.{ConState}
 use Rattle.wm_tree.specs.TreeValue.{TreeValue, workspace_of}
 
 -- ---- `sticky toggle`

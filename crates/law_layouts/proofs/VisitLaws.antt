@@ -1,6 +1,6 @@
 -- `layout toggle all` comes to each layout.
-use Rattle.std.proofs.Common.{◌≡◌, Bool, true, false, cond, not, ◌&&◌, ◌⊎◌, inl, inr, Option, None, Some, refl, ap, sym, ◌∙◌, subst}
-use Rattle.std.specs.Prelude.{is_none, is_some}
+use Rattle.std.proofs.Common.{◌≡◌, Bool, true, false, cond, not, ◌&&◌, ◌⊎◌, inl, inr, Option, None, Some, refl, ap, ◌∙◌}
+use Rattle.std.specs.Prelude.{is_some}
 use Rattle.law_layouts.proofs.HolderLemmas.{parent_of}
 use Rattle.law_layouts.proofs.LayoutLaws.{Keeps, all_once, all_three, all_two, keeps_three, keeps_two, laid_tuned, look, tuned, turn, turn_keeps}
 use Rattle.law_layouts.proofs.NodeChanges.{part_kinded}

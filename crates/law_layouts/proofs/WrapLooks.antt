@@ -1,5 +1,5 @@
 -- What is seen of a container in the new split round it, and of that split.
-use Rattle.std.proofs.Common.{◌≡◌, ℕ, Bool, true, false, cond, ◌||◌, Option, None, Some, refl, ap, sym, ◌∙◌}
+use Rattle.std.proofs.Common.{◌≡◌, ℕ, Bool, true, false, cond, ◌||◌, Option, None, Some, refl}
 use Rattle.std.specs.Prelude.{option_and_then}
 use Rattle.wm_base.specs.declared.ids.ConId.{ConId}
 use Rattle.wm_base.specs.declared.plan.Border.{Border}
@@ -17,7 +17,7 @@ use Rattle.wm_forest.specs.Forest.{Forest, end, con}
 use Rattle.wm_forest.specs.Kinds.{changed}
 use Rattle.wm_forest.specs.Look.{first_part, has, only, same}
 use Rattle.wm_forest.specs.Place.{new_part}
-use Rattle.wm_forest.specs.Spot.{space_at, space_by, spot_below, spot_in, spot_of}
+use Rattle.wm_forest.specs.Spot.{space_by, spot_below, spot_in, spot_of}
 use Rattle.wm_tree.specs.Move.{wrap_word}
 use Rattle.wm_tree.specs.TreeValue.{is_tiled_spot}
 
