@@ -1,0 +1,16 @@
+pub mod FoundLemmas
+pub mod FreeNames
+pub mod KeptAppends
+pub mod KeptCommands
+pub mod KeptCounts
+pub mod KeptFloats
+pub mod KeptSizes
+pub mod KeptSpaces
+pub mod KeptSteps
+pub mod KeptTexts
+pub mod OutputLaws
+pub mod OutputNames
+pub mod OutputRows
+pub mod SpaceLaws
+pub mod SpaceNames
+pub mod WordCounts

@@ -1,0 +1,75 @@
+-- What a property of trees needs so that commands and the other steps keep it, where new names are free.
+use Rattle.std.specs.Prelude.{◌≡◌, ◌≢◌, ℕ, Bool, true, false, List, Option, None, Some}
+use Rattle.wm_base.specs.declared.geometry.Size.{Size}
+use Rattle.wm_base.specs.declared.ids.ConId.{ConId}
+use Rattle.wm_base.specs.declared.plan.Layout.{Layout}
+use Rattle.wm_base.specs.declared.properties.Props.{Props}
+use Rattle.wm_floats.specs.declared.kinds.Kind.TheVariants as kinds
+use Rattle.wm_floats.specs.Floating.{IsGoal, sink_refusal, sink_tree}
+use Rattle.wm_floats.specs.Fullscreen.{fullscreen_tree}
+use Rattle.wm_floats.specs.Kinds.{is_of_space}
+use Rattle.wm_floats.specs.Scratchpad.{put_away, put_away_refusal, to_scratchpad_refusal, to_scratchpad_tree}
+use Rattle.wm_floats.specs.Windows.{state_of, window_refusal}
+use Rattle.wm_focus.specs.Marks.{bare, taken_off}
+use Rattle.wm_focus.specs.Moves.{IsTurn}
+use Rattle.law_lasting.specs.Changes.{KeepsState, stows}
+use Rattle.wm_shared.specs.Subject.{is_space}
+use Rattle.wm_spaces.specs.Names.{space_named}
+use Rattle.wm_spaces.specs.Renaming.{rename_refusal, renamed_space}
+use Rattle.wm_swallow.specs.Steps.{IsRoomIn}
+use Rattle.wm_tree.specs.Along.{gone_along}
+use Rattle.wm_forest.specs.declared.kind.KindEdit.{KindEdit}
+use Rattle.wm_forest.specs.declared.kind.KindEdit.TheVariants as edits
+use Rattle.wm_forest.specs.declared.part.ConState.{ConState}
+use Rattle.wm_forest.specs.declared.place.NewCon.{NewCon}
+use Rattle.wm_forest.specs.declared.place.NewCon.TheVariants as new
+use Rattle.wm_forest.specs.declared.place.Place.{Place}
+use Rattle.wm_forest.specs.declared.place.Place.TheVariants.{Last}
+use Rattle.wm_forest.specs.Look.{con_kind, kind_of, same}
+use Rattle.wm_tree.specs.Move.{exchanged, moved, unmarked, with_marks, wrapped}
+use Rattle.wm_tree.specs.Outputs.{IsOutput, space_moved, with_space, without_output}
+use Rattle.wm_forest.specs.Place.{passed_limit}
+use Rattle.wm_tree.specs.Sound.{IsSound}
+use Rattle.wm_tree.specs.TreeValue.{TreeValue, is_tiled_con, newcomer_place}
+use Rattle.wm_forest.specs.RootId.{root}
+use Rattle.wm_tree.specs.Words.{attached, detached, edited, settled, with_raised}
+
+-- the change is neither of a container's state nor of a workspace's name
+abbrev pub is_calm : KindEdit → Bool
+is_calm (edits.State s) = false
+is_calm (edits.Name n) = false
+is_calm other = true
+
+-- each word by which trees change keeps P, as commands and the other steps use it: a workspace gets only a name that no
+-- other one has
+pub record Keeps (P : TreeValue → Type 0) : Type 0 where
+  -- P speaks of the nodes alone
+  pub of_nodes : (t new : TreeValue) → new.nodes ≡ t.nodes → P t → P new
+  -- changes of one node
+  pub editing : (c : ConId) (edit : KindEdit) (t : TreeValue) → is_calm edit ≡ true → P t → P (edited c edit t)
+  pub renaming : (was : Option (List ℕ)) (name : List ℕ) (w : ConId) (t : TreeValue) → IsSound t → rename_refusal was name t ≡ None → renamed_space was t ≡ Some w → P t → P (edited w (edits.Name name) t)
+  pub restating : (c : ConId) (old now : ConState) (t : TreeValue) → state_of c t ≡ Some old → KeepsState old now → P t → P (edited c (edits.State now) t)
+  pub filling : (c : ConId) (on : Bool) (t : TreeValue) → IsSound t → window_refusal c t ≡ None → P t → P (fullscreen_tree c on t)
+  pub marking : (c : ConId) (marks : List (List ℕ)) (t : TreeValue) → P t → P (with_marks c marks t)
+  pub unmarking : (c : ConId) (mark : List ℕ) (t : TreeValue) → P t → P (unmarked c mark t)
+  -- marks of all nodes
+  pub taking_off : (keep : Option ConId) (mark : List ℕ) (t : TreeValue) → P t → P (record t { nodes = taken_off keep mark t.nodes })
+  pub baring : (t : TreeValue) → P t → P (record t { nodes = bare t.nodes })
+  -- nodes that change their places
+  pub raising : (c : ConId) (t : TreeValue) → IsSound t → P t → P (with_raised c t)
+  pub moving : (c : ConId) (p : Place) (t : TreeValue) → IsSound t → IsGoal c p t → stows p ≡ false → IsSound (moved c p t) → P t → P (moved c p t)
+  pub exchanging : (a b : ConId) (t : TreeValue) → IsSound t → IsTurn a b t → IsSound (exchanged a b t) → P t → P (exchanged a b t)
+  pub space_moving : (w o : ConId) (t : TreeValue) → IsSound t → is_space t w ≡ true → IsOutput o t.nodes → IsSound (space_moved w o t) → P t → P (space_moved w o t)
+  pub going_along : (v w : ConId) (t : TreeValue) → same root w ≡ false → P t → P (gone_along v w t)
+  -- the scratchpad, and windows that are tiled again
+  pub hiding : (c : ConId) (t : TreeValue) → IsSound t → to_scratchpad_refusal c t ≡ None → P t → P (to_scratchpad_tree c t)
+  pub putting_away : (w c : ConId) (t : TreeValue) → IsSound t → is_of_space kinds.Flagged w t c ≡ true → put_away_refusal c t ≡ None → P t → P (put_away c t)
+  pub sinking : (c : ConId) (t : TreeValue) → IsSound t → sink_refusal c t ≡ None → P t → P (sink_tree c t)
+  -- nodes that come and go
+  pub attaching : (who : ℕ) (props : Props) (natural : Size) (t : TreeValue) → IsSound t → passed_limit (newcomer_place t) t.nodes t.next_id ≡ None → P t → P (attached (newcomer_place t) (new.Window props who natural) t)
+  pub joining : (p : ConId) (newcomer : NewCon) (t : TreeValue) → IsSound t → IsRoomIn p t → P t → P (attached (Last p) newcomer t)
+  pub wrapping : (c : ConId) (layout : Layout) (t : TreeValue) → IsSound t → is_tiled_con t c ≡ true → IsSound (wrapped c layout t) → P t → P (wrapped c layout t)
+  pub space_coming : (o : ConId) (name : List ℕ) (t : TreeValue) → IsSound t → IsOutput o t.nodes → IsSound (with_space o name t) → space_named name t ≡ None → P t → P (with_space o name t)
+  pub detaching : (c : ConId) (t : TreeValue) → IsSound t → kind_of con_kind c t.nodes ≢ None → P t → P (detached c t)
+  pub settling : (t : TreeValue) → IsSound t → P t → P (settled t)
+  pub output_going : (o : ConId) (t : TreeValue) → IsSound t → IsOutput o t.nodes → P t → P (without_output o t)
