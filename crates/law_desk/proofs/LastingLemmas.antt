@@ -35,7 +35,7 @@ use Rattle.law_lasting.specs.Lasting.{Lasts}
 use Rattle.wm_layouts.proofs.FitLemmas.{output_rect}
 use Rattle.wm_layouts.specs.declared.plan.Plan.{Plan}
 use Rattle.wm_layouts.specs.Plan.{IsSound as IsSoundPlan, is_fit_rect}
-use Rattle.wm_spaces.specs.Coming.{free_name, output_added_tree}
+use Rattle.wm_spaces.specs.Coming.{free_name, output_added_refusal, output_added_tree}
 use Rattle.wm_spaces.specs.Names.{output_named}
 use Rattle.wm_forest.proofs.ForestLemmas.{at_absent, only_absent, outside_end}
 use Rattle.wm_tree.proofs.OutputLemmas.{sound-with_output}
@@ -65,11 +65,11 @@ none_out v t none =
     ap (λ f. record t { nodes = f; recency = outside (only v t.nodes) t.recency; urgent = outside (only v t.nodes) t.urgent }) nodes
     ∙ (ap (λ r. record t { recency = r; urgent = outside (only v t.nodes) t.urgent }) recent ∙ ap (λ u. record t { urgent = u }) urgent)
 
--- an output that is added has a rectangle within the limits, and passes none
-may_add : (taken fit : Bool) (passed : Option Limit) → cond taken answers.NameTaken (cond (not fit) answers.BadRect (unless_full passed)) ≡ answers.Done → (fit ≡ true) × (passed ≡ None)
+-- an output that is added has a name of its own and a rectangle within the limits, and passes none
+may_add : (taken fit : Bool) (passed : Option Limit) → cond taken answers.NameTaken (cond (not fit) answers.BadRect (unless_full passed)) ≡ answers.Done → (taken ≡ false) × (fit ≡ true) × (passed ≡ None)
 may_add true fit passed h = cc
 may_add false false passed h = cc
-may_add false true None h = (refl, refl)
+may_add false true None h = (refl, refl, refl)
 may_add false true (Some limit) h = cc
 
 module _ {P : TreeValue → Type 0} (k : Lasts P) where
@@ -135,7 +135,8 @@ module _ {P : TreeValue → Type 0} (k : Lasts P) where
   has_add : (plan : OutputPlan) (t : TreeValue) → HasLast P t → add_answer plan t ≡ answers.Done → HasLast P (added plan t)
   has_add plan t g h =
       let may = may_add (is_some (output_named plan.name t)) (is_fit_rect plan.rect) (passed_by_output t.nodes t.next_id) h in
-      has_settled k (output_added_tree plan t) (has_added k plan t g (sound-with_output plan (free_name t) t (output_rect plan.rect may.0) may.1 g.sound))
+      let fine : output_added_refusal plan t ≡ None = rw (may.0, may.2) refl in
+      has_settled k (output_added_tree plan t) (has_added k plan t g fine (sound-with_output plan (free_name t) t (output_rect plan.rect may.1) may.2 g.sound))
 
   -- a step keeps what lasts
   pub has_after : (env : Env) (mode : List ℕ) (t : TreeValue) (who : ℕ) (act : Act) → HasLast P t → HasLast P (effect env mode t who act).tree

@@ -1,1 +1,2 @@
 pub mod LastingLemmas
+pub mod NamingLemmas

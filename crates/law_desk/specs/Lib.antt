@@ -1,1 +1,2 @@
 pub mod LastingLaws
+pub mod NamingLaws

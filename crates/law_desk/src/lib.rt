@@ -2,6 +2,7 @@
 #![tactic(auto)]
 
 ghost use Rattle.law_desk.specs.LastingLaws.{HistoriesAreInOrder, HistoriesStayInOrder};
+ghost use Rattle.law_desk.specs.NamingLaws.{HistoriesHaveOutputNames, HistoriesHaveSpaceNames};
 
 /// A tree that is in order stays so through each history.
 pub fn histories_stay_in_order()
@@ -12,4 +13,14 @@ pub fn histories_stay_in_order()
 /// with an outer rectangle, and at most one fullscreen container in each workspace.
 pub fn histories_are_in_order()
     ensures { HistoriesAreInOrder }
+{}
+
+/// From a sound plan every history leaves a tree in which the names of workspaces differ.
+pub fn histories_have_space_names()
+    ensures { HistoriesHaveSpaceNames }
+{}
+
+/// From a sound plan every history leaves a tree in which the names of outputs differ.
+pub fn histories_have_output_names()
+    ensures { HistoriesHaveOutputNames }
 {}

@@ -7,6 +7,7 @@ pub both_last : {P Q : TreeValue → Type 0} → Lasts P → Lasts Q → Lasts (
 both_last p q = record {
   of_nodes = λ t new e h. (p.of_nodes t new e h.0, q.of_nodes t new e h.1);
   editing = λ c edit t e h. (p.editing c edit t e h.0, q.editing c edit t e h.1);
+  renaming = λ was name w t e f g h. (p.renaming was name w t e f g h.0, q.renaming was name w t e f g h.1);
   restating = λ c old now t e f h. (p.restating c old now t e f h.0, q.restating c old now t e f h.1);
   filling = λ c on t e f h. (p.filling c on t e f h.0, q.filling c on t e f h.1);
   marking = λ c marks t h. (p.marking c marks t h.0, q.marking c marks t h.1);
@@ -24,10 +25,9 @@ both_last p q = record {
   attaching = λ who props natural t e f h. (p.attaching who props natural t e f h.0, q.attaching who props natural t e f h.1);
   joining = λ c newcomer t e f h. (p.joining c newcomer t e f h.0, q.joining c newcomer t e f h.1);
   wrapping = λ c layout t e f g h. (p.wrapping c layout t e f g h.0, q.wrapping c layout t e f g h.1);
-  space_coming = λ o name t e f g h. (p.space_coming o name t e f g h.0, q.space_coming o name t e f g h.1);
-  output_coming = λ plan name t e f h. (p.output_coming plan name t e f h.0, q.output_coming plan name t e f h.1);
+  space_coming = λ o name t e f g j h. (p.space_coming o name t e f g j h.0, q.space_coming o name t e f g j h.1);
+  output_coming = λ plan t e f g h. (p.output_coming plan t e f g h.0, q.output_coming plan t e f g h.1);
   detaching = λ c t e f h. (p.detaching c t e f h.0, q.detaching c t e f h.1);
   settling = λ t e h. (p.settling t e h.0, q.settling t e h.1);
   output_going = λ o t e f h. (p.output_going o t e f h.0, q.output_going o t e f h.1);
-  opened = λ plans border inner outer. (p.opened plans border inner outer, q.opened plans border inner outer);
 }

@@ -1,12 +1,14 @@
 -- Only windows are flagged: each word keeps that.
 use Rattle.std.proofs.Common.{◌≡◌, ℕ, ◌+◌, Bool, true, false, cond, List, [], ◌∷◌, Option, None, Some, refl, ap, sym, subst, ◌∙◌}
 use Rattle.wm_base.specs.declared.ids.ConId.{ConId}
+use Rattle.wm_base.specs.declared.plan.Border.{Border}
 use Rattle.wm_base.specs.declared.plan.OutputPlan.{OutputPlan}
 use Rattle.wm_floats.proofs.FloatLemmas.{window_is}
 use Rattle.wm_floats.specs.Floating.{floating_rect}
 use Rattle.wm_floats.specs.Windows.{window_refusal}
 use Rattle.wm_focus.specs.Marks.{bare, part_off, taken_off}
 use Rattle.wm_focus.specs.Swaps.{is_window_kind}
+use Rattle.law_lasting.proofs.CalmLemmas.{calm_plain}
 use Rattle.law_lasting.proofs.EachLemmas.{each_along, each_change, each_exchanged, each_only, each_put, each_raised, each_settled, each_taking, each_without}
 use Rattle.law_lasting.proofs.FlagLemmas.{Right, each_moved, either_true, right_edited, right_fullscreen, right_hidden, right_loose, right_sink, right_state}
 use Rattle.law_lasting.specs.Each.{Each}
@@ -15,6 +17,7 @@ use Rattle.law_lasting.specs.Lasting.{Lasts}
 use Rattle.wm_opens.proofs.SureSpaces.{none_of_two}
 use Rattle.wm_shared.specs.Refusing.{full_error}
 use Rattle.wm_shared.specs.Rects.{rect_of}
+use Rattle.wm_spaces.specs.Coming.{free_name, output_added_tree}
 use Rattle.wm_forest.specs.Change.{is_id, without}
 use Rattle.wm_forest.specs.declared.kind.KindEdit.TheVariants as edits
 use Rattle.wm_forest.specs.declared.part.NodeKind.{NodeKind}
@@ -30,7 +33,7 @@ use Rattle.wm_forest.specs.Marks.{marks_word, other_marks, unmark_word}
 use Rattle.wm_forest.specs.Taking.{heir}
 use Rattle.wm_tree.specs.Outputs.{left_to, new_output, new_space, without_output, yielded}
 use Rattle.wm_forest.specs.Place.{new_kind, new_part, rect_at, share_at}
-use Rattle.wm_tree.specs.TreeValue.{TreeValue, current, newcomer_place, opening_outputs, workspace_of}
+use Rattle.wm_tree.specs.TreeValue.{TreeValue, current, newcomer_place, opening, opening_outputs, workspace_of}
 use Rattle.wm_forest.specs.RootId.{id, root}
 use Rattle.wm_tree.specs.Words.{edited}
 
@@ -79,12 +82,19 @@ right_outputs : (k last inner outer : ℕ) (plans : List OutputPlan) → Each Ri
 right_outputs k last inner outer [] = tt
 right_outputs k last inner outer (plan ∷ plans) = (refl, (refl, tt, tt, tt), tt, right_outputs (k + 1) last inner outer plans)
 
+pub flags_opening : (plans : List OutputPlan) (border : Border) (inner outer : ℕ) → FlagsOnlyWindows (opening plans border inner outer)
+flags_opening plans border inner outer = (refl, right_outputs 1 _ inner outer plans, tt, tt)
+
+pub flags_added : (plan : OutputPlan) (t : TreeValue) → FlagsOnlyWindows t → FlagsOnlyWindows (output_added_tree plan t)
+flags_added plan t q = each_put Right (Last root) (new_output (id t.next_id) plan (id (t.next_id + 1)) (free_name t) t) t.nodes (refl, (refl, tt, tt, tt), tt, tt) q
+
 -- ---- the whole
 
 pub flags_last : Lasts FlagsOnlyWindows
 flags_last = record {
   of_nodes = λ t now e q. subst (Each Right) (sym e) q;
-  editing = λ c edit t plain q. right_edited c edit t.nodes plain q;
+  editing = λ c edit t calm q. right_edited c edit t.nodes (calm_plain edit calm) q;
+  renaming = λ was name w t s fits is q. right_edited w (edits.Name name) t.nodes refl q;
   restating = λ c old now t has keeps q. right_state c old now t.nodes keeps.1 has q;
   filling = λ c on t s fits q. right_fullscreen c on t q;
   marking = λ c marks t q. each_change Right c marks_word marks (λ part kids floats rest p. p) t.nodes q;
@@ -106,10 +116,9 @@ flags_last = record {
       each_put Right (Last p) (con (new_part (id t.next_id) (share_at (Last p) t.nodes) t.border (rect_at (Last p)) newcomer) end end end) t.nodes (either_true (is_window_kind (new_kind newcomer)), tt, tt, tt) q;
   wrapping = λ c layout t s own after q.
       each_change Right c wrap_word (new_part (id t.next_id) (share_in c t.nodes) t.border None (new.Split layout)) (λ part kids floats rest p. (refl, (shared part.kind p.0, p.1, p.2, tt), tt, p.3)) t.nodes q;
-  space_coming = λ o name t s out after q. each_put Right (Last o) (new_space (id t.next_id) name t) t.nodes (refl, tt, tt, tt) q;
-  output_coming = λ plan name t s after q. each_put Right (Last root) (new_output (id t.next_id) plan (id (t.next_id + 1)) name t) t.nodes (refl, (refl, tt, tt, tt), tt, tt) q;
+  space_coming = λ o name t s out after free q. each_put Right (Last o) (new_space (id t.next_id) name t) t.nodes (refl, tt, tt, tt) q;
+  output_coming = λ plan t s fine after q. flags_added plan t q;
   detaching = λ c t s ok q. each_without Right c t.nodes q;
   settling = λ t s q. each_settled Right None t.nodes q;
   output_going = λ o t s out q. right_without_output o t q;
-  opened = λ plans border inner outer. (refl, right_outputs 1 _ inner outer plans, tt, tt);
 }

@@ -1,8 +1,9 @@
--- Showing, sending and moving workspaces keep what lasts.
+-- Showing, sending, moving and renaming workspaces keep what lasts.
 use Rattle.std.proofs.Common.{◌≡◌, ◌≢◌, ℕ, Bool, true, false, cond, not, List, Option, None, Some, refl, ap, subst}
 use Rattle.std.specs.Prelude.{is_some}
 use Rattle.wm_base.specs.declared.ids.ConId.{ConId}
 use Rattle.wm_floats.specs.Floating.{IsGoal}
+use Rattle.law_lasting.proofs.FreeNames.{IsNewGoal, new_name_free}
 use Rattle.law_lasting.proofs.LastFloats.{last_moved}
 use Rattle.law_lasting.specs.Changes.{stows}
 use Rattle.law_lasting.specs.Lasting.{Lasts}
@@ -23,8 +24,9 @@ use Rattle.wm_spaces.proofs.StandLemmas.{home_output}
 use Rattle.wm_spaces.specs.Coming.{free_name}
 use Rattle.wm_spaces.specs.declared.targets.Goal.{Goal}
 use Rattle.wm_spaces.specs.declared.targets.Goal.TheVariants.{There, Absent, Refused}
+use Rattle.wm_spaces.specs.Names.{space_named}
 use Rattle.wm_spaces.specs.Moving.{IsFree, aside_refusal, going_refusal, other_refusal, other_space, set_aside, showing_other, space_goes}
-use Rattle.wm_spaces.specs.Renaming.{renamed}
+use Rattle.wm_spaces.specs.Renaming.{rename_refusal, rename_tree, renamed, renamed_space}
 use Rattle.wm_spaces.specs.Sending.{goal_sent, goal_sent_refusal, sent, sent_place, sent_refusal, sent_some, sent_some_refusal, shifted}
 use Rattle.wm_shared.specs.Rects.{output_part_of, rect_of}
 use Rattle.wm_spaces.specs.Shows.{goal_refusal, goal_shown, then_shown}
@@ -141,26 +143,29 @@ module _ {P : TreeValue → Type 0} (k : Lasts P) where
   last_then_shown : (w : ConId) (t new : TreeValue) → IsSound new → is_space new w ≡ true → P new → P (then_shown w t new)
   last_then_shown w t new s ok p = last_remembering t (shown_there w (parent new w) new) (last_there w new ok s p)
 
-  pub last_renamed : (w : Option ConId) (name : List ℕ) (t : TreeValue) → P t → P (renamed w name t)
-  last_renamed None name t p = p
-  last_renamed (Some w) name t p = k.editing w (edits.Name name) t refl p
+  pub last_renamed : (was : Option (List ℕ)) (name : List ℕ) (t : TreeValue) → IsSound t → rename_refusal was name t ≡ None → P t → P (rename_tree was name t)
+  last_renamed was name t s fits p = by (renamed_space was t) refl
+    where
+      by : (o : Option ConId) → renamed_space was t ≡ o → P (renamed o name t)
+      by None e = p
+      by (Some w) e = k.renaming was name w t s fits e p
 
   -- ---- new workspaces
 
   sound_made : (o : ConId) (n : List ℕ) (t : TreeValue) → IsSound t → IsOutput o t.nodes → full_error (passed_by_space t.nodes t.next_id) ≡ None → IsSound (with_space o n t)
   sound_made o n t s out fits = sound-with_space o n t (has_output o t.nodes out) out (not_full (passed_by_space t.nodes t.next_id) fits) s
 
-  last_made : (o : ConId) (n : List ℕ) (t : TreeValue) → IsSound t → IsOutput o t.nodes → full_error (passed_by_space t.nodes t.next_id) ≡ None → P t → P (with_space o n t)
-  last_made o n t s out fits p = k.space_coming o n t s out (sound_made o n t s out fits) p
+  last_made : (o : ConId) (n : List ℕ) (t : TreeValue) → IsSound t → IsOutput o t.nodes → full_error (passed_by_space t.nodes t.next_id) ≡ None → space_named n t ≡ None → P t → P (with_space o n t)
+  last_made o n t s out fits free p = k.space_coming o n t s out (sound_made o n t s out fits) free p
 
-  pub last_goal_shown : (g : Goal) (homes : List (List ℕ × List ℕ)) (t : TreeValue) → IsSound t → IsTarget g t → goal_refusal g t ≡ None → P t → P (goal_shown g homes t)
-  last_goal_shown (There w) homes t s ok fits p = last_showing w t ok s p
-  last_goal_shown (Absent n) homes t s ok fits p =
+  pub last_goal_shown : (g : Goal) (homes : List (List ℕ × List ℕ)) (t : TreeValue) → IsSound t → IsTarget g t → IsNewGoal g t → goal_refusal g t ≡ None → P t → P (goal_shown g homes t)
+  last_goal_shown (There w) homes t s ok free fits p = last_showing w t ok s p
+  last_goal_shown (Absent n) homes t s ok free fits p =
       let o : ConId = home n homes t in
       let out : IsOutput (home n homes t) t.nodes = home_output n homes t s in
       let made : IsSound (with_space (home n homes t) n t) = sound_made o n t s out fits in
-      last_then_shown (id t.next_id) t (with_space (home n homes t) n t) made (new_is o (id t.next_id) n t (with_space (home n homes t) n t) refl refl made s out) (last_made o n t s out fits p)
-  last_goal_shown (Refused text) homes t s ok fits p = p
+      last_then_shown (id t.next_id) t (with_space (home n homes t) n t) made (new_is o (id t.next_id) n t (with_space (home n homes t) n t) refl refl made s out) (last_made o n t s out fits free p)
+  last_goal_shown (Refused text) homes t s ok free fits p = p
 
   -- ---- sending
 
@@ -178,16 +183,16 @@ module _ {P : TreeValue → Type 0} (k : Lasts P) where
   last_sent_some None c t s is_con ok fits p = p
   last_sent_some (Some w) c t s is_con ok fits p = last_sent c w t s is_con (ok w refl) fits p
 
-  pub last_goal_sent : (g : Goal) (c : ConId) (homes : List (List ℕ × List ℕ)) (t : TreeValue) → IsSound t → kind_of con_kind c t.nodes ≢ None → IsTarget g t → goal_sent_refusal g c homes t ≡ None → P t → P (goal_sent g c homes t)
-  last_goal_sent (There w) c homes t s is_con ok fits p = last_sent c w t s is_con ok fits p
-  last_goal_sent (Absent n) c homes t s is_con ok fits p =
+  pub last_goal_sent : (g : Goal) (c : ConId) (homes : List (List ℕ × List ℕ)) (t : TreeValue) → IsSound t → kind_of con_kind c t.nodes ≢ None → IsTarget g t → IsNewGoal g t → goal_sent_refusal g c homes t ≡ None → P t → P (goal_sent g c homes t)
+  last_goal_sent (There w) c homes t s is_con ok free fits p = last_sent c w t s is_con ok fits p
+  last_goal_sent (Absent n) c homes t s is_con ok free fits p =
       let o : ConId = home n homes t in
       let both = none_of_two (full_error (passed_by_space t.nodes t.next_id)) (sent_refusal c (id t.next_id) (with_space (home n homes t) n t)) fits in
       let out : IsOutput (home n homes t) t.nodes = home_output n homes t s in
       let made : IsSound (with_space (home n homes t) n t) = sound_made o n t s out both.0 in
       let still : kind_of con_kind c (with_space (home n homes t) n t).nodes ≢ None = con_kept c o n t (with_space (home n homes t) n t) refl s (con_there c t.nodes is_con) is_con in
-      last_sent c (id t.next_id) (with_space (home n homes t) n t) made still (new_is o (id t.next_id) n t (with_space (home n homes t) n t) refl refl made s out) both.1 (last_made o n t s out both.0 p)
-  last_goal_sent (Refused text) c homes t s is_con ok fits p = p
+      last_sent c (id t.next_id) (with_space (home n homes t) n t) made still (new_is o (id t.next_id) n t (with_space (home n homes t) n t) refl refl made s out) both.1 (last_made o n t s out both.0 free p)
+  last_goal_sent (Refused text) c homes t s is_con ok free fits p = p
 
   -- ---- moving a workspace
 
@@ -199,7 +204,7 @@ module _ {P : TreeValue → Type 0} (k : Lasts P) where
       let n : List ℕ = free_name t in
       let new : TreeValue = with_space q (free_name t) t in
       let made : IsSound (with_space q (free_name t) t) = sound_made q n t s out fits in (
-        last_shown (parent new (id t.next_id)) (id t.next_id) new (last_made q n t s out fits p),
+        last_shown (parent new (id t.next_id)) (id t.next_id) new (last_made q n t s out fits (new_name_free t s) p),
         freed_new_by w q (id t.next_id) n t new (with_shown (id t.next_id) (with_space q (free_name t) t)) refl refl refl made s ok held,
       )
 

@@ -12,7 +12,7 @@ use Rattle.wm_opens.proofs.SureSpaces.{fits_all}
 use Rattle.wm_shared.proofs.ShowLemmas.{sound_output}
 use Rattle.wm_shared.specs.Showing.{output_focused}
 use Rattle.wm_spaces.proofs.ComingLemmas.{heir_output, named_output, still_output}
-use Rattle.wm_spaces.specs.Coming.{free_name, left_output, output_added_tree, output_gone, output_gone_some, output_removed_tree}
+use Rattle.wm_spaces.specs.Coming.{left_output, output_added_refusal, output_added_tree, output_gone, output_gone_some, output_removed_tree}
 use Rattle.wm_spaces.specs.Names.{output_named}
 use Rattle.wm_swallow.specs.Swallowing.{filled_at, swallowed, swallower}
 use Rattle.wm_forest.proofs.EditLemmas.{fits_fill}
@@ -101,8 +101,8 @@ module _ {P : TreeValue → Type 0} (k : Lasts P) where
 
   -- ---- outputs that come and go
 
-  pub has_added : (plan : OutputPlan) (t : TreeValue) → HasLast P t → IsSound (output_added_tree plan t) → HasLast P (output_added_tree plan t)
-  has_added plan t g s = record { sound = s; held = k.output_coming plan (free_name t) t g.sound s g.held }
+  pub has_added : (plan : OutputPlan) (t : TreeValue) → HasLast P t → output_added_refusal plan t ≡ None → IsSound (output_added_tree plan t) → HasLast P (output_added_tree plan t)
+  has_added plan t g fine s = record { sound = s; held = k.output_coming plan t g.sound fine s g.held }
 
   has_left : (o h : ConId) (t : TreeValue) → HasLast P t → IsOutput h t.nodes → HasLast P (left_output o h t)
   has_left o h t g out = step (same (current t) o)

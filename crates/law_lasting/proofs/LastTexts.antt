@@ -15,6 +15,7 @@ use Rattle.wm_criteria.specs.declared.verdict.Verdict.{Verdict}
 use Rattle.wm_language.specs.declared.batch.Group.{Group}
 use Rattle.wm_language.specs.declared.command.Command.{Command}
 use Rattle.wm_language.specs.declared.command.Command.TheVariants as commands
+use Rattle.law_lasting.proofs.FreeNames.{new_goal}
 use Rattle.law_lasting.proofs.LastAppends.{last_append}
 use Rattle.law_lasting.proofs.LastCommands.{last_dir, last_floating, last_focus_dir, last_laid, last_output_some, last_raised_some, last_split, last_swap, last_to_mark, last_to_named, last_to_output}
 use Rattle.law_lasting.proofs.LastFloats.{last_kind, last_placed, last_scratchpad, last_stuck}
@@ -29,7 +30,6 @@ use Rattle.wm_shared.specs.Showing.{focusing}
 use Rattle.wm_shared.specs.Subject.{IsSubject, is_hidden, is_space}
 use Rattle.wm_spaces.proofs.StandLemmas.{goal_by}
 use Rattle.wm_spaces.specs.Outs.{output_at}
-use Rattle.wm_spaces.specs.Renaming.{renamed_space}
 use Rattle.wm_spaces.specs.Sending.{goal_sent_refusal}
 use Rattle.wm_spaces.specs.Targets.{goal_of}
 use Rattle.wm_tree.proofs.SettleLemmas.{sound-settled}
@@ -75,7 +75,7 @@ module _ {P : TreeValue → Type 0} (k : Lasts P) where
   last_row env how (commands.MoveToOutput arg) c t sub h p = last_to_output k c arg (output_at c arg t) t refl sub h p
   last_row env how (commands.MoveToWorkspace target) c t sub h p =
       let a = unless (is_space t c) texts.AtWorkspace (goal_sent_refusal (goal_of target t) c env.homes t) h in
-      last_goal_sent k (goal_of target t) c env.homes t sub.sound (subject_con c t sub a.0) (goal_by target t (goal_of target t) refl sub.sound) a.1 p
+      last_goal_sent k (goal_of target t) c env.homes t sub.sound (subject_con c t sub a.0) (goal_by target t (goal_of target t) refl sub.sound) (new_goal target t) a.1 p
   last_row env how (commands.MoveWorkspace arg) c t sub h p =
       let a = unless (is_hidden t c) texts.NoWorkspace (to_named_refusal (output_at c arg t) (workspace_of t c) t) h in
       last_to_named k c arg (output_at c arg t) (workspace_of t c) t refl refl sub.sound a.1 p
@@ -96,8 +96,8 @@ module _ {P : TreeValue → Type 0} (k : Lasts P) where
   last_row env how other c t sub h p = p
 
   pub last_whole : (env : Env) (command : Command) (t : TreeValue) → IsSound t → whole_refusal env command t ≡ None → P t → P (whole_tree env command t)
-  last_whole env (commands.Workspace target) t s h p = last_goal_shown k (goal_of target t) env.homes t s (goal_by target t (goal_of target t) refl s) h p
-  last_whole env (commands.Rename was name) t s h p = last_renamed k (renamed_space was t) name t p
+  last_whole env (commands.Workspace target) t s h p = last_goal_shown k (goal_of target t) env.homes t s (goal_by target t (goal_of target t) refl s) (new_goal target t) h p
+  last_whole env (commands.Rename was name) t s h p = last_renamed k was name t s h p
   last_whole env (commands.AppendLayout name) t s h p = last_append k name env.layouts t s h p
   last_whole env other t s h p = p
 

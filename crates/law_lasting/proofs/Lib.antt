@@ -1,7 +1,9 @@
 pub mod BothLast
+pub mod CalmLemmas
 pub mod EachLemmas
 pub mod FlagLasts
 pub mod FlagLemmas
+pub mod FreeNames
 pub mod LastAppends
 pub mod LastCommands
 pub mod LastFloats

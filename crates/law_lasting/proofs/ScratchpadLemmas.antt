@@ -11,11 +11,11 @@ use Rattle.wm_base.specs.declared.properties.Props.{Props}
 use Rattle.wm_criteria.specs.declared.verdict.Verdict.{Verdict}
 use Rattle.wm_focus.specs.Swaps.{is_window_kind}
 use Rattle.law_lasting.proofs.BothLast.{both_last}
-use Rattle.law_lasting.proofs.FlagLasts.{flags_last}
+use Rattle.law_lasting.proofs.FlagLasts.{flags_added, flags_last, flags_opening}
 use Rattle.law_lasting.proofs.FlagLemmas.{Right}
-use Rattle.law_lasting.proofs.LastSteps.{has_added, has_closed, has_detached, has_mapped, has_removed, has_reserved, has_swallowed, has_titled, has_urgent}
+use Rattle.law_lasting.proofs.LastSteps.{has_closed, has_detached, has_mapped, has_removed, has_reserved, has_swallowed, has_titled, has_urgent}
 use Rattle.law_lasting.proofs.LastTexts.{HasLast, has_outcome, has_settled}
-use Rattle.law_lasting.proofs.StowedLasts.{Holds, stowed_lasts}
+use Rattle.law_lasting.proofs.StowedLasts.{Holds, holds_with_output, stowed_lasts}
 use Rattle.law_lasting.proofs.StowedLemmas.{row_of}
 use Rattle.law_lasting.proofs.StowedMoves.{stowed_sound}
 use Rattle.law_lasting.specs.Each.{Each}
@@ -24,7 +24,7 @@ use Rattle.law_lasting.specs.Lasting.{Lasts}
 use Rattle.law_lasting.specs.Rows.{AreStowed, is_stowed}
 use Rattle.law_lasting.specs.Scratchpad.{AreHiddenWindows, HasScratchpad, is_hidden_window, scratchpad}
 use Rattle.wm_layouts.specs.declared.plan.Env.{Env}
-use Rattle.wm_spaces.specs.Coming.{output_added_tree, output_removed_tree}
+use Rattle.wm_spaces.specs.Coming.{free_name, output_added_tree, output_removed_tree}
 use Rattle.wm_forest.specs.declared.kind.KindEdit.TheVariants as edits
 use Rattle.wm_forest.specs.declared.part.NodeKind.{NodeKind}
 use Rattle.wm_forest.specs.declared.part.NodeKind.TheVariants.{Root, Output, Space, Con}
@@ -80,7 +80,7 @@ pub texts_keep : (env : Env) (verdict : Verdict) (subject : Option ConId) (t : T
 texts_keep env verdict subject t s h = back (outcome env verdict subject t).tree (has_outcome both_lasts env verdict subject t (from t s h))
 
 pub openings_empty : (plans : List OutputPlan) (border : Border) (inner outer : ℕ) → (scratchpad (opening plans border inner outer) ≡ end) × HasScratchpad (opening plans border inner outer)
-openings_empty plans border inner outer = (refl, record { flags = flags_last.opened plans border inner outer; row = tt })
+openings_empty plans border inner outer = (refl, record { flags = flags_opening plans border inner outer; row = tt })
 
 pub mapping_keeps : (who : ℕ) (props : Props) (natural : Size) (raises : Bool) (c : ConId) (t : TreeValue) → IsSound t → HasScratchpad t → passed_limit (newcomer_place t) t.nodes t.next_id ≡ None
     → HasScratchpad (settled (cond raises (with_raised c (attached (newcomer_place t) (new.Window props who natural) t)) (attached (newcomer_place t) (new.Window props who natural) t)))
@@ -111,7 +111,7 @@ pub reserving_keeps : (o : ConId) (edges : Edges) (t : TreeValue) → IsSound t 
 reserving_keeps o edges t s h = back (settled (edited o (edits.Reserved edges) t)) (has_settled both_lasts (edited o (edits.Reserved edges) t) (has_reserved both_lasts o edges t (from t s h)))
 
 pub added_outputs_keep : (plan : OutputPlan) (t : TreeValue) → IsSound t → HasScratchpad t → IsSound (output_added_tree plan t) → HasScratchpad (settled (output_added_tree plan t))
-added_outputs_keep plan t s h after = back (settled (output_added_tree plan t)) (has_settled both_lasts (output_added_tree plan t) (has_added both_lasts plan t (from t s h) after))
+added_outputs_keep plan t s h after = back (settled (output_added_tree plan t)) (has_settled both_lasts (output_added_tree plan t) (record { sound = after; held = (holds_with_output plan (free_name t) t (from t s h).held.0, flags_added plan t h.flags) }))
 
 pub removed_outputs_keep : (name : List ℕ) (t : TreeValue) → IsSound t → HasScratchpad t → HasScratchpad (settled (output_removed_tree name t))
 removed_outputs_keep name t s h = back (settled (output_removed_tree name t)) (has_settled both_lasts (output_removed_tree name t) (has_removed both_lasts name t (from t s h)))

@@ -8,16 +8,17 @@ use Rattle.wm_base.specs.declared.plan.OutputPlan.{OutputPlan}
 use Rattle.wm_base.specs.declared.properties.Props.{Props}
 use Rattle.wm_criteria.specs.declared.verdict.Verdict.{Verdict}
 use Rattle.law_fullscreen.proofs.FloatLemmas.{single_hidden, single_put_away, single_sinking}
-use Rattle.law_fullscreen.proofs.SingleLemmas.{Single, has_of, single_along, single_attached, single_bare, single_detached, single_edited, single_exchanged, single_filled, single_marks, single_moved, single_nodes, single_of, single_opening, single_raised, single_restated, single_settled, single_space_moved, single_taken_off, single_unmarked, single_with_output, single_with_space, single_without_output, single_wrapped}
+use Rattle.law_fullscreen.proofs.SingleLemmas.{Single, has_of, single_along, single_attached, single_bare, single_detached, single_edited, single_exchanged, single_filled, single_marks, single_moved, single_nodes, single_of, single_raised, single_restated, single_settled, single_space_moved, single_taken_off, single_unmarked, single_with_output, single_with_space, single_without_output, single_wrapped}
 use Rattle.law_fullscreen.proofs.WordLemmas.{is_state, one_attached}
 use Rattle.law_fullscreen.specs.Fullscreen.{HasOne}
-use Rattle.law_lasting.proofs.LastSteps.{has_added, has_closed, has_mapped, has_removed, has_reserved, has_swallowed, has_titled, has_urgent}
+use Rattle.law_lasting.proofs.CalmLemmas.{calm_plain}
+use Rattle.law_lasting.proofs.LastSteps.{has_closed, has_mapped, has_removed, has_reserved, has_swallowed, has_titled, has_urgent}
 use Rattle.law_lasting.proofs.LastTexts.{HasLast, has_outcome, has_settled}
 use Rattle.law_lasting.specs.Changes.{is_plain}
 use Rattle.law_lasting.specs.Lasting.{Lasts}
 use Rattle.wm_layouts.specs.declared.plan.Env.{Env}
 use Rattle.wm_shared.proofs.ShowLemmas.{space_is}
-use Rattle.wm_spaces.specs.Coming.{output_added_tree, output_removed_tree}
+use Rattle.wm_spaces.specs.Coming.{free_name, output_added_tree, output_removed_tree}
 use Rattle.wm_forest.specs.declared.kind.KindEdit.{KindEdit}
 use Rattle.wm_forest.specs.declared.kind.KindEdit.TheVariants as edits
 use Rattle.wm_forest.specs.declared.place.NewCon.TheVariants as new
@@ -37,7 +38,8 @@ plain_state other h = refl
 pub single_lasts : Lasts Single
 single_lasts = record {
   of_nodes = λ t now e q. single_nodes t now e q;
-  editing = λ c edit t plain q. single_edited c edit t (plain_state edit plain) q;
+  editing = λ c edit t calm q. single_edited c edit t (plain_state edit (calm_plain edit calm)) q;
+  renaming = λ was name w t s fits is q. single_edited w (edits.Name name) t refl q;
   restating = λ c old now t has keeps q. single_restated c old now t has keeps.0 q;
   filling = λ c on t s fits q. single_filled c on t s q;
   marking = λ c marks t q. single_marks c marks t q;
@@ -55,12 +57,11 @@ single_lasts = record {
   attaching = λ who props natural t s fits q. single_attached who props natural t s fits q;
   joining = λ p newcomer t s room q. record { one = one_attached (Last p) newcomer t q.one; low = (sound-attached (Last p) newcomer t room.there room.place room.free s).low };
   wrapping = λ c layout t s own after q. single_wrapped c layout t after q;
-  space_coming = λ o name t s out after q. single_with_space o name t after q;
-  output_coming = λ plan name t s after q. single_with_output plan name t after q;
+  space_coming = λ o name t s out after free q. single_with_space o name t after q;
+  output_coming = λ plan t s fine after q. single_with_output plan (free_name t) t after q;
   detaching = λ c t s ok q. single_detached c t s ok q;
   settling = λ t s q. single_settled t s q;
   output_going = λ o t s out q. single_without_output o t s out q;
-  opened = λ plans border inner outer. single_opening plans border inner outer;
 }
 
 -- ---- steps
@@ -97,7 +98,7 @@ pub reserving_keeps : (o : ConId) (edges : Edges) (t : TreeValue) → IsSound t 
 reserving_keeps o edges t s h = back (settled (edited o (edits.Reserved edges) t)) (has_settled single_lasts (edited o (edits.Reserved edges) t) (has_reserved single_lasts o edges t (from t s h)))
 
 pub added_outputs_keep : (plan : OutputPlan) (t : TreeValue) → IsSound t → HasOne t → IsSound (output_added_tree plan t) → HasOne (settled (output_added_tree plan t))
-added_outputs_keep plan t s h after = back (settled (output_added_tree plan t)) (has_settled single_lasts (output_added_tree plan t) (has_added single_lasts plan t (from t s h) after))
+added_outputs_keep plan t s h after = back (settled (output_added_tree plan t)) (has_settled single_lasts (output_added_tree plan t) (record { sound = after; held = single_with_output plan (free_name t) t after (from t s h).held }))
 
 pub removed_outputs_keep : (name : List ℕ) (t : TreeValue) → IsSound t → HasOne t → HasOne (settled (output_removed_tree name t))
 removed_outputs_keep name t s h = back (settled (output_removed_tree name t)) (has_settled single_lasts (output_removed_tree name t) (has_removed single_lasts name t (from t s h)))

@@ -11,6 +11,7 @@ use Rattle.wm_floats.specs.Kinds.{is_of_space}
 use Rattle.wm_floats.specs.Scratchpad.{put_away, put_away_refusal}
 use Rattle.wm_focus.proofs.SubjectLemmas.{tiled_is}
 use Rattle.wm_focus.specs.Moves.{IsTurn}
+use Rattle.law_lasting.proofs.CalmLemmas.{calm_plain}
 use Rattle.law_lasting.proofs.LastFloats.{sound_moved}
 use Rattle.law_lasting.proofs.LastSpaces.{space_not_root}
 use Rattle.law_lasting.proofs.StowedHiding.{stowed_hidden, stowed_moved, stowed_put_away, stowed_sink}
@@ -20,6 +21,7 @@ use Rattle.law_lasting.proofs.StowedWords.{stowed_along, stowed_bare, stowed_edi
 use Rattle.law_lasting.specs.Lasting.{Lasts}
 use Rattle.wm_shared.specs.Subject.{is_space}
 use Rattle.wm_spaces.proofs.ComingLemmas.{heir_output}
+use Rattle.wm_spaces.specs.Coming.{free_name}
 use Rattle.wm_shared.specs.Rects.{rect_of}
 use Rattle.wm_tree.proofs.PlaceLemmas.{place_fits}
 use Rattle.wm_forest.specs.Change.{is_vacant, settled_row, shown_of, without}
@@ -73,7 +75,7 @@ holds_wrapped c layout t s own q =
 holds_with_space : (o : ConId) (name : List ℕ) (t : TreeValue) → IsSound t → IsOutput o t.nodes → Holds t → Holds (with_space o name t)
 holds_with_space o name t s out q = stowed_put (Last o) (new_space (id t.next_id) name t) t.nodes (output_not_root o t s out) tt q
 
-holds_with_output : (plan : OutputPlan) (name : List ℕ) (t : TreeValue) → Holds t → Holds (with_output plan name t)
+pub holds_with_output : (plan : OutputPlan) (name : List ℕ) (t : TreeValue) → Holds t → Holds (with_output plan name t)
 holds_with_output plan name t q =
     stowed_free root (put_word (Last root)) (new_output (id t.next_id) plan (id (t.next_id + 1)) name t) (λ part kids floats rest h r. (h, r)) (λ part kids floats rest own h. (own, h)) t.nodes q
 
@@ -133,7 +135,8 @@ holds_without_output o t s out q = by (heir o t.nodes) refl
 pub stowed_lasts : Lasts Holds
 stowed_lasts = record {
   of_nodes = λ t now e q. subst Stowed (sym e) q;
-  editing = λ c edit t plain q. stowed_edited c edit t.nodes plain q;
+  editing = λ c edit t calm q. stowed_edited c edit t.nodes (calm_plain edit calm) q;
+  renaming = λ was name w t s fits is q. stowed_edited w (edits.Name name) t.nodes refl q;
   restating = λ c old now t has keeps q. stowed_state c old now t.nodes keeps.1 keeps.2 has q;
   filling = λ c on t s fits q. stowed_fullscreen c on t q;
   marking = λ c marks t q. stowed_marks c marks t.nodes q;
@@ -152,10 +155,9 @@ stowed_lasts = record {
   joining = λ p newcomer t s room q.
       stowed_put (Last p) (con (new_part (id t.next_id) (share_at (Last p) t.nodes) t.border (rect_at (Last p)) newcomer) end end end) t.nodes (place_low (Last p) t s room.there room.place refl) tt q;
   wrapping = λ c layout t s own after q. holds_wrapped c layout t s own q;
-  space_coming = λ o name t s out after q. holds_with_space o name t s out q;
-  output_coming = λ plan name t s after q. holds_with_output plan name t q;
+  space_coming = λ o name t s out after free q. holds_with_space o name t s out q;
+  output_coming = λ plan t s fine after q. holds_with_output plan (free_name t) t q;
   detaching = λ c t s ok q. stowed_without c t.nodes (con_not_root c t s ok) q;
   settling = λ t s q. holds_settled t s q;
   output_going = λ o t s out q. holds_without_output o t s out q;
-  opened = λ plans border inner outer. (refl, tt);
 }

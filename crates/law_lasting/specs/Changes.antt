@@ -11,6 +11,12 @@ abbrev pub is_plain : KindEdit → Bool
 is_plain (edits.State s) = false
 is_plain other = true
 
+-- the change is neither of a container's state nor of a workspace's name
+abbrev pub is_calm : KindEdit → Bool
+is_calm (edits.State s) = false
+is_calm (edits.Name n) = false
+is_calm other = true
+
 -- the new state is fullscreen and flagged as the old one is, and has an outer rectangle where that has one
 abbrev pub KeepsState : ConState → ConState → Type 0
 KeepsState old now = (now.fullscreen ≡ old.fullscreen) × (now.flagged ≡ old.flagged) × (is_some old.rect ≡ true → is_some now.rect ≡ true)

@@ -1,8 +1,7 @@
--- What a property of trees needs to last: that each word by which trees change keeps it.
+-- What a property of trees needs to last: that each word by which trees change keeps it, where a name is given only where no other one has it.
 use Rattle.std.specs.Prelude.{◌≡◌, ◌≢◌, ℕ, Bool, true, false, List, Option, None, Some}
 use Rattle.wm_base.specs.declared.geometry.Size.{Size}
 use Rattle.wm_base.specs.declared.ids.ConId.{ConId}
-use Rattle.wm_base.specs.declared.plan.Border.{Border}
 use Rattle.wm_base.specs.declared.plan.Layout.{Layout}
 use Rattle.wm_base.specs.declared.plan.OutputPlan.{OutputPlan}
 use Rattle.wm_base.specs.declared.properties.Props.{Props}
@@ -14,8 +13,11 @@ use Rattle.wm_floats.specs.Scratchpad.{put_away, put_away_refusal, to_scratchpad
 use Rattle.wm_floats.specs.Windows.{state_of, window_refusal}
 use Rattle.wm_focus.specs.Marks.{bare, taken_off}
 use Rattle.wm_focus.specs.Moves.{IsTurn}
-use Rattle.law_lasting.specs.Changes.{KeepsState, is_plain, stows}
+use Rattle.law_lasting.specs.Changes.{KeepsState, is_calm, stows}
 use Rattle.wm_shared.specs.Subject.{is_space}
+use Rattle.wm_spaces.specs.Coming.{output_added_refusal, output_added_tree}
+use Rattle.wm_spaces.specs.Names.{space_named}
+use Rattle.wm_spaces.specs.Renaming.{rename_refusal, renamed_space}
 use Rattle.wm_swallow.specs.Steps.{IsRoomIn}
 use Rattle.wm_tree.specs.Along.{gone_along}
 use Rattle.wm_forest.specs.declared.kind.KindEdit.{KindEdit}
@@ -27,19 +29,20 @@ use Rattle.wm_forest.specs.declared.place.Place.{Place}
 use Rattle.wm_forest.specs.declared.place.Place.TheVariants.{Last}
 use Rattle.wm_forest.specs.Look.{con_kind, kind_of, same}
 use Rattle.wm_tree.specs.Move.{exchanged, moved, unmarked, with_marks, wrapped}
-use Rattle.wm_tree.specs.Outputs.{IsOutput, space_moved, with_output, with_space, without_output}
+use Rattle.wm_tree.specs.Outputs.{IsOutput, space_moved, with_space, without_output}
 use Rattle.wm_forest.specs.Place.{passed_limit}
 use Rattle.wm_tree.specs.Sound.{IsSound}
-use Rattle.wm_tree.specs.TreeValue.{TreeValue, is_tiled_con, newcomer_place, opening}
+use Rattle.wm_tree.specs.TreeValue.{TreeValue, is_tiled_con, newcomer_place}
 use Rattle.wm_forest.specs.RootId.{root}
 use Rattle.wm_tree.specs.Words.{attached, detached, edited, settled, with_raised}
 
--- each word by which trees change keeps P, as commands and the other steps use it, and each opening tree has it
+-- each word by which trees change keeps P, as commands and the other steps use it: what comes or is renamed has a name of its own
 pub record Lasts (P : TreeValue → Type 0) : Type 0 where
   -- P speaks of the nodes alone
   pub of_nodes : (t new : TreeValue) → new.nodes ≡ t.nodes → P t → P new
   -- changes of one node
-  pub editing : (c : ConId) (edit : KindEdit) (t : TreeValue) → is_plain edit ≡ true → P t → P (edited c edit t)
+  pub editing : (c : ConId) (edit : KindEdit) (t : TreeValue) → is_calm edit ≡ true → P t → P (edited c edit t)
+  pub renaming : (was : Option (List ℕ)) (name : List ℕ) (w : ConId) (t : TreeValue) → IsSound t → rename_refusal was name t ≡ None → renamed_space was t ≡ Some w → P t → P (edited w (edits.Name name) t)
   pub restating : (c : ConId) (old now : ConState) (t : TreeValue) → state_of c t ≡ Some old → KeepsState old now → P t → P (edited c (edits.State now) t)
   pub filling : (c : ConId) (on : Bool) (t : TreeValue) → IsSound t → window_refusal c t ≡ None → P t → P (fullscreen_tree c on t)
   pub marking : (c : ConId) (marks : List (List ℕ)) (t : TreeValue) → P t → P (with_marks c marks t)
@@ -61,10 +64,8 @@ pub record Lasts (P : TreeValue → Type 0) : Type 0 where
   pub attaching : (who : ℕ) (props : Props) (natural : Size) (t : TreeValue) → IsSound t → passed_limit (newcomer_place t) t.nodes t.next_id ≡ None → P t → P (attached (newcomer_place t) (new.Window props who natural) t)
   pub joining : (p : ConId) (newcomer : NewCon) (t : TreeValue) → IsSound t → IsRoomIn p t → P t → P (attached (Last p) newcomer t)
   pub wrapping : (c : ConId) (layout : Layout) (t : TreeValue) → IsSound t → is_tiled_con t c ≡ true → IsSound (wrapped c layout t) → P t → P (wrapped c layout t)
-  pub space_coming : (o : ConId) (name : List ℕ) (t : TreeValue) → IsSound t → IsOutput o t.nodes → IsSound (with_space o name t) → P t → P (with_space o name t)
-  pub output_coming : (plan : OutputPlan) (name : List ℕ) (t : TreeValue) → IsSound t → IsSound (with_output plan name t) → P t → P (with_output plan name t)
+  pub space_coming : (o : ConId) (name : List ℕ) (t : TreeValue) → IsSound t → IsOutput o t.nodes → IsSound (with_space o name t) → space_named name t ≡ None → P t → P (with_space o name t)
+  pub output_coming : (plan : OutputPlan) (t : TreeValue) → IsSound t → output_added_refusal plan t ≡ None → IsSound (output_added_tree plan t) → P t → P (output_added_tree plan t)
   pub detaching : (c : ConId) (t : TreeValue) → IsSound t → kind_of con_kind c t.nodes ≢ None → P t → P (detached c t)
   pub settling : (t : TreeValue) → IsSound t → P t → P (settled t)
   pub output_going : (o : ConId) (t : TreeValue) → IsSound t → IsOutput o t.nodes → P t → P (without_output o t)
-  -- the opening
-  pub opened : (plans : List OutputPlan) (border : Border) (inner outer : ℕ) → P (opening plans border inner outer)

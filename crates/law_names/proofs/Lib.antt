@@ -1,13 +1,5 @@
 pub mod FoundLemmas
-pub mod FreeNames
-pub mod KeptAppends
-pub mod KeptCommands
-pub mod KeptCounts
-pub mod KeptFloats
-pub mod KeptSizes
-pub mod KeptSpaces
-pub mod KeptSteps
-pub mod KeptTexts
+pub mod LastCounts
 pub mod OutputLaws
 pub mod OutputNames
 pub mod OutputRows

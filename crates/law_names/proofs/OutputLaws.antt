@@ -7,9 +7,9 @@ use Rattle.wm_base.specs.declared.ids.ConId.{ConId}
 use Rattle.wm_base.specs.declared.plan.OutputPlan.{OutputPlan}
 use Rattle.wm_base.specs.declared.properties.Props.{Props}
 use Rattle.wm_criteria.specs.declared.verdict.Verdict.{Verdict}
-use Rattle.law_names.proofs.KeptCounts.{AtMostOne}
-use Rattle.law_names.proofs.KeptSteps.{has_closed, has_mapped, has_removed, has_reserved, has_swallowed, has_titled, has_urgent}
-use Rattle.law_names.proofs.KeptTexts.{HasKept, has_outcome, has_settled}
+use Rattle.law_names.proofs.LastCounts.{AtMostOne}
+use Rattle.law_lasting.proofs.LastSteps.{has_closed, has_mapped, has_removed, has_reserved, has_swallowed, has_titled, has_urgent}
+use Rattle.law_lasting.proofs.LastTexts.{HasLast, has_outcome, has_settled}
 use Rattle.law_names.proofs.OutputNames.{differ_of, once_of, outputs_called, outputs_last}
 use Rattle.law_workspaces.proofs.AddLaws.{adds_other}
 use Rattle.law_workspaces.specs.Added.{OutputNamesDiffer}
@@ -24,10 +24,10 @@ use Rattle.wm_tree.specs.Sound.{IsSound}
 use Rattle.wm_tree.specs.TreeValue.{TreeValue, newcomer_place}
 use Rattle.wm_tree.specs.Words.{attached, detached, edited, settled, with_raised}
 
-from : (t : TreeValue) → IsSound t → OutputNamesDiffer t → HasKept (AtMostOne outputs_called) t
+from : (t : TreeValue) → IsSound t → OutputNamesDiffer t → HasLast (AtMostOne outputs_called) t
 from t s h = record { sound = s; held = once_of t s h }
 
-back : (t : TreeValue) → HasKept (AtMostOne outputs_called) t → OutputNamesDiffer t
+back : (t : TreeValue) → HasLast (AtMostOne outputs_called) t → OutputNamesDiffer t
 back t g = differ_of t g.sound g.held
 
 pub texts_keep_names : (env : Env) (verdict : Verdict) (subject : Option ConId) (t : TreeValue) → IsSound t → OutputNamesDiffer t → OutputNamesDiffer (outcome env verdict subject t).tree

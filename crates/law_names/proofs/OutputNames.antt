@@ -8,13 +8,15 @@ use Rattle.wm_base.specs.declared.plan.Border.{Border}
 use Rattle.wm_base.specs.declared.plan.OutputPlan.{OutputPlan}
 use Rattle.law_fullscreen.proofs.HasOneLemmas.{IsFirst, first_found}
 use Rattle.law_names.proofs.FoundLemmas.{Found, at_most_one, one_if, two_counted}
-use Rattle.law_names.proofs.KeptCounts.{AtMostOne, NewNamesKeep, NewSpacesKeep, alike, keeps_counts}
+use Rattle.law_names.proofs.LastCounts.{AtMostOne, NewNamesKeep, NewSpacesKeep, alike, counts_last}
 use Rattle.law_names.proofs.OutputRows.{outputs_in_row, row_first}
 use Rattle.law_names.proofs.WordCounts.{IsOfPlaces, by_kind}
-use Rattle.law_names.specs.Keeping.{Keeps}
+use Rattle.law_lasting.specs.Lasting.{Lasts}
+use Rattle.law_workspaces.proofs.AddLaws.{adds_other}
 use Rattle.law_workspaces.specs.Added.{OutputNamesDiffer, name_in, output_name}
 use Rattle.wm_layouts.specs.Plan.{NamesDiffer, is_taken}
 use Rattle.wm_opens.proofs.WordLemmas.{put_none}
+use Rattle.wm_spaces.specs.Coming.{output_added_tree}
 use Rattle.wm_spaces.specs.Names.{output_called}
 use Rattle.wm_forest.proofs.CountLemmas.{count-same}
 use Rattle.wm_forest.proofs.RecencyLemmas.{same_is}
@@ -148,8 +150,8 @@ spaces_keep : NewSpacesKeep (AtMostOne outputs_called)
 spaces_keep o name t s out after free =
     alike outputs_called outputs_placed t (with_space o name t) (λ n. put_none (by_kind (outputs_called n)) (Last o) (new_space (id t.next_id) name t) t.nodes refl)
 
-pub outputs_last : Keeps (AtMostOne outputs_called)
-outputs_last = keeps_counts outputs_called outputs_placed names_keep spaces_keep
+pub outputs_last : Lasts (AtMostOne outputs_called)
+outputs_last = counts_last outputs_called outputs_placed names_keep spaces_keep (λ plan t s fine after p. once_of (output_added_tree plan t) after ((adds_other plan t s fine).1 (differ_of t s p)))
 
 -- ---- the opening tree
 

@@ -7,10 +7,10 @@ use Rattle.wm_base.specs.declared.ids.ConId.{ConId}
 use Rattle.wm_base.specs.declared.plan.OutputPlan.{OutputPlan}
 use Rattle.wm_base.specs.declared.properties.Props.{Props}
 use Rattle.wm_criteria.specs.declared.verdict.Verdict.{Verdict}
-use Rattle.law_names.proofs.KeptCounts.{AtMostOne}
-use Rattle.law_names.proofs.KeptSteps.{has_closed, has_mapped, has_removed, has_reserved, has_swallowed, has_titled, has_urgent}
-use Rattle.law_names.proofs.KeptTexts.{HasKept, has_outcome, has_settled}
-use Rattle.law_names.proofs.FreeNames.{spaces_called}
+use Rattle.law_names.proofs.LastCounts.{AtMostOne}
+use Rattle.law_lasting.proofs.LastSteps.{has_closed, has_mapped, has_removed, has_reserved, has_swallowed, has_titled, has_urgent}
+use Rattle.law_lasting.proofs.LastTexts.{HasLast, has_outcome, has_settled}
+use Rattle.law_lasting.proofs.FreeNames.{spaces_called}
 use Rattle.law_names.proofs.SpaceNames.{added_keeps, differ_of, once_of, spaces_last}
 use Rattle.law_workspaces.specs.Renamed.{SpaceNamesDiffer}
 use Rattle.wm_layouts.specs.declared.plan.Env.{Env}
@@ -24,10 +24,10 @@ use Rattle.wm_tree.specs.Sound.{IsSound}
 use Rattle.wm_tree.specs.TreeValue.{TreeValue, newcomer_place}
 use Rattle.wm_tree.specs.Words.{attached, detached, edited, settled, with_raised}
 
-from : (t : TreeValue) → IsSound t → SpaceNamesDiffer t → HasKept (AtMostOne spaces_called) t
+from : (t : TreeValue) → IsSound t → SpaceNamesDiffer t → HasLast (AtMostOne spaces_called) t
 from t s h = record { sound = s; held = once_of t s h }
 
-back : (t : TreeValue) → HasKept (AtMostOne spaces_called) t → SpaceNamesDiffer t
+back : (t : TreeValue) → HasLast (AtMostOne spaces_called) t → SpaceNamesDiffer t
 back t g = differ_of t g.held
 
 pub texts_keep_names : (env : Env) (verdict : Verdict) (subject : Option ConId) (t : TreeValue) → IsSound t → SpaceNamesDiffer t → SpaceNamesDiffer (outcome env verdict subject t).tree

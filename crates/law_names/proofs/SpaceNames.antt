@@ -7,10 +7,10 @@ use Rattle.wm_base.specs.declared.plan.Border.{Border}
 use Rattle.wm_base.specs.declared.plan.OutputPlan.{OutputPlan}
 use Rattle.law_fullscreen.proofs.HasOneLemmas.{IsFirst, first_found}
 use Rattle.law_names.proofs.FoundLemmas.{Found, at_most_one, found, one_if, two_counted}
-use Rattle.law_names.proofs.FreeNames.{new_name_free, spaces_called}
-use Rattle.law_names.proofs.KeptCounts.{AtMostOne, NewNamesKeep, NewSpacesKeep, keeps_counts}
+use Rattle.law_lasting.proofs.FreeNames.{new_name_free, spaces_called}
+use Rattle.law_names.proofs.LastCounts.{AtMostOne, NewNamesKeep, NewSpacesKeep, counts_last}
 use Rattle.law_names.proofs.WordCounts.{IsOfPlaces, by_kind, is_name}
-use Rattle.law_names.specs.Keeping.{Keeps}
+use Rattle.law_lasting.specs.Lasting.{Lasts}
 use Rattle.law_workspaces.proofs.FoundNames.{found_named}
 use Rattle.law_workspaces.proofs.NameLemmas.{name_by, seen}
 use Rattle.law_workspaces.proofs.RenameLaws.{renames}
@@ -129,14 +129,14 @@ names_keep was name w t s fits is p =
 spaces_keep : NewSpacesKeep (AtMostOne spaces_called)
 spaces_keep o name t s out after free p = one_more name t _ s free p (λ n. omega (arith, put_most (by_kind (spaces_called n)) (Last o) (new_space (id t.next_id) name t) t.nodes))
 
-pub spaces_last : Keeps (AtMostOne spaces_called)
-spaces_last = keeps_counts spaces_called spaces_placed names_keep spaces_keep
-
 -- an output that comes
 pub added_keeps : (plan : OutputPlan) (t : TreeValue) → IsSound t → AtMostOne spaces_called t → AtMostOne spaces_called (output_added_tree plan t)
 added_keeps plan t s p =
     one_more (free_name t) t (output_added_tree plan t) s (new_name_free t s) p
     (λ n. omega (arith, put_most (by_kind (spaces_called n)) (Last root) (new_output (id t.next_id) plan (id (t.next_id + 1)) (free_name t) t) t.nodes))
+
+pub spaces_last : Lasts (AtMostOne spaces_called)
+spaces_last = counts_last spaces_called spaces_placed names_keep spaces_keep (λ plan t s fine after p. added_keeps plan t s p)
 
 -- ---- the opening tree
 

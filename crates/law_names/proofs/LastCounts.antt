@@ -1,12 +1,15 @@
 -- At most one output or workspace is counted of each name: each word keeps that, where a new name and a new workspace do.
 use Rattle.std.proofs.Common.{◌≡◌, ℕ, ◌≤◌, true, false, List, Option, None, Some, refl, ap, arith}
 use Rattle.wm_base.specs.declared.ids.ConId.{ConId}
+use Rattle.wm_base.specs.declared.plan.OutputPlan.{OutputPlan}
 use Rattle.law_names.proofs.WordCounts.{IsOfPlaces, along_most, attached_most, by_kind, count-bare, count-edited, count-fullscreen, count-marks, count-taken_off, count-unmarked, count-with_raised, count-wrapped, detached_most, exchanged_most, hidden_most, is_name, moved_most, put_away_most, settled_most, sink_most, space_moved_most, without_output_most}
-use Rattle.law_names.specs.Keeping.{Keeps, is_calm}
+use Rattle.law_lasting.specs.Changes.{is_calm}
+use Rattle.law_lasting.specs.Lasting.{Lasts}
 use Rattle.wm_floats.specs.Fullscreen.{fullscreen_tree}
 use Rattle.wm_floats.specs.Floating.{sink_tree}
 use Rattle.wm_floats.specs.Scratchpad.{put_away, to_scratchpad_tree}
 use Rattle.wm_focus.specs.Marks.{bare, taken_off}
+use Rattle.wm_spaces.specs.Coming.{output_added_refusal, output_added_tree}
 use Rattle.wm_spaces.specs.Names.{space_named}
 use Rattle.wm_spaces.specs.Renaming.{rename_refusal, renamed_space}
 use Rattle.wm_forest.specs.Counts.{count}
@@ -35,6 +38,10 @@ NewNamesKeep P =
 abbrev pub NewSpacesKeep : (TreeValue → Type 0) → Type 0
 NewSpacesKeep P = (o : ConId) (name : List ℕ) (t : TreeValue) → IsSound t → IsOutput o t.nodes → IsSound (with_space o name t) → space_named name t ≡ None → P t → P (with_space o name t)
 
+-- a new output of a name that none has keeps P
+abbrev pub NewOutputsKeep : (TreeValue → Type 0) → Type 0
+NewOutputsKeep P = (plan : OutputPlan) (t : TreeValue) → IsSound t → output_added_refusal plan t ≡ None → IsSound (output_added_tree plan t) → P t → P (output_added_tree plan t)
+
 calm_name : (edit : KindEdit) → is_calm edit ≡ true → is_name edit ≡ false
 calm_name (edits.Name n) h = cc
 calm_name other h = refl
@@ -46,8 +53,8 @@ module _ (w : List ℕ → NodeKind → ℕ) (k : (n : List ℕ) → IsOfPlaces 
   pub alike : (t new : TreeValue) → ((n : List ℕ) → count (by_kind (w n)) new.nodes ≡ count (by_kind (w n)) t.nodes) → AtMostOne w t → AtMostOne w new
   alike t new h p = record { one = λ n. omega (arith, h n, p.one n) }
 
-  pub keeps_counts : NewNamesKeep (AtMostOne w) → NewSpacesKeep (AtMostOne w) → Keeps (AtMostOne w)
-  keeps_counts named coming = record {
+  pub counts_last : NewNamesKeep (AtMostOne w) → NewSpacesKeep (AtMostOne w) → NewOutputsKeep (AtMostOne w) → Lasts (AtMostOne w)
+  counts_last named coming outputs = record {
     of_nodes = λ t now e p. alike t now (λ n. ap (count (by_kind (w n))) e) p;
     editing = λ c edit t calm p. alike t (edited c edit t) (λ n. count-edited (w n) (k n) c edit t (calm_name edit calm)) p;
     renaming = named;
@@ -69,6 +76,7 @@ module _ (w : List ℕ → NodeKind → ℕ) (k : (n : List ℕ) → IsOfPlaces 
     joining = λ c newcomer t s room p. less t (attached (Last c) newcomer t) (λ n. attached_most (w n) (k n) (Last c) newcomer t) p;
     wrapping = λ c layout t s own after p. alike t (wrapped c layout t) (λ n. count-wrapped (w n) (k n) c layout t) p;
     space_coming = coming;
+    output_coming = outputs;
     detaching = λ c t s ok p. less t (detached c t) (λ n. detached_most (w n) (k n) c t) p;
     settling = λ t s p. less t (settled t) (λ n. settled_most (w n) (k n) t) p;
     output_going = λ o t s out p. less t (without_output o t) (λ n. without_output_most (w n) (k n) o t) p;
