@@ -26,8 +26,8 @@ const SEND_WAIT_MS: u64 = 10_000;
 pub struct UnixLink {
     pub(crate) stream: UnixStream,
     pub(crate) watch: Option<Watch>,
-    /// Nothing was left to receive when the socket was last read.
-    empty: bool,
+    /// The last receiving waited, and nothing came.
+    quiet: bool,
     pub(crate) faults: u64,
 }
 
@@ -42,7 +42,7 @@ impl UnixLink {
         Ok(UnixLink {
             stream,
             watch: None,
-            empty: false,
+            quiet: false,
             faults: 0,
         })
     }
@@ -56,12 +56,13 @@ impl UnixLink {
         UnixLink { watch, ..self }
     }
 
-    /// Whether a receiving is worth while: something was left the last time, or came since. Without a watch it is.
+    /// Whether a receiving is worth while. Behind a quiet one it is where something came meanwhile; without a watch, and
+    /// while the peer speaks, it always is, since it waits itself.
     fn is_worth_receiving(&mut self) -> bool
         ensures { self.new ≡ record self.old { watch = self.new.watch } }
     {
         match &mut self.watch {
-            Some(watch) if self.empty => watch.wait(),
+            Some(watch) if self.quiet => watch.wait(),
             _ => true,
         }
     }
@@ -85,7 +86,7 @@ impl Link for UnixLink {
             return Received::Quiet;
         }
         let read = received(&mut self.stream, room);
-        self.empty = !matches!(&read, Ok(n) if *n == room.len());
+        self.quiet = matches!(&read, Err(error) if is_time_out(error.kind()));
         match read {
             Ok(0) => Received::End,
             Ok(n) => Received::Got(n),

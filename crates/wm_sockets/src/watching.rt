@@ -34,8 +34,8 @@ impl Watch {
             .register(&mut SourceFd(&number), Token(0), Interest::READABLE)
     }
 
-    /// Waits for bytes of the socket that were not there when it was last read empty. It says no where none came within
-    /// a few milliseconds. Where the system cannot wait it says yes, since a receiving waits too.
+    /// Waits for bytes of a socket in which none were left. It says no where none came within a few milliseconds. Where
+    /// the system cannot wait it says yes, since a receiving waits too.
     pub fn wait(&mut self) -> bool {
         let limit = Duration::from_millis(WATCH_WAIT_MS);
         match self.poll.poll(&mut self.events, Some(limit)) {
