@@ -14,6 +14,8 @@ use Rattle.wm_apply.specs.declared.applied.CommandReply.{CommandReply}
 use Rattle.wm_apply.specs.declared.applied.CommandReply.TheVariants.{Error}
 use Rattle.wm_apply.specs.declared.rows.How.{How}
 use Rattle.wm_apply.specs.declared.rows.How.TheVariants as how
+use Rattle.wm_apply.specs.declared.runs.Runs.{Runs}
+use Rattle.wm_apply.specs.declared.runs.Runs.TheVariants as runs
 use Rattle.wm_apply.specs.declared.targets.Targets.{Targets}
 use Rattle.wm_apply.specs.declared.targets.Targets.TheVariants.{Matched, Handed, Focused}
 use Rattle.wm_apply.specs.Kills.{asked_each, asked_of, is_kill}
@@ -22,20 +24,64 @@ use Rattle.wm_apply.specs.Subjects.{each_error, each_tree, error_of, is_there, r
 
 -- ---- kinds of commands
 
+-- on what each command runs
+abbrev pub runs_on : Command → Runs
+runs_on (commands.Split arg) = runs.Subjects
+runs_on (commands.SetLayout arg) = runs.Subjects
+runs_on (commands.CycleLayout cycle) = runs.Subjects
+runs_on commands.Focus = runs.Subjects
+runs_on (commands.FocusDir d) = runs.Subjects
+runs_on commands.FocusParent = runs.Subjects
+runs_on commands.FocusChild = runs.Subjects
+runs_on (commands.FocusKind kind) = runs.Subjects
+runs_on (commands.FocusOutput arg) = runs.Subjects
+runs_on (commands.MoveDir d px) = runs.Subjects
+runs_on (commands.MoveToWorkspace target) = runs.Subjects
+runs_on (commands.MoveToOutput arg) = runs.Subjects
+runs_on (commands.MoveWorkspace arg) = runs.Subjects
+runs_on (commands.MoveToMark name) = runs.Subjects
+runs_on commands.MoveToScratchpad = runs.Subjects
+runs_on (commands.MovePosition x y) = runs.Subjects
+runs_on commands.MoveCenter = runs.Subjects
+runs_on (commands.Swap arg) = runs.Subjects
+runs_on (commands.Resize grow side px ppt) = runs.Subjects
+runs_on (commands.ResizeSet w h) = runs.Subjects
+runs_on (commands.Floating arg) = runs.Subjects
+runs_on (commands.Fullscreen arg) = runs.Subjects
+runs_on (commands.SetBorder border) = runs.Subjects
+runs_on commands.CycleBorder = runs.Subjects
+runs_on (commands.Gaps outer all op px) = runs.Subjects
+runs_on (commands.Sticky arg) = runs.Subjects
+runs_on (commands.Mark add toggle name) = runs.Subjects
+runs_on (commands.Unmark name) = runs.Subjects
+runs_on (commands.Workspace target) = runs.Whole
+runs_on (commands.Rename was name) = runs.Whole
+runs_on commands.ScratchpadShow = runs.Subjects
+runs_on (commands.Mode mode) = runs.Once
+runs_on (commands.AppendLayout name) = runs.Whole
+runs_on (commands.TitleFormat format) = runs.Subjects
+runs_on commands.Kill = runs.Subjects
+runs_on commands.Nop = runs.Once
+runs_on commands.Idle = runs.Once
+runs_on commands.Exit = runs.Once
+
+abbrev pub is_once : Runs → Bool
+is_once runs.Once = true
+is_once runs.Whole = false
+is_once runs.Subjects = false
+
+abbrev pub is_for_all : Runs → Bool
+is_for_all runs.Once = false
+is_for_all runs.Whole = true
+is_for_all runs.Subjects = false
+
 -- the command changes no tree, runs once, whatever the criteria, and has no subject
 abbrev pub runs_once : Command → Bool
-runs_once commands.Nop = true
-runs_once commands.Idle = true
-runs_once commands.Exit = true
-runs_once (commands.Mode mode) = true
-runs_once other = false
+runs_once command = is_once (runs_on command)
 
 -- the command runs once on the tree as a whole, whatever the criteria, and has no subject
 abbrev pub is_whole : Command → Bool
-is_whole (commands.Workspace target) = true
-is_whole (commands.Rename was name) = true
-is_whole (commands.AppendLayout name) = true
-is_whole other = false
+is_whole command = is_for_all (runs_on command)
 
 abbrev pub is_mark : Command → Bool
 is_mark (commands.Mark add toggle name) = true

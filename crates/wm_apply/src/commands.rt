@@ -8,6 +8,7 @@ use crate::applied::CommandReply;
 use crate::kills::{ask, ask_each, is_kill};
 use crate::modes::is_unknown_mode;
 use crate::rows::{How, run_whole};
+use crate::runs::{is_whole, runs_once};
 use crate::subjects::{run_each, text_of};
 use crate::targets::Targets;
 use std::alloc::{AllocError, Global};
@@ -16,26 +17,6 @@ use wm_language::Command;
 use wm_layouts::Env;
 use wm_shared::is_subject;
 use wm_tree::Tree;
-
-/// Whether the command changes no tree, runs once, whatever the criteria, and has no subject.
-pub fn runs_once(command: &Command) -> bool
-    ensures { result ≡ runs_once command.now }
-{
-    matches!(
-        command,
-        Command::Nop | Command::Idle | Command::Exit | Command::Mode(_)
-    )
-}
-
-/// Whether the command runs once on the tree as a whole, whatever the criteria, and has no subject.
-fn is_whole(command: &Command) -> bool
-    ensures { result ≡ is_whole command.now }
-{
-    matches!(
-        command,
-        Command::Workspace(_) | Command::Rename(..) | Command::AppendLayout(_)
-    )
-}
 
 fn is_mark(command: &Command) -> bool
     ensures { result ≡ is_mark command.now }

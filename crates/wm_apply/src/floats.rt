@@ -1,9 +1,9 @@
 //! Commands on one subject that put a property of windows on or off, or go between tiled and floating.
-ghost use Rattle.std.specs.Prelude.{◌≡◌, None, Some, OnOk, OnErr, IfErr};
+ghost use Rattle.std.specs.Prelude.{◌≡◌};
 ghost use Rattle.wm_apply.specs.FloatRows.{floating_refusal, floating_tree, focus_of_kind_refusal, focus_of_kind_tree, fullscreen_set, is_full_state, is_on, is_sticky_state, sticky_tree, wants_floating};
 ghost use Rattle.wm_floats.specs.Windows.{state_of, window_refusal};
+ghost use Rattle.wm_shared.specs.Does.{DoesExactly};
 ghost use Rattle.wm_shared.specs.Subject.{IsSubject};
-ghost use Rattle.wm_tree.specs.Sound.{IsSound};
 
 use wm_base::{ConId, Refusal};
 use wm_floats::{float, focus_kind, fullscreen, is_floating, sink, stick};
@@ -55,11 +55,8 @@ fn wants_floating(t: &Tree, con: ConId, kind: Kind) -> bool
 /// Raises the most recent container of the kind in the subject's workspace.
 pub fn focus_of_kind(t: &mut Tree, con: ConId, kind: Kind) -> Result<(), Refusal>
     requires { IsSubject t.old con }
-    ensures tree { OnOk result (t.new ≡ focus_of_kind_tree con kind t.old) }
-    ensures fine { OnOk result (focus_of_kind_refusal con kind t.old ≡ None) }
-    ensures err { OnErr result (t.new ≡ t.old) }
-    ensures cause { IfErr result (λ e. focus_of_kind_refusal con kind t.old ≡ Some e) }
-    ensures sound { IsSound t.new }
+    ensures { DoesExactly t.old t.new result (focus_of_kind_refusal con kind)
+        (focus_of_kind_tree con kind) }
 {
     let floating = wants_floating(t, con, kind);
     focus_kind(t, con, floating)
@@ -68,11 +65,7 @@ pub fn focus_of_kind(t: &mut Tree, con: ConId, kind: Kind) -> Result<(), Refusal
 /// Makes the window float, or tiles it.
 pub fn set_floating(t: &mut Tree, con: ConId, arg: OnOff) -> Result<(), Refusal>
     requires { IsSubject t.old con }
-    ensures tree { OnOk result (t.new ≡ floating_tree con arg t.old) }
-    ensures fine { OnOk result (floating_refusal con arg t.old ≡ None) }
-    ensures err { OnErr result (t.new ≡ t.old) }
-    ensures cause { IfErr result (λ e. floating_refusal con arg t.old ≡ Some e) }
-    ensures sound { IsSound t.new }
+    ensures { DoesExactly t.old t.new result (floating_refusal con arg) (floating_tree con arg) }
 {
     if is_on(arg, is_floating(t, con)) {
         float(t, con)
@@ -84,11 +77,7 @@ pub fn set_floating(t: &mut Tree, con: ConId, arg: OnOff) -> Result<(), Refusal>
 /// Makes the window fill its output, or no longer.
 pub fn set_fullscreen(t: &mut Tree, con: ConId, arg: OnOff) -> Result<(), Refusal>
     requires { IsSubject t.old con }
-    ensures tree { OnOk result (t.new ≡ fullscreen_set con arg t.old) }
-    ensures fine { OnOk result (window_refusal con t.old ≡ None) }
-    ensures err { OnErr result (t.new ≡ t.old) }
-    ensures cause { IfErr result (λ e. window_refusal con t.old ≡ Some e) }
-    ensures sound { IsSound t.new }
+    ensures { DoesExactly t.old t.new result (window_refusal con) (fullscreen_set con arg) }
 {
     let on = is_on(arg, is_full(t, con));
     fullscreen(t, con, on)
@@ -97,11 +86,7 @@ pub fn set_fullscreen(t: &mut Tree, con: ConId, arg: OnOff) -> Result<(), Refusa
 /// Makes the window sticky, or no longer.
 pub fn set_sticky(t: &mut Tree, con: ConId, arg: OnOff) -> Result<(), Refusal>
     requires { IsSubject t.old con }
-    ensures tree { OnOk result (t.new ≡ sticky_tree con arg t.old) }
-    ensures fine { OnOk result (window_refusal con t.old ≡ None) }
-    ensures err { OnErr result (t.new ≡ t.old) }
-    ensures cause { IfErr result (λ e. window_refusal con t.old ≡ Some e) }
-    ensures sound { IsSound t.new }
+    ensures { DoesExactly t.old t.new result (window_refusal con) (sticky_tree con arg) }
 {
     let on = is_on(arg, is_sticky(t, con));
     stick(t, con, on)

@@ -56,16 +56,15 @@ fn add(part: &Part, found: &mut Vec<ConId>) -> Result<(), AllocError>
 }
 
 /// Adds the windows of the row and below it.
-fn gather(row: Cursor<'_>, found: &mut Vec<ConId>) -> Result<(), AllocError>
+fn gather(mut row: Cursor<'_>, found: &mut Vec<ConId>) -> Result<(), AllocError>
     ensures { OnOk result (found.new.items ≡ found.old.items ++ windows_in row.entry) }
 {
-    let Some(part) = row.part() else {
-        return Ok(());
-    };
-    add(part, found)?;
-    gather(row.kids(), found)?;
-    gather(row.floats(), found)?;
-    gather(row.rest(), found)?;
+    while let Some(part) = row.part() {
+        add(part, found)?;
+        gather(row.kids(), found)?;
+        gather(row.floats(), found)?;
+        row = row.rest();
+    }
     Ok(())
 }
 
@@ -83,20 +82,22 @@ fn gather_first(row: Cursor<'_>, found: &mut Vec<ConId>) -> Result<(), AllocErro
 }
 
 /// The row from a node on. `None` exactly where it is not here.
-fn row_at(row: Cursor<'_>, con: ConId) -> Option<Cursor<'_>>
+fn row_at(mut row: Cursor<'_>, con: ConId) -> Option<Cursor<'_>>
     ensures { result ≡ row_at con row.entry }
 {
-    let part = row.part()?;
-    if part.id == con {
-        return Some(row);
+    while let Some(part) = row.part() {
+        if part.id == con {
+            return Some(row);
+        }
+        if let Some(found) = row_at(row.kids(), con) {
+            return Some(found);
+        }
+        if let Some(found) = row_at(row.floats(), con) {
+            return Some(found);
+        }
+        row = row.rest();
     }
-    if let Some(found) = row_at(row.kids(), con) {
-        return Some(found);
-    }
-    if let Some(found) = row_at(row.floats(), con) {
-        return Some(found);
-    }
-    row_at(row.rest(), con)
+    None
 }
 
 /// Adds the windows of a container that is there, and below it.

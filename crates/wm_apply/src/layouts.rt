@@ -1,8 +1,8 @@
 //! Appending the saved layout of a name.
-ghost use Rattle.std.specs.Prelude.{◌≡◌, MatchOption, None, Some, true, OnOk, OnErr, IfErr, IsTrue};
+ghost use Rattle.std.specs.Prelude.{◌≡◌, MatchOption, None, Some, true, IsTrue};
 ghost use Rattle.wm_apply.specs.Layouts.{append_refusal, append_tree, if_fit, layout_named};
 ghost use Rattle.wm_saved.specs.Limits.{is_fit};
-ghost use Rattle.wm_shared.specs.Refusing.{IsCause};
+ghost use Rattle.wm_shared.specs.Does.{Does};
 ghost use Rattle.wm_tree.specs.Sound.{IsSound};
 
 use std::alloc::Global;
@@ -26,26 +26,21 @@ fn layout_named<'a>(layouts: &'a [(Text, SavedLayout)], name: &str) -> Option<&'
     ensures value { MatchOption result (layout_named name.now layouts.now ≡ None) (λ found. layout_named name.now layouts.now ≡ Some found.now) }
     ensures fit { MatchOption result (Unit {0}) (λ found. IsTrue (is_fit found.now)) }
 {
-    match layouts {
-        [] => None,
-        [first, rest @ ..] => {
-            if first.0.as_str() == name {
-                if_fit(&first.1)
-            } else {
-                layout_named(rest, name)
-            }
+    let mut rest = layouts;
+    while let [first, after @ ..] = rest {
+        if first.0.as_str() == name {
+            return if_fit(&first.1);
         }
+        rest = after;
     }
+    None
 }
 
 /// Appends the layout of this name to the focused workspace.
 pub fn append_named(alloc: Global, t: &mut Tree, env: &Env, name: &Text) -> Result<(), Refusal>
     requires { IsSound t.old }
-    ensures tree { OnOk result (t.new ≡ append_tree (layout_named name.now env.now.layouts) t.old) }
-    ensures fine { OnOk result (append_refusal (layout_named name.now env.now.layouts) t.old ≡ None) }
-    ensures err { OnErr result (t.new ≡ t.old) }
-    ensures cause { IfErr result (IsCause (append_refusal (layout_named name.now env.now.layouts) t.old)) }
-    ensures sound { IsSound t.new }
+    ensures { Does t.old t.new result (append_refusal (layout_named name.now env.now.layouts))
+        (append_tree (layout_named name.now env.now.layouts)) }
 {
     let Some(layout) = layout_named(env.layouts.items(), name.as_str()) else {
         return Err(Refusal::NoTarget(ErrorText::NoLayout));

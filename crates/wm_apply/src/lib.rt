@@ -11,6 +11,7 @@ mod modes;
 mod outputs;
 mod quiet;
 mod rows;
+mod runs;
 mod subjects;
 mod targets;
 

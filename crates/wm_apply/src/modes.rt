@@ -17,10 +17,14 @@ const DEFAULT: &str = "default";
 fn is_listed(mode: &str, modes: &[Text]) -> bool
     ensures { result ≡ list_any (bytes_eq mode.now) modes.now }
 {
-    match modes {
-        [] => false,
-        [first, rest @ ..] => mode == first.as_str() || is_listed(mode, rest),
+    let mut rest = modes;
+    while let [first, after @ ..] = rest {
+        if mode == first.as_str() {
+            return true;
+        }
+        rest = after;
     }
+    false
 }
 
 /// Whether the mode can be set: `default`, or one of the plan.

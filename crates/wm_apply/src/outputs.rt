@@ -1,9 +1,7 @@
 //! Commands on one subject that name an output.
-ghost use Rattle.std.specs.Prelude.{◌≡◌, None, OnOk, OnErr, IfErr};
 ghost use Rattle.wm_apply.specs.OutputRows.{focus_output_refusal, focus_output_tree, move_space_refusal, move_space_tree, move_to_output_refusal, move_to_output_tree};
-ghost use Rattle.wm_shared.specs.Refusing.{IsCause};
+ghost use Rattle.wm_shared.specs.Does.{Does};
 ghost use Rattle.wm_shared.specs.Subject.{IsSubject};
-ghost use Rattle.wm_tree.specs.Sound.{IsSound};
 
 use std::alloc::Global;
 use wm_base::{ConId, ErrorText, Refusal};
@@ -15,11 +13,8 @@ use wm_tree::Tree;
 /// Makes the output that the command names the current one.
 pub fn focus_named(t: &mut Tree, con: ConId, arg: &OutArg) -> Result<(), Refusal>
     requires { IsSubject t.old con }
-    ensures tree { OnOk result (t.new ≡ focus_output_tree con arg.now t.old) }
-    ensures fine { OnOk result (focus_output_refusal con arg.now t.old ≡ None) }
-    ensures err { OnErr result (t.new ≡ t.old) }
-    ensures cause { IfErr result (IsCause (focus_output_refusal con arg.now t.old)) }
-    ensures sound { IsSound t.new }
+    ensures { Does t.old t.new result (focus_output_refusal con arg.now)
+        (focus_output_tree con arg.now) }
 {
     if is_hidden(t, con) {
         return Err(Refusal::NoTarget(ErrorText::NoWorkspace));
@@ -33,11 +28,8 @@ pub fn focus_named(t: &mut Tree, con: ConId, arg: &OutArg) -> Result<(), Refusal
 /// Sends the container to what the output shows that the command names.
 pub fn send_to_named(t: &mut Tree, con: ConId, arg: &OutArg) -> Result<(), Refusal>
     requires { IsSubject t.old con }
-    ensures tree { OnOk result (t.new ≡ move_to_output_tree con arg.now t.old) }
-    ensures fine { OnOk result (move_to_output_refusal con arg.now t.old ≡ None) }
-    ensures err { OnErr result (t.new ≡ t.old) }
-    ensures cause { IfErr result (IsCause (move_to_output_refusal con arg.now t.old)) }
-    ensures sound { IsSound t.new }
+    ensures { Does t.old t.new result (move_to_output_refusal con arg.now)
+        (move_to_output_tree con arg.now) }
 {
     if is_hidden(t, con) {
         return Err(Refusal::NoTarget(ErrorText::NoWorkspace));
@@ -59,11 +51,8 @@ pub fn move_space_to_named(
     arg: &OutArg,
 ) -> Result<(), Refusal>
     requires { IsSubject t.old con }
-    ensures tree { OnOk result (t.new ≡ move_space_tree con arg.now t.old) }
-    ensures fine { OnOk result (move_space_refusal con arg.now t.old ≡ None) }
-    ensures err { OnErr result (t.new ≡ t.old) }
-    ensures cause { IfErr result (IsCause (move_space_refusal con arg.now t.old)) }
-    ensures sound { IsSound t.new }
+    ensures { Does t.old t.new result (move_space_refusal con arg.now)
+        (move_space_tree con arg.now) }
 {
     if is_hidden(t, con) {
         return Err(Refusal::NoTarget(ErrorText::NoWorkspace));

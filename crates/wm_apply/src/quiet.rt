@@ -10,8 +10,9 @@ ghost use Rattle.wm_criteria.specs.declared.verdict.Verdict.TheVariants.{Ready};
 ghost use Rattle.wm_tree.specs.TreeValue.{TreeValue};
 
 use crate::applied::{Applied, CommandReply};
-use crate::commands::{is_exit, runs_once};
+use crate::commands::is_exit;
 use crate::modes::{is_unknown_mode, mode_set, renew};
+use crate::runs::runs_once;
 use std::alloc::Global;
 use wm_base::{ErrorText, List, NoMemory, Text};
 use wm_language::{Batch, Command, Group};
@@ -40,9 +41,10 @@ impl Quiet {
         requires { IsTrue (list_all runs_once commands.now) }
         ensures { (found : Targets) (t : TreeValue) → OnOk result (beside t self.new ≡ commands_done env.now found commands.now (beside t self.old)) }
     {
-        if let [command, rest @ ..] = commands {
+        let mut rest = commands;
+        while let [command, after @ ..] = rest {
             self.command(env, command)?;
-            self.commands(env, rest)?;
+            rest = after;
         }
         Ok(())
     }
@@ -51,9 +53,10 @@ impl Quiet {
         requires { IsTrue (is_quiet groups.now) }
         ensures { (subject : Option ConId) (t : TreeValue) → OnOk result (beside t self.new ≡ groups_done env.now subject groups.now (beside t self.old)) }
     {
-        if let [group, rest @ ..] = groups {
+        let mut rest = groups;
+        while let [group, after @ ..] = rest {
             self.commands(env, group.commands.items())?;
-            self.groups(env, rest)?;
+            rest = after;
         }
         Ok(())
     }
@@ -72,19 +75,27 @@ fn idle_reply(env: &Env, command: &Command) -> CommandReply
 fn are_idle(commands: &[Command]) -> bool
     ensures { result ≡ list_all runs_once commands.now }
 {
-    match commands {
-        [] => true,
-        [first, rest @ ..] => runs_once(first) && are_idle(rest),
+    let mut rest = commands;
+    while let [first, after @ ..] = rest {
+        if !runs_once(first) {
+            return false;
+        }
+        rest = after;
     }
+    true
 }
 
 fn are_quiet(groups: &[Group]) -> bool
     ensures { result ≡ is_quiet groups.now }
 {
-    match groups {
-        [] => true,
-        [first, rest @ ..] => are_idle(first.commands.items()) && are_quiet(rest),
+    let mut rest = groups;
+    while let [first, after @ ..] = rest {
+        if !are_idle(first.commands.items()) {
+            return false;
+        }
+        rest = after;
     }
+    true
 }
 
 /// Whether each command of the text leaves the tree alone: it does nothing, sets a mode or stops the desk.

@@ -1,10 +1,10 @@
 //! One command on one subject, or on the tree as a whole: a case for each command.
-ghost use Rattle.std.specs.Prelude.{◌≡◌, false, true, None, OnOk, OnErr, IfErr};
+ghost use Rattle.std.specs.Prelude.{◌≡◌, false, true};
 ghost use Rattle.wm_layouts.specs.declared.plan.Env.{Env};
 ghost use Rattle.wm_apply.specs.Commands.{is_whole};
 ghost use Rattle.wm_apply.specs.Rows.{come_refusal, focus_refusal, focus_tree, is_inner, is_placing, row_refusal, row_tree, matched_subject, whole_refusal, whole_tree};
 ghost use Rattle.wm_apply.specs.declared.rows.How.{How};
-ghost use Rattle.wm_shared.specs.Refusing.{IsCause};
+ghost use Rattle.wm_shared.specs.Does.{Does};
 ghost use Rattle.wm_shared.specs.Subject.{IsSubject};
 ghost use Rattle.wm_tree.specs.Sound.{IsSound};
 
@@ -44,11 +44,8 @@ pub fn run_row(
     con: ConId,
 ) -> Result<(), Refusal>
     requires { IsSubject t.old con }
-    ensures tree { OnOk result (t.new ≡ row_tree env.now how command.now con t.old) }
-    ensures fine { OnOk result (row_refusal env.now how command.now con t.old ≡ None) }
-    ensures err { OnErr result (t.new ≡ t.old) }
-    ensures cause { IfErr result (IsCause (row_refusal env.now how command.now con t.old)) }
-    ensures sound { IsSound t.new }
+    ensures { Does t.old t.new result (row_refusal env.now how command.now con)
+        (row_tree env.now how command.now con) }
 {
     match command {
         Command::Split(arg) => split(t, con, *arg),
@@ -78,11 +75,8 @@ fn run_placing(
 ) -> Result<(), Refusal>
     requires subject { IsSubject t.old con }
     requires other { is_inner command.now ≡ false }
-    ensures tree { OnOk result (t.new ≡ row_tree env.now how command.now con t.old) }
-    ensures fine { OnOk result (row_refusal env.now how command.now con t.old ≡ None) }
-    ensures err { OnErr result (t.new ≡ t.old) }
-    ensures cause { IfErr result (IsCause (row_refusal env.now how command.now con t.old)) }
-    ensures sound { IsSound t.new }
+    ensures { Does t.old t.new result (row_refusal env.now how command.now con)
+        (row_tree env.now how command.now con) }
 {
     match command {
         Command::FocusOutput(arg) => focus_named(t, con, arg),
@@ -107,11 +101,8 @@ fn run_sizing(t: &mut Tree, command: &Command, con: ConId) -> Result<(), Refusal
     requires subject { IsSubject t.old con }
     requires other { is_inner command.now ≡ false }
     requires unplaced { is_placing command.now ≡ false }
-    ensures tree { (env : Env) (how : How) → OnOk result (t.new ≡ row_tree env how command.now con t.old) }
-    ensures fine { (env : Env) (how : How) → OnOk result (row_refusal env how command.now con t.old ≡ None) }
-    ensures err { OnErr result (t.new ≡ t.old) }
-    ensures cause { (env : Env) (how : How) → IfErr result (IsCause (row_refusal env how command.now con t.old)) }
-    ensures sound { IsSound t.new }
+    ensures { (env : Env) (how : How) → Does t.old t.new result (row_refusal env how command.now con)
+        (row_tree env how command.now con) }
 {
     match command {
         Command::Resize {
@@ -128,7 +119,15 @@ fn run_sizing(t: &mut Tree, command: &Command, con: ConId) -> Result<(), Refusal
         Command::Kill => kill(t, con),
         Command::Workspace(_) | Command::Rename(..) | Command::AppendLayout(_) => Ok(()),
         Command::Mode(_) | Command::Nop | Command::Idle | Command::Exit => Ok(()),
-        _ => unreachable!(),
+        Command::Split(_) | Command::SetLayout(_) | Command::CycleLayout(_) => unreachable!(),
+        Command::Focus | Command::FocusDir(_) | Command::FocusParent => unreachable!(),
+        Command::FocusChild | Command::FocusKind(_) | Command::FocusOutput(_) => unreachable!(),
+        Command::MoveDir(..) | Command::MoveToWorkspace(_) => unreachable!(),
+        Command::MoveToOutput(_) | Command::MoveWorkspace(_) => unreachable!(),
+        Command::MoveToMark(_) | Command::MoveToScratchpad => unreachable!(),
+        Command::MovePosition(..) | Command::MoveCenter | Command::Swap(_) => unreachable!(),
+        Command::Floating(_) | Command::Fullscreen(_) | Command::Sticky(_) => unreachable!(),
+        Command::Mark { .. } | Command::Unmark(_) | Command::ScratchpadShow => unreachable!(),
     }
 }
 
@@ -136,11 +135,8 @@ fn run_sizing(t: &mut Tree, command: &Command, con: ConId) -> Result<(), Refusal
 pub fn run_whole(alloc: Global, t: &mut Tree, env: &Env, command: &Command) -> Result<(), Refusal>
     requires sound { IsSound t.old }
     requires whole { is_whole command.now ≡ true }
-    ensures tree { OnOk result (t.new ≡ whole_tree env.now command.now t.old) }
-    ensures fine { OnOk result (whole_refusal env.now command.now t.old ≡ None) }
-    ensures err { OnErr result (t.new ≡ t.old) }
-    ensures cause { IfErr result (IsCause (whole_refusal env.now command.now t.old)) }
-    ensures sound { IsSound t.new }
+    ensures { Does t.old t.new result (whole_refusal env.now command.now)
+        (whole_tree env.now command.now) }
 {
     match command {
         Command::Workspace(target) => show(t, target, env.homes.items()),
@@ -153,11 +149,7 @@ pub fn run_whole(alloc: Global, t: &mut Tree, env: &Env, command: &Command) -> R
 /// Focuses a container that criteria matched or that was handed in.
 fn focus(t: &mut Tree, how: How, con: ConId) -> Result<(), Refusal>
     requires { IsSubject t.old con }
-    ensures tree { OnOk result (t.new ≡ focus_tree con t.old) }
-    ensures fine { OnOk result (focus_refusal how con t.old ≡ None) }
-    ensures err { OnErr result (t.new ≡ t.old) }
-    ensures cause { IfErr result (IsCause (focus_refusal how con t.old)) }
-    ensures sound { IsSound t.new }
+    ensures { Does t.old t.new result (focus_refusal how con) (focus_tree con) }
 {
     match how {
         How::Matched | How::Handed => come(t, con),
@@ -168,11 +160,7 @@ fn focus(t: &mut Tree, how: How, con: ConId) -> Result<(), Refusal>
 /// Brings a window of the scratchpad, and focuses any other subject where it is.
 fn come(t: &mut Tree, con: ConId) -> Result<(), Refusal>
     requires { IsSubject t.old con }
-    ensures tree { OnOk result (t.new ≡ focus_tree con t.old) }
-    ensures fine { OnOk result (come_refusal con t.old ≡ None) }
-    ensures err { OnErr result (t.new ≡ t.old) }
-    ensures cause { IfErr result (IsCause (come_refusal con t.old)) }
-    ensures sound { IsSound t.new }
+    ensures { Does t.old t.new result (come_refusal con) (focus_tree con) }
 {
     if is_hidden(t, con) {
         return show_scratchpad(t, Some(con));

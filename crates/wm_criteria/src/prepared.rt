@@ -47,7 +47,7 @@ impl Prepared {
     {
         match &self.verdict {
             Verdict::Ready(batch) => self.forms.is_some() || are_plain(batch.groups.items()),
-            _ => true,
+            Verdict::Bad { .. } | Verdict::PatternRefused { .. } => true,
         }
     }
 }

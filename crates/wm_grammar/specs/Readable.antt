@@ -79,7 +79,25 @@ IsReadableCommand (commands.Rename was name) = IsMaybeArgument was × IsArgument
 IsReadableCommand (commands.Mode m) = IsArgument m
 IsReadableCommand (commands.AppendLayout l) = IsArgument l
 IsReadableCommand (commands.TitleFormat t) = IsArgument t
-IsReadableCommand c = Unit {0}
+IsReadableCommand (commands.Split arg) = Unit {0}
+IsReadableCommand (commands.SetLayout arg) = Unit {0}
+IsReadableCommand (commands.CycleLayout cycle) = Unit {0}
+IsReadableCommand commands.Focus = Unit {0}
+IsReadableCommand (commands.FocusDir d) = Unit {0}
+IsReadableCommand commands.FocusParent = Unit {0}
+IsReadableCommand commands.FocusChild = Unit {0}
+IsReadableCommand (commands.FocusKind kind) = Unit {0}
+IsReadableCommand commands.MoveToScratchpad = Unit {0}
+IsReadableCommand commands.MoveCenter = Unit {0}
+IsReadableCommand (commands.Floating arg) = Unit {0}
+IsReadableCommand (commands.Fullscreen arg) = Unit {0}
+IsReadableCommand commands.CycleBorder = Unit {0}
+IsReadableCommand (commands.Sticky arg) = Unit {0}
+IsReadableCommand commands.ScratchpadShow = Unit {0}
+IsReadableCommand commands.Kill = Unit {0}
+IsReadableCommand commands.Nop = Unit {0}
+IsReadableCommand commands.Idle = Unit {0}
+IsReadableCommand commands.Exit = Unit {0}
 
 abbrev pub IsReadableKey : Key → Type 0
 IsReadableKey (keys.Class x) = IsArgument x

@@ -76,7 +76,9 @@ pub fn opened(alloc: Global, verb: Verb, rest: &[u8]) -> Result<Ways<'_>, NoMemo
         Verb::TitleFormat => with(ways, Opening::TitleFormat, rest),
         Verb::Nop => with(ways, Opening::Nop, rest),
         Verb::Idle => with(ways, Opening::Idle, rest),
-        _ => Ok(ways),
+        Verb::Split | Verb::Layout | Verb::Resize | Verb::Floating => Ok(ways),
+        Verb::Fullscreen | Verb::Border | Verb::Gaps | Verb::Sticky => Ok(ways),
+        Verb::Scratchpad | Verb::Kill | Verb::Exit => Ok(ways),
     }
 }
 

@@ -186,7 +186,33 @@ bare_text commands.Kill = codes "kill"
 bare_text commands.Nop = codes "nop"
 bare_text commands.Idle = codes "exec"
 bare_text commands.Exit = codes "exit"
-bare_text c = []
+bare_text (commands.Split arg) = []
+bare_text (commands.SetLayout arg) = []
+bare_text (commands.CycleLayout cycle) = []
+bare_text (commands.FocusDir d) = []
+bare_text (commands.FocusKind kind) = []
+bare_text (commands.FocusOutput arg) = []
+bare_text (commands.MoveDir d px) = []
+bare_text (commands.MoveToWorkspace target) = []
+bare_text (commands.MoveToOutput arg) = []
+bare_text (commands.MoveWorkspace arg) = []
+bare_text (commands.MoveToMark name) = []
+bare_text (commands.MovePosition x y) = []
+bare_text (commands.Swap arg) = []
+bare_text (commands.Resize grow side px ppt) = []
+bare_text (commands.ResizeSet w h) = []
+bare_text (commands.Floating arg) = []
+bare_text (commands.Fullscreen arg) = []
+bare_text (commands.SetBorder border) = []
+bare_text (commands.Gaps outer all op px) = []
+bare_text (commands.Sticky arg) = []
+bare_text (commands.Mark add toggle name) = []
+bare_text (commands.Unmark name) = []
+bare_text (commands.Workspace target) = []
+bare_text (commands.Rename was name) = []
+bare_text (commands.Mode mode) = []
+bare_text (commands.AppendLayout name) = []
+bare_text (commands.TitleFormat format) = []
 
 -- a command that gives or takes a name, or one that has no argument
 abbrev pub naming_text : Command → List ℕ

@@ -93,7 +93,15 @@ pub fn bare_text(command: &Command) -> &'static str
         Command::Nop => "nop",
         Command::Idle => "exec",
         Command::Exit => "exit",
-        _ => "",
+        Command::Split(_) | Command::SetLayout(_) | Command::CycleLayout(_) => "",
+        Command::FocusDir(_) | Command::FocusKind(_) | Command::FocusOutput(_) => "",
+        Command::MoveDir(..) | Command::MoveToWorkspace(_) | Command::MoveToOutput(_) => "",
+        Command::MoveWorkspace(_) | Command::MoveToMark(_) | Command::MovePosition(..) => "",
+        Command::Swap(_) | Command::Resize { .. } | Command::ResizeSet(..) => "",
+        Command::Floating(_) | Command::Fullscreen(_) | Command::SetBorder(_) => "",
+        Command::Gaps { .. } | Command::Sticky(_) | Command::Mark { .. } | Command::Unmark(_) => "",
+        Command::Workspace(_) | Command::Rename(..) | Command::Mode(_) => "",
+        Command::AppendLayout(_) | Command::TitleFormat(_) => "",
     }
 }
 
