@@ -137,15 +137,18 @@ pub fn is_fit(rect: Rect) -> bool
 pub fn has_output(tree: &Tree, output: ConId) -> bool
     ensures { result ≡ true → IsOutput output tree.now.nodes }
 {
-    is_in(output, &tree.nodes().kids())
+    is_in(output, tree.nodes().kids())
 }
 
 /// Whether the node is in the row.
-fn is_in(con: ConId, row: &Cursor<'_>) -> bool
-    ensures { result ≡ in_row con row.now }
+fn is_in(con: ConId, mut row: Cursor<'_>) -> bool
+    ensures { result ≡ in_row con row.entry }
 {
-    let Some(part) = row.part() else {
-        return false;
-    };
-    part.id == con || is_in(con, &row.rest())
+    while let Some(part) = row.part() {
+        if part.id == con {
+            return true;
+        }
+        row = row.rest();
+    }
+    false
 }

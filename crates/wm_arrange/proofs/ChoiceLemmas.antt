@@ -1,5 +1,5 @@
 -- What the map of choices knows, where each id is there once.
-use Rattle.std.proofs.Common.{◌≡◌, ℕ, ◌+◌, ◌≤◌, Bool, true, false, cond, ◌&&◌, List, [], Option, Some, None, refl, ap, sym, subst, ◌∙◌, arith}
+use Rattle.std.proofs.Common.{◌≡◌, ℕ, zero, suc, ◌+◌, ◌≤◌, Bool, true, false, cond, ◌&&◌, List, [], Option, Some, None, refl, ap, sym, subst, ◌∙◌, arith}
 use Rattle.std.specs.Option.{option_or}
 use Rattle.wm_base.specs.declared.ids.ConId.{ConId}
 use Rattle.wm_forest.specs.declared.part.NodeKind.TheVariants.{Output, Space}
@@ -36,16 +36,6 @@ kept_put c part near n b old e f g = let one : shows_one (row_layout part.kind) 
     by_test true = refl
     by_test false = refl
 
--- what the changes of a map for the rest of a row, for what is below its first node, and for the node leave of c
-pub chosen_turn : (ids : List ConId) (c : ConId) (row : Forest) (part : Part) → first_part row ≡ Some part → (kids floats rest : Forest) (near : Option Near) (m0 m1 m2 m3 m4 : Option ConId)
-    → kids ≡ first_kids row → floats ≡ first_floats row → rest ≡ rest_of row → near ≡ nearest ids kids
-    → m1 ≡ option_or (choice_in ids c rest) m0 → m2 ≡ option_or (choice_in ids c floats) m1 → m3 ≡ option_or (choice_in ids c kids) m2 → m4 ≡ option_or (kept c part near) m3
-    → m4 ≡ option_or (choice_in ids c row) m0
-chosen_turn ids c end part h kids floats rest near m0 m1 m2 m3 m4 e1 e2 e3 e4 e5 e6 e7 e8 = cc
-chosen_turn ids c (con p k l r) part h kids floats rest near m0 m1 m2 m3 m4 e1 e2 e3 e4 e5 e6 e7 e8 =
-    let same_part : p ≡ part = cc in
-    rw (e8, e7, e6, e5, e4, e1, e2, e3, sym same_part) (four (kept c p (nearest ids k)) (choice_in ids c k) (choice_in ids c l) (choice_in ids c r) m0)
-
 -- ---- each node's own choice
 
 kept_absent : (b : Bool) (c : ConId) (part : Part) (near : Option Near) → same part.id c ≡ b → b ≡ false → kept c part near ≡ None
@@ -61,6 +51,35 @@ absent ids c end h = refl
 absent ids c (con part kids floats rest) h =
     let other = apart (same part.id c) part kids floats rest c 0 refl (omega (arith, h)) (omega arith) in
     rw (kept_absent (same part.id c) c part (nearest ids kids) refl other, absent ids c kids (omega (arith, h)), absent ids c floats (omega (arith, h)), absent ids c rest (omega (arith, h))) refl
+
+-- where a row has c once, what is kept of the rest may be kept last
+late : (ids : List ConId) (c : ConId) (part : Part) (kids floats rest : Forest) (old : Option ConId) (n : ℕ) → tally c rest ≡ n → tally c (con part kids floats rest) ≤ 1
+    → option_or (choice_in ids c rest) (option_or (kept c part (nearest ids kids)) (option_or (choice_in ids c kids) (option_or (choice_in ids c floats) old))) ≡ option_or (choice_in ids c (con part kids floats rest)) old
+late ids c part kids floats rest old zero e once =
+    rw (absent ids c rest e) (four (kept c part (nearest ids kids)) (choice_in ids c kids) (choice_in ids c floats) None old)
+late ids c part kids floats rest old (suc n) e once =
+    let other = apart (same part.id c) part kids floats rest c 1 refl once (omega (arith, e)) in
+    rw (kept_absent (same part.id c) c part (nearest ids kids) refl other, absent ids c kids (omega (arith, e, once)), absent ids c floats (omega (arith, e, once))) refl
+
+-- the nodes of a row and below it have an id no more often than all
+pub tallies : (c : ConId) (row : Forest) → (tally c (first_kids row) ≤ tally c row) × (tally c (first_floats row) ≤ tally c row) × (tally c (rest_of row) ≤ tally c row)
+tallies c end = (omega arith, omega arith, omega arith)
+tallies c (con part kids floats rest) = (omega arith, omega arith, omega arith)
+
+-- what the changes of a map for what is below the first node of a row, and for the node, leave of c and of the rest
+pub chosen_on : (ids : List ConId) (c : ConId) (row : Forest) (part : Part) → first_part row ≡ Some part → (kids floats rest : Forest) (near : Option Near) (m0 m1 m2 m3 all : Option ConId)
+    → kids ≡ first_kids row → floats ≡ first_floats row → rest ≡ rest_of row → near ≡ nearest ids kids → tally c row ≤ 1
+    → m1 ≡ option_or (choice_in ids c floats) m0 → m2 ≡ option_or (choice_in ids c kids) m1 → m3 ≡ option_or (kept c part near) m2
+    → option_or (choice_in ids c row) m0 ≡ all → option_or (choice_in ids c rest) m3 ≡ all
+chosen_on ids c end part h kids floats rest near m0 m1 m2 m3 all e1 e2 e3 e4 once e5 e6 e7 g = cc
+chosen_on ids c (con p k l r) part h kids floats rest near m0 m1 m2 m3 all e1 e2 e3 e4 once e5 e6 e7 g =
+    let same_part : p ≡ part = cc in
+    rw (e7, e6, e5, e4, e1, e2, e3, sym same_part) (late ids c p k l r m0 (tally c r) refl once ∙ g)
+
+-- behind the last node nothing is kept
+pub chosen_end : (ids : List ConId) (c : ConId) (row : Forest) (m all : Option ConId) → first_part row ≡ None → option_or (choice_in ids c row) m ≡ all → m ≡ all
+chosen_end ids c end m all h g = g
+chosen_end ids c (con part kids floats rest) m all h g = cc
 
 by_kids : {X : Type 0} (o k l r : Option X) → o ≡ None → l ≡ None → r ≡ None → option_or o (option_or k (option_or l r)) ≡ k
 by_kids o k l r e f g = rw (e, f, g) (or_none k)
@@ -168,6 +187,15 @@ free_outputs ids known end part h k r = cc
 free_outputs ids known (con p kids floats rest) part h k r =
     let same_part : part ≡ p = cc in
     (subst (λ (q : Part). KnowsOutput known ids (output_kind q.kind) kids) same_part k, r)
+
+-- behind the last node all is known
+pub known_end : (ids : List ConId) (known : ConId → Option ConId) (row : Forest) → first_part row ≡ None → KnowsRow known ids row
+known_end ids known end h = tt
+known_end ids known (con part kids floats rest) h = cc
+
+pub outputs_end : (ids : List ConId) (known : ConId → Option ConId) (row : Forest) → first_part row ≡ None → KnowsOutputs known ids row
+outputs_end ids known end h = tt
+outputs_end ids known (con part kids floats rest) h = cc
 
 -- ---- all of a tree
 

@@ -145,9 +145,40 @@ nothing : (n : ℕ) (ids : List ConId) → None ≡ first_by n (λ id. row_holde
 nothing n [] = refl
 nothing n (id ∷ ids) = nothing (n + 1) ids
 
-pub nearest_end : (ids : List ConId) (row : Forest) → first_part row ≡ None → None ≡ nearest ids row
-nearest_end ids end h = nothing 0 ids
-nearest_end ids (con part kids floats rest) h = cc
+by_places : (a b c : Near) → sooner (cond (nat_le a.place b.place) (Some a) (Some b)) (Some c) ≡ sooner (Some a) (cond (nat_le b.place c.place) (Some b) (Some c))
+by_places a b c = by_tests (nat_le a.place b.place) (nat_le b.place c.place) (nat_le a.place c.place) refl refl refl
+  where
+    by_tests : (x y z : Bool) → nat_le a.place b.place ≡ x → nat_le b.place c.place ≡ y → nat_le a.place c.place ≡ z
+        → sooner (cond x (Some a) (Some b)) (Some c) ≡ sooner (Some a) (cond y (Some b) (Some c))
+    by_tests true true true e f g = rw (e, g) refl
+    by_tests true true false e f g = absurd (grind (arith, nat_tests))
+    by_tests true false z e f g = refl
+    by_tests false true z e f g = rw (e, f) refl
+    by_tests false false true e f g = absurd (grind (arith, nat_tests))
+    by_tests false false false e f g = rw (f, g) refl
+
+one_place : (a b : Near) (x : Bool) → sooner (cond x (Some a) (Some b)) None ≡ cond x (Some a) (Some b)
+one_place a b true = refl
+one_place a b false = refl
+
+-- of three nodes, the soonest of two and of one
+grouped : (a b c : Option Near) → sooner (sooner a b) c ≡ sooner a (sooner b c)
+grouped None b c = refl
+grouped (Some a) None c = refl
+grouped (Some a) (Some b) None = one_place a b (nat_le a.place b.place)
+grouped (Some a) (Some b) (Some c) = by_places a b c
+
+sooner_none : (a : Option Near) → sooner a None ≡ a
+sooner_none None = refl
+sooner_none (Some a) = refl
+
+pub nearest_end : (ids : List ConId) (row : Forest) (near all : Option Near) → first_part row ≡ None → sooner near (nearest ids row) ≡ all → near ≡ all
+nearest_end ids end near all h e = sym (sooner_none near) ∙ (ap (sooner near) (nothing 0 ids) ∙ e)
+nearest_end ids (con part kids floats rest) near all h e = cc
+
+-- a node, and the rest behind it
+pub nearest_on : (near here rest row all : Option Near) → row ≡ sooner here rest → sooner near row ≡ all → sooner (sooner near here) rest ≡ all
+nearest_on near here rest row all e f = grouped near here rest ∙ (ap (sooner near) (sym e) ∙ f)
 
 pub nearest_turn : (ids : List ConId) (row : Forest) (part : Part) → first_part row ≡ Some part
     → nearest ids row ≡ sooner (under part.id (sooner (at_place part.id (place_from 0 part.id ids)) (sooner (nearest ids (first_kids row)) (nearest ids (first_floats row))))) (nearest ids (rest_of row))

@@ -45,6 +45,10 @@ turn (con p kids floats rest) part h t =
     let same_part : p ≡ part = cc in
     subst (Turn (con p kids floats rest)) same_part (turn_at p kids floats rest t)
 
+pub rest_fewer : (row : Forest) → node_count (rest_of row) ≤ node_count row
+rest_fewer end = omega arith
+rest_fewer (con part kids floats rest) = omega arith
+
 -- ---- the parts told by sums of shares are those told by the shares
 
 sum-shares : (row : Forest) → sum (shares row) ≡ share_sum row
@@ -95,6 +99,6 @@ pub turn_parts : (s : Seen) (slots : Slots) (first : Bool) (before : ℕ) (row :
     → parts_from s slots first before row ≡ shown_parts s own part kids (kids_parts s kids) slot ++ parts_from s slots false after rest
 turn_parts s slots first before row part t own last after kids rest slot e1 e2 e3 e4 e5 e6 = rw (e6, e1, e2, e3, e4, e5) (ap (parts_from s slots first before) t.whole)
 
--- two additions make one
-pub joined : {X : Type 0} (old mid new a b all : List X) → mid ≡ old ++ a → all ≡ a ++ b → new ≡ mid ++ b → new ≡ old ++ all
-joined old mid new a b all first split more = more ∙ (ap (λ z. z ++ b) first ∙ (append_assoc old a b ∙ ap (λ z. old ++ z) (sym split)))
+-- what is added first goes from what is left to what there is
+pub along : {X : Type 0} (old new all a b row : List X) → new ≡ old ++ a → row ≡ a ++ b → old ++ row ≡ all → new ++ b ≡ all
+along old new all a b row first split kept = ap (λ z. z ++ b) first ∙ (append_assoc old a b ∙ (ap (λ z. old ++ z) (sym split) ∙ kept))

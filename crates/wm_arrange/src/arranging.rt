@@ -141,35 +141,34 @@ fn place_on_space(
         on_space (seen scene.now) output.now id space.now (first_kids row.now) (first_floats row.now)
         (or_else (fullscreen_in (first_kids row.now)) (fullscreen_in (first_floats row.now)))) }
 {
-    let (kids, floats) = (row.kids(), row.floats());
-    if let Some(window) = fullscreen_in(&kids).or(fullscreen_in(&floats)) {
+    if let Some(window) = fullscreen_in(row.kids()).or(fullscreen_in(row.floats())) {
         return place(parts, window, PlacedPart::Content, output.rect);
     }
     let ground = ground(output.rect, output.reserved, space.outer, space.inner);
-    place_tiled(parts, scene, id, space, ground, &kids)?;
-    place_floats(parts, scene, floats)
+    place_tiled(parts, scene, id, space, ground, row)?;
+    place_floats(parts, scene, row.floats())
 }
 
-/// Places the area of a workspace and its children in it, unless it is empty.
+/// Places the area of the row's first node, a workspace, and its children in it, unless it is empty.
 fn place_tiled(
     parts: &mut Vec<Placed>,
     scene: &Scene<'_>,
     id: ConId,
     space: &SpacePart,
     ground: Option<Rect>,
-    kids: &Cursor<'_>,
+    row: &Cursor<'_>,
 ) -> Result<(), NoMemory>
-    requires few { row_length kids.now ≤ 256 }
-    requires sound { IsTiledRow kids.now }
-    requires known { KnowsNode (value_at scene.now.chosen.now) scene.now.tree.now.recency id space.now.layout kids.now }
+    requires few { row_length (first_kids row.now) ≤ 256 }
+    requires sound { IsTiledRow (first_kids row.now) }
+    requires known { KnowsNode (value_at scene.now.chosen.now) scene.now.tree.now.recency id space.now.layout (first_kids row.now) }
     requires area { IfSome ground (λ area. IsArea area) }
-    ensures { OnOk result (parts.new.items ≡ parts.old.items ++ tiled_parts (seen scene.now) id space.now kids.now ground) }
+    ensures { OnOk result (parts.new.items ≡ parts.old.items ++ tiled_parts (seen scene.now) id space.now (first_kids row.now) ground) }
 {
     let Some(area) = ground else {
         return Ok(());
     };
     place(parts, id, PlacedPart::Area, area)?;
-    place_kids(parts, scene, id, space.layout, area, kids)
+    place_kids(parts, scene, id, space.layout, area, row)
 }
 
 /// The area of a workspace: the output's rectangle without the reserved edges, then without the outer and the inner
@@ -197,20 +196,23 @@ pub fn ground_margins(reserved: Edges, outer: u32, inner: u32) -> Margins
 }
 
 /// The first fullscreen window of the row, at any depth.
-fn fullscreen_in(row: &Cursor<'_>) -> Option<ConId>
-    ensures { result ≡ fullscreen_in row.now }
+fn fullscreen_in(row: Cursor<'_>) -> Option<ConId>
+    ensures { result ≡ fullscreen_in row.entry }
 {
-    let part = row.part()?;
-    if is_fullscreen(&part.kind) {
-        return Some(part.id);
+    let mut left = row;
+    while let Some(part) = left.part() {
+        if is_fullscreen(&part.kind) {
+            return Some(part.id);
+        }
+        if let Some(window) = fullscreen_in(left.kids()) {
+            return Some(window);
+        }
+        if let Some(window) = fullscreen_in(left.floats()) {
+            return Some(window);
+        }
+        left = left.rest();
     }
-    if let Some(window) = fullscreen_in(&row.kids()) {
-        return Some(window);
-    }
-    if let Some(window) = fullscreen_in(&row.floats()) {
-        return Some(window);
-    }
-    fullscreen_in(&row.rest())
+    None
 }
 
 /// Whether the node is a fullscreen window.

@@ -8,6 +8,7 @@ ghost use Rattle.wm_arrange.specs.Scene.{seen};
 ghost use Rattle.wm_arrange.specs.Slots.{own_in, parts_from, slot_between, HasSlots, IsFloatRow, IsTiledRow};
 ghost use Rattle.wm_forest.specs.Change.{is_id};
 ghost use Rattle.wm_forest.specs.Counts.{row_length, share_sum};
+ghost use Rattle.wm_forest.specs.Look.{first_kids};
 
 use crate::areas::{Margins, below, cut_between, near_area, trim};
 use crate::borders::place_window;
@@ -149,7 +150,8 @@ fn standing(scene: &Scene<'_>, id: ConId, layout: Layout, area: Rect, kids: &Cur
     }
 }
 
-/// Places the children of a container with this layout in its area: their titles, then what they have.
+/// Places the children of the row's first node, a container with this layout, in its area: their titles, then what
+/// they have.
 #[cycle(place)]
 pub fn place_kids(
     parts: &mut Vec<Placed>,
@@ -157,49 +159,53 @@ pub fn place_kids(
     id: ConId,
     layout: Layout,
     area: Rect,
-    kids: &Cursor<'_>,
+    row: &Cursor<'_>,
 ) -> Result<(), NoMemory>
-    requires few { row_length kids.now ≤ 256 }
-    requires sound { IsTiledRow kids.now }
-    requires known { KnowsNode (value_at scene.now.chosen.now) scene.now.tree.now.recency id layout kids.now }
+    requires few { row_length (first_kids row.now) ≤ 256 }
+    requires sound { IsTiledRow (first_kids row.now) }
+    requires known { KnowsNode (value_at scene.now.chosen.now) scene.now.tree.now.recency id layout (first_kids row.now) }
     requires area { IsArea area }
-    ensures { OnOk result (parts.new.items ≡ parts.old.items ++ kids_parts (seen scene.now) kids.now area layout) }
+    ensures { OnOk result (parts.new.items ≡ parts.old.items ++ kids_parts (seen scene.now) (first_kids row.now) area layout) }
 {
-    place_kids_titles(parts, scene, layout, area, kids)?;
-    let slots = standing(scene, id, layout, area, kids);
-    place_row(parts, scene, slots, true, 0, kids)
+    place_kids_titles(parts, scene, layout, area, row)?;
+    let kids = row.kids();
+    let slots = standing(scene, id, layout, area, &kids);
+    place_row(parts, scene, slots, kids)
 }
 
-/// Places the children of a row, the shares of those before it having this sum.
+/// Places the children of a row.
 #[cycle(place)]
 fn place_row(
     parts: &mut Vec<Placed>,
     scene: &Scene<'_>,
     slots: Slots,
-    first: bool,
-    before: u64,
-    row: &Cursor<'_>,
+    row: Cursor<'_>,
 ) -> Result<(), NoMemory>
-    requires few { before + share_sum row.now ≤ 268435456 }
-    requires sound { IsTiledRow row.now }
-    requires known { KnowsRow (value_at scene.now.chosen.now) scene.now.tree.now.recency row.now }
-    requires fit { HasSlots slots (before + share_sum row.now) }
-    ensures { OnOk result (parts.new.items ≡ parts.old.items ++ parts_from (seen scene.now) slots first before row.now) }
+    requires few { share_sum row ≤ 268435456 }
+    requires sound { IsTiledRow row }
+    requires known { KnowsRow (value_at scene.now.chosen.now) scene.now.tree.now.recency row }
+    requires fit { HasSlots slots (share_sum row) }
+    ensures { OnOk result (parts.new.items ≡ parts.old.items ++ parts_from (seen scene.now) slots true 0 row.entry) }
 {
-    let Some(part) = row.part() else {
-        return Ok(());
-    };
-    let rest = row.rest();
-    let after = before + u64::from(part.kind.share());
-    let child = Stretch {
-        first,
-        last: is_end(&rest),
-        before,
-        after,
-    };
-    let slot = slots.slot(scene.inner, child, part.id);
-    place_child(parts, scene, slots.own(), part, slot, &row.kids())?;
-    place_row(parts, scene, slots, false, after, &rest)
+    let mut first = true;
+    let mut before = 0;
+    let mut left = row;
+    while let Some(part) = left.part() {
+        let rest = left.rest();
+        let after = before + u64::from(part.kind.share());
+        let child = Stretch {
+            first,
+            last: is_end(&rest),
+            before,
+            after,
+        };
+        let slot = slots.slot(scene.inner, child, part.id);
+        place_child(parts, scene, slots.own(), part, slot, &left)?;
+        first = false;
+        before = after;
+        left = rest;
+    }
+    Ok(())
 }
 
 pub fn is_end(row: &Cursor<'_>) -> bool
@@ -208,7 +214,7 @@ pub fn is_end(row: &Cursor<'_>) -> bool
     row.part().is_none()
 }
 
-/// Places a child in its area, where it is shown, with what it has there.
+/// Places the child that is the row's first node in its area, where it is shown, with what it has there.
 #[cycle(place)]
 fn place_child(
     parts: &mut Vec<Placed>,
@@ -216,14 +222,14 @@ fn place_child(
     own: bool,
     part: &Part,
     slot: Option<Rect>,
-    kids: &Cursor<'_>,
+    row: &Cursor<'_>,
 ) -> Result<(), NoMemory>
-    requires few { row_length kids.now ≤ 256 }
-    requires sound { IsTiledRow kids.now }
-    requires known { KnowsNode (value_at scene.now.chosen.now) scene.now.tree.now.recency part.now.id (row_layout part.now.kind) kids.now }
+    requires few { row_length (first_kids row.now) ≤ 256 }
+    requires sound { IsTiledRow (first_kids row.now) }
+    requires known { KnowsNode (value_at scene.now.chosen.now) scene.now.tree.now.recency part.now.id (row_layout part.now.kind) (first_kids row.now) }
     requires area { IfSome slot (λ area. IsArea area) }
     ensures { OnOk result (parts.new.items ≡ parts.old.items ++
-        shown_parts (seen scene.now) own part.now kids.now (kids_parts (seen scene.now) kids.now) slot) }
+        shown_parts (seen scene.now) own part.now (first_kids row.now) (kids_parts (seen scene.now) (first_kids row.now)) slot) }
 {
     let Some(area) = slot else {
         return Ok(());
@@ -233,10 +239,13 @@ fn place_child(
         return Ok(());
     };
     let border = con.state.border;
+    let kids = row.kids();
     match con.kind {
-        ConKind::Split { layout, .. } => place_kids(parts, scene, part.id, layout, area, kids),
-        ConKind::Window { .. } => place_window(parts, scene, own, part, kids, border, area),
-        ConKind::Placeholder { .. } => place_own_title(parts, scene, own, part, kids, border, area),
+        ConKind::Split { layout, .. } => place_kids(parts, scene, part.id, layout, area, row),
+        ConKind::Window { .. } => place_window(parts, scene, own, part, &kids, border, area),
+        ConKind::Placeholder { .. } => {
+            place_own_title(parts, scene, own, part, &kids, border, area)
+        }
     }
 }
 

@@ -28,24 +28,24 @@ pub fn choices(alloc: Global, tree: &Tree) -> Result<IdMap<ConId>, NoMemory>
     requires { IsSound tree.now }
     ensures { IfOk result (λ chosen. KnowsOutputs (value_at chosen) tree.now.recency (first_kids tree.now.nodes)) }
 {
-    let outputs = tree.nodes().kids();
-    if shows_one_on(&outputs) {
-        return all_choices(alloc, tree, &outputs);
+    if shows_one_on(tree.nodes().kids()) {
+        return all_choices(alloc, tree, tree.nodes().kids());
     }
     Ok(IdMap::new(alloc))
 }
 
 /// Whether one of the workspaces that a row of outputs shows may have a tabbed or stacked node.
-fn shows_one_on(row: &Cursor<'_>) -> bool
-    ensures { (known : ConId → Option ConId) (ids : List ConId) → result ≡ false → KnowsOutputs known ids row.now }
+fn shows_one_on(row: Cursor<'_>) -> bool
+    ensures { (known : ConId → Option ConId) (ids : List ConId) → result ≡ false → KnowsOutputs known ids row.entry }
 {
-    let Some(part) = row.part() else {
-        return false;
-    };
-    if shows_one_under(&part.kind, row.kids()) {
-        return true;
+    let mut left = row;
+    while let Some(part) = left.part() {
+        if shows_one_under(&part.kind, left.kids()) {
+            return true;
+        }
+        left = left.rest();
     }
-    shows_one_on(&row.rest())
+    false
 }
 
 /// Whether the workspace that an output shows may have a tabbed or stacked node.
@@ -68,29 +68,30 @@ fn shows_one_first(row: &Cursor<'_>) -> bool
     if shows_one(row_layout(&part.kind)) {
         return true;
     }
-    shows_one_in(&row.kids())
+    shows_one_in(row.kids())
 }
 
 /// Whether one of the nodes of a row, or below it, may be tabbed or stacked.
-fn shows_one_in(row: &Cursor<'_>) -> bool
-    ensures { (known : ConId → Option ConId) (ids : List ConId) → result ≡ false → KnowsRow known ids row.now }
+fn shows_one_in(row: Cursor<'_>) -> bool
+    ensures { (known : ConId → Option ConId) (ids : List ConId) → result ≡ false → KnowsRow known ids row.entry }
 {
-    let Some(part) = row.part() else {
-        return false;
-    };
-    if shows_one(row_layout(&part.kind)) {
-        return true;
+    let mut left = row;
+    while let Some(part) = left.part() {
+        if shows_one(row_layout(&part.kind)) {
+            return true;
+        }
+        if shows_one_in(left.kids()) {
+            return true;
+        }
+        left = left.rest();
     }
-    if shows_one_in(&row.kids()) {
-        return true;
-    }
-    shows_one_in(&row.rest())
+    false
 }
 
 /// The most recent child of each tabbed or stacked node of a row of outputs, and below it.
-fn all_choices(alloc: Global, tree: &Tree, row: &Cursor<'_>) -> Result<IdMap<ConId>, NoMemory>
-    requires { (c : ConId) → tally c row.now ≤ 1 }
-    ensures { IfOk result (λ chosen. KnowsOutputs (value_at chosen) tree.now.recency row.now) }
+fn all_choices(alloc: Global, tree: &Tree, row: Cursor<'_>) -> Result<IdMap<ConId>, NoMemory>
+    requires { (c : ConId) → tally c row ≤ 1 }
+    ensures { IfOk result (λ chosen. KnowsOutputs (value_at chosen) tree.now.recency row.entry) }
 {
     let recency = Recency::new(alloc, tree.recent_ids())?;
     let mut chosen = IdMap::new(alloc);
@@ -99,26 +100,28 @@ fn all_choices(alloc: Global, tree: &Tree, row: &Cursor<'_>) -> Result<IdMap<Con
 }
 
 /// Keeps the most recent child of each tabbed or stacked node of a row, and below it, and tells the row's most recent
-/// node.
+/// node. What is kept for an id is told where the row has it once.
 fn choose(
     chosen: &mut IdMap<ConId>,
     recency: &Recency<'_>,
-    row: &Cursor<'_>,
+    row: Cursor<'_>,
 ) -> Result<Option<Near>, NoMemory>
     requires { ArePlaces recency.now }
-    ensures near { IfOk result (λ near. near ≡ nearest recency.now.ids.now row.now) }
-    ensures chosen { (c : ConId) → OnOk result (value_at chosen.new c ≡ option_or (choice_in recency.now.ids.now c row.now) (value_at chosen.old c)) }
+    ensures near { IfOk result (λ near. near ≡ nearest recency.now.ids.now row.entry) }
+    ensures chosen { (c : ConId) → tally c row.entry ≤ 1 → OnOk result (value_at chosen.new c ≡ option_or (choice_in recency.now.ids.now c row.entry) (value_at chosen.old c)) }
 {
-    let Some(part) = row.part() else {
-        return Ok(None);
-    };
-    let rest = choose(chosen, recency, &row.rest())?;
-    let floats = choose(chosen, recency, &row.floats())?;
-    let kids = choose(chosen, recency, &row.kids())?;
-    keep(chosen, part, kids)?;
-    let own = at_place(part.id, recency.place(part.id));
-    let here = under(part.id, sooner(own, sooner(kids, floats)));
-    Ok(sooner(here, rest))
+    let mut near = None;
+    let mut left = row;
+    while let Some(part) = left.part() {
+        let floats = choose(chosen, recency, left.floats())?;
+        let kids = choose(chosen, recency, left.kids())?;
+        keep(chosen, part, kids)?;
+        let own = at_place(part.id, recency.place(part.id));
+        let here = under(part.id, sooner(own, sooner(kids, floats)));
+        near = sooner(near, here);
+        left = left.rest();
+    }
+    Ok(near)
 }
 
 /// Keeps the most recent child of a node, where it is tabbed or stacked and has one.

@@ -22,7 +22,7 @@ pub fn area_of(tree: &Tree, con: ConId) -> Rect
     requires { IsSound tree.now }
     ensures { result ≡ area_of tree.now con }
 {
-    match in_outputs(con, &tree.nodes().kids()) {
+    match in_outputs(con, tree.nodes().kids()) {
         Some(area) => area,
         None => Rect {
             x: 0,
@@ -34,33 +34,39 @@ pub fn area_of(tree: &Tree, con: ConId) -> Rect
 }
 
 /// The area on one of a row of outputs.
-fn in_outputs(con: ConId, row: &Cursor<'_>) -> Option<Rect>
-    requires { IsSoundRow outputs true 32 row.now }
-    ensures { result ≡ area_in_outputs con row.now }
+fn in_outputs(con: ConId, row: Cursor<'_>) -> Option<Rect>
+    requires { IsSoundRow outputs true 32 row }
+    ensures { result ≡ area_in_outputs con row.entry }
 {
-    let part = row.part()?;
-    if let NodeKind::Output(output) = &part.kind {
-        if let Some(area) = in_spaces(con, output, &row.kids()) {
-            return Some(area);
+    let mut left = row;
+    while let Some(part) = left.part() {
+        if let NodeKind::Output(output) = &part.kind {
+            if let Some(area) = in_spaces(con, output, left.kids()) {
+                return Some(area);
+            }
         }
+        left = left.rest();
     }
-    in_outputs(con, &row.rest())
+    None
 }
 
 /// The area in one of a row of workspaces.
-fn in_spaces(con: ConId, output: &OutputPart, row: &Cursor<'_>) -> Option<Rect>
-    requires sound { IsSoundRow spaces true 32 row.now }
+fn in_spaces(con: ConId, output: &OutputPart, row: Cursor<'_>) -> Option<Rect>
+    requires sound { IsSoundRow spaces true 32 row }
     requires placed { IsOutputRect output.now.rect }
-    ensures { result ≡ area_in_spaces con output.now row.now }
+    ensures { result ≡ area_in_spaces con output.now row.entry }
 {
-    let part = row.part()?;
-    if let NodeKind::Space(space) = &part.kind {
-        let ground = ground(output.rect, output.reserved, space.outer, space.inner);
-        if let Some(area) = on_space(con, part.id, space, &row.kids(), ground) {
-            return Some(area);
+    let mut left = row;
+    while let Some(part) = left.part() {
+        if let NodeKind::Space(space) = &part.kind {
+            let ground = ground(output.rect, output.reserved, space.outer, space.inner);
+            if let Some(area) = on_space(con, part.id, space, left.kids(), ground) {
+                return Some(area);
+            }
         }
+        left = left.rest();
     }
-    in_spaces(con, output, &row.rest())
+    None
 }
 
 /// The area of a workspace, at 0,0 where it has no pixels.
@@ -73,55 +79,49 @@ fn ground(rect: Rect, reserved: Edges, outer: u32, inner: u32) -> Rect
 }
 
 /// The area in a workspace on which the children stand in this area.
-fn on_space(con: ConId, id: ConId, space: &SpacePart, kids: &Cursor<'_>, area: Rect) -> Option<Rect>
-    requires few { row_length kids.now ≤ 256 }
-    requires sound { IsTiledRow kids.now }
+fn on_space(con: ConId, id: ConId, space: &SpacePart, kids: Cursor<'_>, area: Rect) -> Option<Rect>
+    requires few { row_length kids ≤ 256 }
+    requires sound { IsTiledRow kids }
     requires area { IsArea area }
-    ensures { result ≡ area_on con id space.now kids.now area }
+    ensures { result ≡ area_on con id space.now kids.entry area }
 {
     if id == con {
         return Some(area);
     }
-    among(
-        con,
-        space.inner,
-        lots_for(space.layout, area, kids),
-        true,
-        0,
-        kids,
-    )
+    let lots = lots_for(space.layout, area, &kids);
+    among(con, space.inner, lots, kids)
 }
 
-/// The area among the nodes of a row and below them, the shares of those before it having this sum.
-fn among(
-    con: ConId,
-    inner: u32,
-    lots: Lots,
-    first: bool,
-    before: u64,
-    row: &Cursor<'_>,
-) -> Option<Rect>
-    requires few { before + share_sum row.now ≤ 268435456 }
-    requires sound { IsTiledRow row.now }
-    requires fit { HasLots lots (before + share_sum row.now) }
-    ensures { result ≡ area_from inner con lots first before row.now }
+/// The area among the nodes of a row and below them.
+fn among(con: ConId, inner: u32, lots: Lots, row: Cursor<'_>) -> Option<Rect>
+    requires few { share_sum row ≤ 268435456 }
+    requires sound { IsTiledRow row }
+    requires fit { HasLots lots (share_sum row) }
+    ensures { result ≡ area_from inner con lots true 0 row.entry }
 {
-    let part = row.part()?;
-    let (kids, rest) = (row.kids(), row.rest());
-    let after = before + u64::from(part.kind.share());
-    let child = Stretch {
-        first,
-        last: is_end(&rest),
-        before,
-        after,
-    };
-    let area = lots.area(inner, child);
-    if part.id == con {
-        return Some(area);
+    let mut first = true;
+    let mut before = 0;
+    let mut left = row;
+    while let Some(part) = left.part() {
+        let (kids, rest) = (left.kids(), left.rest());
+        let after = before + u64::from(part.kind.share());
+        let child = Stretch {
+            first,
+            last: is_end(&rest),
+            before,
+            after,
+        };
+        let area = lots.area(inner, child);
+        if part.id == con {
+            return Some(area);
+        }
+        let below = lots_for(layout_of(&part.kind), area, &kids);
+        if let Some(found) = among(con, inner, below, kids) {
+            return Some(found);
+        }
+        first = false;
+        before = after;
+        left = rest;
     }
-    let below = lots_for(layout_of(&part.kind), area, &kids);
-    if let Some(found) = among(con, inner, below, true, 0, &kids) {
-        return Some(found);
-    }
-    among(con, inner, lots, false, after, &rest)
+    None
 }

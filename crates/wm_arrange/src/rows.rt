@@ -11,10 +11,16 @@ pub fn count(row: &Cursor<'_>) -> u32
     requires { row_length row.now ≤ 256 }
     ensures { result ≡ row_length row.now }
 {
-    match row.part() {
-        None => 0,
-        Some(_) => 1 + count(&row.rest()),
+    let Some(_) = row.part() else {
+        return 0;
+    };
+    let mut n = 1;
+    let mut left = row.rest();
+    while let Some(_) = left.part() {
+        n += 1;
+        left = left.rest();
     }
+    n
 }
 
 /// The row from the node on. It is at its end where the node is not in the row.

@@ -1,6 +1,7 @@
 //! Placing titles: above a window, or above the children of a container.
 ghost use Rattle.std.specs.Prelude.{◌≡◌, ◌+◌, ◌≤◌, ◌++◌, OnOk};
 ghost use Rattle.wm_forest.specs.Counts.{row_length};
+ghost use Rattle.wm_forest.specs.Look.{first_kids};
 ghost use Rattle.wm_arrange.specs.Areas.{IsArea};
 ghost use Rattle.wm_arrange.specs.Scene.{seen};
 ghost use Rattle.wm_arrange.specs.Slots.{line_at, FitsLines, IsTiledRow};
@@ -88,48 +89,50 @@ impl Lines {
     }
 }
 
-/// Places the titles of the children in the area of a container with this layout.
+/// Places the titles of the children of the row's first node, a container with this layout, in its area.
 pub fn place_kids_titles(
     parts: &mut Vec<Placed>,
     scene: &Scene<'_>,
     layout: Layout,
     area: Rect,
-    kids: &Cursor<'_>,
+    row: &Cursor<'_>,
 ) -> Result<(), NoMemory>
-    requires few { row_length kids.now ≤ 256 }
-    requires sound { IsTiledRow kids.now }
+    requires few { row_length (first_kids row.now) ≤ 256 }
+    requires sound { IsTiledRow (first_kids row.now) }
     requires area { IsArea area }
-    ensures { OnOk result (parts.new.items ≡ parts.old.items ++ kids_titles (seen scene.now) layout area kids.now) }
+    ensures { OnOk result (parts.new.items ≡ parts.old.items ++ kids_titles (seen scene.now) layout area (first_kids row.now)) }
 {
     match layout {
         Layout::SplitH | Layout::SplitV => Ok(()),
         Layout::Tabbed => {
-            let count = count(kids);
-            place_titles(parts, scene, Lines::Tabs { count }, area, 0, kids)
+            let count = count(&row.kids());
+            place_titles(parts, scene, Lines::Tabs { count }, area, row.kids())
         }
-        Layout::Stacked => place_titles(parts, scene, Lines::Stack, area, 0, kids),
+        Layout::Stacked => place_titles(parts, scene, Lines::Stack, area, row.kids()),
     }
 }
 
-/// Places the titles of a row of children, the first of them having this number.
+/// Places the titles of a row of children.
 #[tactic(auto, using(crate::proofs::TreeLemmas::tiled_kids, crate::proofs::TreeLemmas::tiled_rest))]
 fn place_titles(
     parts: &mut Vec<Placed>,
     scene: &Scene<'_>,
     lines: Lines,
     area: Rect,
-    i: u32,
-    row: &Cursor<'_>,
+    row: Cursor<'_>,
 ) -> Result<(), NoMemory>
-    requires few { i + row_length row.now ≤ 256 }
-    requires sound { IsTiledRow row.now }
-    requires fit { FitsLines lines (i + row_length row.now) }
+    requires few { row_length row ≤ 256 }
+    requires sound { IsTiledRow row }
+    requires fit { FitsLines lines (row_length row) }
     requires area { IsArea area }
-    ensures { OnOk result (parts.new.items ≡ parts.old.items ++ titles (seen scene.now) (line_at lines area) i row.now) }
+    ensures { OnOk result (parts.new.items ≡ parts.old.items ++ titles (seen scene.now) (line_at lines area) 0 row.entry) }
 {
-    let Some(part) = row.part() else {
-        return Ok(());
-    };
-    place_title(parts, scene, part, &row.kids(), lines.at(area, i))?;
-    place_titles(parts, scene, lines, area, i + 1, &row.rest())
+    let mut i = 0;
+    let mut left = row;
+    while let Some(part) = left.part() {
+        place_title(parts, scene, part, &left.kids(), lines.at(area, i))?;
+        i += 1;
+        left = left.rest();
+    }
+    Ok(())
 }

@@ -27,17 +27,20 @@ fn is_full(kind: &NodeKind) -> bool
 fn other_full(row: Cursor<'_>, con: ConId) -> Option<ConId>
     ensures { result ≡ other_full con row.entry }
 {
-    let part = row.part()?;
-    if part.id != con && is_full(&part.kind) {
-        return Some(part.id);
+    let mut row = row;
+    while let Some(part) = row.part() {
+        if part.id != con && is_full(&part.kind) {
+            return Some(part.id);
+        }
+        if let Some(found) = other_full(row.kids(), con) {
+            return Some(found);
+        }
+        if let Some(found) = other_full(row.floats(), con) {
+            return Some(found);
+        }
+        row = row.rest();
     }
-    if let Some(found) = other_full(row.kids(), con) {
-        return Some(found);
-    }
-    if let Some(found) = other_full(row.floats(), con) {
-        return Some(found);
-    }
-    other_full(row.rest(), con)
+    None
 }
 
 /// A fullscreen container of the first node other than this one.
@@ -54,17 +57,20 @@ fn full_below(row: Cursor<'_>, con: ConId) -> Option<ConId>
 fn full_in(row: Cursor<'_>, w: ConId, con: ConId) -> Option<ConId>
     ensures { result ≡ full_in w con row.entry }
 {
-    let part = row.part()?;
-    if part.id == w {
-        return full_below(row, con);
+    let mut row = row;
+    while let Some(part) = row.part() {
+        if part.id == w {
+            return full_below(row, con);
+        }
+        if let Some(found) = full_in(row.kids(), w, con) {
+            return Some(found);
+        }
+        if let Some(found) = full_in(row.floats(), w, con) {
+            return Some(found);
+        }
+        row = row.rest();
     }
-    if let Some(found) = full_in(row.kids(), w, con) {
-        return Some(found);
-    }
-    if let Some(found) = full_in(row.floats(), w, con) {
-        return Some(found);
-    }
-    full_in(row.rest(), w, con)
+    None
 }
 
 /// Whether no container of this one's workspace but it is fullscreen.

@@ -66,17 +66,20 @@ fn nearest(d: Dir, con: ConId, windows: Cursor<'_>) -> Option<Key>
 fn floats_at(row: Cursor<'_>, w: ConId) -> Option<Cursor<'_>>
     ensures { result ≡ floats_at w row.entry }
 {
-    let part = row.part()?;
-    if part.id == w {
-        return Some(row.floats());
+    let mut row = row;
+    while let Some(part) = row.part() {
+        if part.id == w {
+            return Some(row.floats());
+        }
+        if let Some(found) = floats_at(row.kids(), w) {
+            return Some(found);
+        }
+        if let Some(found) = floats_at(row.floats(), w) {
+            return Some(found);
+        }
+        row = row.rest();
     }
-    if let Some(found) = floats_at(row.kids(), w) {
-        return Some(found);
-    }
-    if let Some(found) = floats_at(row.floats(), w) {
-        return Some(found);
-    }
-    floats_at(row.rest(), w)
+    None
 }
 
 /// The next floating window of the container's workspace.

@@ -90,14 +90,15 @@ off_bare ns (con part kids floats rest) w =
 pub all_bare : (f : Forest) → all_off (all_marks f) f ≡ bare f
 all_bare f = off_bare (all_marks f) f (λ x h. h)
 
--- the marks of a node, and of the three rows
-pub all_turn : (row : Forest) (part : Part) (t t1 t2 t3 t4 : TreeValue) → first_part row ≡ Some part → t1 ≡ record t { nodes = all_off part.marks t.nodes } → t2 ≡ record t1 { nodes = all_off (all_marks (first_kids row)) t1.nodes }
-    → t3 ≡ record t2 { nodes = all_off (all_marks (first_floats row)) t2.nodes } → t4 ≡ record t3 { nodes = all_off (all_marks (rest_of row)) t3.nodes } → t4 ≡ record t { nodes = all_off (all_marks row) t.nodes }
-all_turn row part t t1 t2 t3 t4 h p q r s =
+-- the marks of a node and of the two rows below it, and then those of the row behind it
+pub all_turn : (row : Forest) (part : Part) (t t1 t2 t3 : TreeValue) → first_part row ≡ Some part → t1 ≡ record t { nodes = all_off part.marks t.nodes } → t2 ≡ record t1 { nodes = all_off (all_marks (first_kids row)) t1.nodes }
+    → t3 ≡ record t2 { nodes = all_off (all_marks (first_floats row)) t2.nodes }
+    → record t3 { nodes = all_off (all_marks (rest_of row)) t3.nodes } ≡ record t { nodes = all_off (all_marks row) t.nodes }
+all_turn row part t t1 t2 t3 h p q r =
     let k : List (List ℕ) = all_marks (first_kids row) in
     let l : List (List ℕ) = all_marks (first_floats row) in
     let m : List (List ℕ) = all_marks (rest_of row) in
     let more : List (List ℕ) → TreeValue → TreeValue = λ ns (x : TreeValue). record x { nodes = all_off ns x.nodes } in
     let whole : all_off (all_marks row) t.nodes ≡ all_off m (all_off l (all_off k (all_off part.marks t.nodes))) =
     ap (λ z. all_off (all_marks z) t.nodes) (row_is row part h) ∙ all_off-append part.marks (k ++ (l ++ m)) t.nodes ∙ all_off-append k (l ++ m) (all_off part.marks t.nodes) ∙ all_off-append l m (all_off k (all_off part.marks t.nodes)) in
-    s ∙ ap (more m) (r ∙ ap (more l) (q ∙ ap (more k) p)) ∙ ap (λ f. record t { nodes = f }) (sym whole)
+    ap (more m) (r ∙ ap (more l) (q ∙ ap (more k) p)) ∙ ap (λ f. record t { nodes = f }) (sym whole)

@@ -9,20 +9,22 @@ use wm_base::{ConId, Text};
 use wm_tree::{Cursor, Part, Tree};
 
 /// The first node, depth first, that has the mark and is not the one to be kept.
-pub(crate) fn bearer(row: Cursor<'_>, keep: Option<ConId>, name: &Text) -> Option<ConId>
+pub(crate) fn bearer(mut row: Cursor<'_>, keep: Option<ConId>, name: &Text) -> Option<ConId>
     ensures { result ≡ bearer keep name.now row.entry }
 {
-    let part = row.part()?;
-    if keep != Some(part.id) && bears(part.marks.items(), name) {
-        return Some(part.id);
+    while let Some(part) = row.part() {
+        if keep != Some(part.id) && bears(part.marks.items(), name) {
+            return Some(part.id);
+        }
+        if let Some(con) = bearer(row.kids(), keep, name) {
+            return Some(con);
+        }
+        if let Some(con) = bearer(row.floats(), keep, name) {
+            return Some(con);
+        }
+        row = row.rest();
     }
-    if let Some(con) = bearer(row.kids(), keep, name) {
-        return Some(con);
-    }
-    if let Some(con) = bearer(row.floats(), keep, name) {
-        return Some(con);
-    }
-    bearer(row.rest(), keep, name)
+    None
 }
 
 /// Whether the mark is among the marks.
@@ -33,20 +35,22 @@ pub(crate) fn bears(marks: &[Text], name: &Text) -> bool
 }
 
 /// The part of the node. `None` exactly where it is not here.
-fn part_of<'a>(row: Cursor<'a>, con: ConId) -> Option<&'a Part>
+fn part_of<'a>(mut row: Cursor<'a>, con: ConId) -> Option<&'a Part>
     ensures { option_copied result ≡ first_part (only con row.entry) }
 {
-    let part = row.part()?;
-    if part.id == con {
-        return Some(part);
+    while let Some(part) = row.part() {
+        if part.id == con {
+            return Some(part);
+        }
+        if let Some(found) = part_of(row.kids(), con) {
+            return Some(found);
+        }
+        if let Some(found) = part_of(row.floats(), con) {
+            return Some(found);
+        }
+        row = row.rest();
     }
-    if let Some(found) = part_of(row.kids(), con) {
-        return Some(found);
-    }
-    if let Some(found) = part_of(row.floats(), con) {
-        return Some(found);
-    }
-    part_of(row.rest(), con)
+    None
 }
 
 /// The container's marks.

@@ -27,16 +27,16 @@ pub(crate) fn take_off(t: &mut Tree, keep: Option<ConId>, name: &Text)
 }
 
 /// Takes the marks of all nodes of the row off all nodes.
-pub(crate) fn take_all_off(t: &mut Tree, row: Cursor<'_>)
+pub(crate) fn take_all_off(t: &mut Tree, mut row: Cursor<'_>)
     requires { IsSound t.old }
     ensures tree { t.new ≡ record t.old { nodes = all_off (all_marks row.entry) t.old.nodes } }
     ensures sound { IsSound t.new }
 {
-    if let Some(part) = row.part() {
+    while let Some(part) = row.part() {
         take_each_off(t, part.marks.items());
         take_all_off(t, row.kids());
         take_all_off(t, row.floats());
-        take_all_off(t, row.rest());
+        row = row.rest();
     }
 }
 

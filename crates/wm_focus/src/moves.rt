@@ -48,20 +48,22 @@ fn beside(t: &Tree, con: ConId, d: Dir) -> Option<ConId>
 
 /// The neighbour of the container on that side among the parent's children. `None` exactly where the parent is not
 /// here.
-fn neighbour_at(row: Cursor<'_>, parent: ConId, con: ConId, d: Dir) -> Option<Option<ConId>>
+fn neighbour_at(mut row: Cursor<'_>, parent: ConId, con: ConId, d: Dir) -> Option<Option<ConId>>
     ensures { result ≡ neighbour_at d con parent row.entry }
 {
-    let part = row.part()?;
-    if part.id == parent {
-        return Some(aimed(Aim::Beside, d, &part.kind, row.kids(), con));
+    while let Some(part) = row.part() {
+        if part.id == parent {
+            return Some(aimed(Aim::Beside, d, &part.kind, row.kids(), con));
+        }
+        if let Some(found) = neighbour_at(row.kids(), parent, con, d) {
+            return Some(found);
+        }
+        if let Some(found) = neighbour_at(row.floats(), parent, con, d) {
+            return Some(found);
+        }
+        row = row.rest();
     }
-    if let Some(found) = neighbour_at(row.kids(), parent, con, d) {
-        return Some(found);
-    }
-    if let Some(found) = neighbour_at(row.floats(), parent, con, d) {
-        return Some(found);
-    }
-    neighbour_at(row.rest(), parent, con, d)
+    None
 }
 
 /// Moves the container past its neighbour, or into it where that is a split.

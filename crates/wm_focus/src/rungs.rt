@@ -33,31 +33,33 @@ pub(crate) fn nearest(row: Cursor<'_>, con: ConId, aim: Aim, d: Dir) -> Option<C
 
 /// The node of the row that is the container or holds it, with what is found below. `None` exactly where the container
 /// is not here.
-fn climb(row: Cursor<'_>, con: ConId, aim: Aim, d: Dir) -> Option<Held>
+fn climb(mut row: Cursor<'_>, con: ConId, aim: Aim, d: Dir) -> Option<Held>
     ensures { result ≡ held aim d con row.entry }
 {
-    let part = row.part()?;
-    if part.id == con {
-        return Some(Held {
-            child: con,
-            found: None,
-        });
+    while let Some(part) = row.part() {
+        if part.id == con {
+            return Some(Held {
+                child: con,
+                found: None,
+            });
+        }
+        let kids = row.kids();
+        if let Some(below) = climb(row.kids(), con, aim, d) {
+            let found = below.found.or(aimed(aim, d, &part.kind, kids, below.child));
+            return Some(Held {
+                child: part.id,
+                found,
+            });
+        }
+        if let Some(below) = climb(row.floats(), con, aim, d) {
+            return Some(Held {
+                child: part.id,
+                found: below.found,
+            });
+        }
+        row = row.rest();
     }
-    let kids = row.kids();
-    if let Some(below) = climb(row.kids(), con, aim, d) {
-        let found = below.found.or(aimed(aim, d, &part.kind, kids, below.child));
-        return Some(Held {
-            child: part.id,
-            found,
-        });
-    }
-    if let Some(below) = climb(row.floats(), con, aim, d) {
-        return Some(Held {
-            child: part.id,
-            found: below.found,
-        });
-    }
-    climb(row.rest(), con, aim, d)
+    None
 }
 
 /// What is found at a node of this kind with these children, one of which holds the container.

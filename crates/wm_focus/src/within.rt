@@ -7,30 +7,35 @@ use wm_base::ConId;
 use wm_tree::{Cursor, Tree};
 
 /// Whether the node is in the row, at any depth.
-fn holds(row: Cursor<'_>, id: ConId) -> bool
+fn holds(mut row: Cursor<'_>, id: ConId) -> bool
     ensures { result ≡ has id row.entry }
 {
-    let Some(part) = row.part() else {
-        return false;
-    };
-    part.id == id || holds(row.kids(), id) || holds(row.floats(), id) || holds(row.rest(), id)
+    while let Some(part) = row.part() {
+        if part.id == id || holds(row.kids(), id) || holds(row.floats(), id) {
+            return true;
+        }
+        row = row.rest();
+    }
+    false
 }
 
 /// Whether the node b is the node a or below it. `None` exactly where a is not here.
-fn within(row: Cursor<'_>, a: ConId, b: ConId) -> Option<bool>
+fn within(mut row: Cursor<'_>, a: ConId, b: ConId) -> Option<bool>
     ensures { result ≡ within a b row.entry }
 {
-    let part = row.part()?;
-    if part.id == a {
-        return Some(part.id == b || holds(row.kids(), b) || holds(row.floats(), b));
+    while let Some(part) = row.part() {
+        if part.id == a {
+            return Some(part.id == b || holds(row.kids(), b) || holds(row.floats(), b));
+        }
+        if let Some(found) = within(row.kids(), a, b) {
+            return Some(found);
+        }
+        if let Some(found) = within(row.floats(), a, b) {
+            return Some(found);
+        }
+        row = row.rest();
     }
-    if let Some(found) = within(row.kids(), a, b) {
-        return Some(found);
-    }
-    if let Some(found) = within(row.floats(), a, b) {
-        return Some(found);
-    }
-    within(row.rest(), a, b)
+    None
 }
 
 /// Whether the node b is the node a or below it.

@@ -8,6 +8,7 @@ pub mod HoleLemmas
 pub mod HoleLooks
 pub mod LookLemmas
 pub mod OnceLemmas
+pub mod PassLemmas
 pub mod PutLemmas
 pub mod RaisedLaws
 pub mod RecencyLemmas

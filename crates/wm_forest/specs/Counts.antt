@@ -1,6 +1,8 @@
 -- Counts of a forest: containers, marks, the nodes of a row and their shares.
 use Rattle.std.specs.Prelude.{ℕ, ◌+◌, ◌/◌, ◌==◌, length, if◌then◌else◌}
 use Rattle.wm_base.specs.declared.ids.ConId.{ConId}
+use Rattle.wm_forest.specs.declared.count.Counted.{Counted}
+use Rattle.wm_forest.specs.declared.count.Counted.TheVariants.{Spaces, Cons, Marks}
 use Rattle.wm_forest.specs.declared.part.Part.{Part}
 use Rattle.wm_forest.specs.declared.part.NodeKind.{NodeKind}
 use Rattle.wm_forest.specs.declared.part.NodeKind.TheVariants.{Root, Output, Space, Con}
@@ -44,6 +46,12 @@ marks_of p = length p.marks
 
 abbrev pub mark_count : Forest → ℕ
 mark_count f = count marks_of f
+
+-- what a node counts, by what is counted
+abbrev pub counts : Counted → Part → ℕ
+counts Spaces = space_of
+counts Cons = con_of
+counts Marks = marks_of
 
 -- how many nodes a row has
 abbrev pub row_length : Forest → ℕ

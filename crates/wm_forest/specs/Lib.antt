@@ -9,6 +9,7 @@ pub mod Holding
 pub mod Kinds
 pub mod Look
 pub mod Marks
+pub mod Passing
 pub mod Place
 pub mod Recency
 pub mod RootId

@@ -25,3 +25,6 @@ loose (con part kids floats rest) = if is_sticky part.kind then loose rest else 
 -- a node without its sticky floating windows
 abbrev pub loosened : Forest → Part → Forest → Forest → Forest → Forest
 loosened none part kids floats rest = con part kids (loose floats) rest
+
+abbrev pub sticky_in : Part → Forest → Forest → Bool
+sticky_in part kids floats = is_sticky part.kind

@@ -1,12 +1,14 @@
 //! Changing rows: taking out, putting behind, and what raising and settling make of a row.
 ghost use Rattle.std.specs.Prelude.{◌≡◌, false, true, if◌then◌else◌, is_some, MatchOption};
-ghost use Rattle.wm_forest.specs.Change.{append, arriving, hole, placed, replaced, is_end, is_id, is_split, is_vacant, settled_row, shown_of, to_end, unfull, unfull_kind, without};
+ghost use Rattle.wm_forest.specs.Change.{append, arriving, hole, in_place, placed, replaced, is_end, is_id, is_split, is_vacant, settled_row, shown_of, to_end, unfull, unfull_kind, without};
 ghost use Rattle.wm_forest.specs.Counts.{but};
 ghost use Rattle.wm_forest.specs.Forest.{end, con};
-ghost use Rattle.wm_forest.specs.Look.{same, has, in_row, only, node_in, first_alone, rest_of};
+ghost use Rattle.wm_forest.specs.Look.{has, only, node_in, first_alone, rest_of};
+ghost use Rattle.wm_forest.specs.Passing.{kept_onto, taken_onto};
 ghost use Rattle.wm_forest.specs.Row.{alone, row_of};
-ghost use Rattle.wm_forest.specs.Settle.{vacated};
+ghost use Rattle.wm_forest.specs.Settle.{vacant_in, vacated};
 
+use crate::edit::Change;
 use crate::part::{ConKind, NodeKind, Part};
 use crate::row::{Cell, Row};
 use std::alloc::Global;
@@ -74,6 +76,18 @@ impl Cell {
         drop(mem::replace(self, Cell::hole(alloc)));
     }
 
+    /// Takes fullscreen from the node and from what is below it, where they are not this one.
+    #[cycle(unfull)]
+    fn clear_fullscreen(&mut self, id: ConId)
+        ensures { alone self.new ≡ unfull id (alone self.old) }
+    {
+        if self.part.id != id {
+            self.part.kind.clear_fullscreen();
+        }
+        self.kids.clear_fullscreen(id);
+        self.floats.clear_fullscreen(id);
+    }
+
     /// Makes the node ready for its new place. From another workspace (`away`) it loses fullscreen, and so does what
     /// is below it.
     pub(crate) fn arrive(&mut self, share: u32, rect: Option<Rect>, away: bool)
@@ -88,56 +102,14 @@ impl Cell {
         }
     }
 
-    /// Changes places with a node other than this one, below it or behind it. Says whether it is there.
-    #[cycle(swap)]
-    #[tactic(auto, using(crate::proofs::ForestLemmas::at_absent))]
-    fn swap_below(&mut self, id: ConId, spare: &mut Cell) -> bool
-        requires { same self.old.part.id id ≡ false }
-        ensures found { result ≡ has id (row_of self.old) }
-        ensures left { row_of self.new ≡ replaced id (alone spare.old) (row_of self.old) }
-        ensures taken { alone spare.new ≡ (if has id (row_of self.old) then only id (row_of self.old) else alone spare.old) }
-    {
-        let Cell {
-            part: _,
-            kids,
-            floats,
-            rest,
-        } = self;
-        kids.swap(id, spare) || floats.swap(id, spare) || rest.swap(id, spare)
-    }
-
     /// Changes places with another node; each row keeps its rest.
     fn swap_with(&mut self, spare: &mut Cell)
         ensures here { row_of self.new ≡ con spare.old.part spare.old.kids spare.old.floats self.old.rest }
-        ensures there { alone spare.new ≡ alone self.old }
+        ensures there { spare.new ≡ record spare.old { part = self.old.part; kids = self.old.kids; floats = self.old.floats } }
     {
         mem::swap(&mut self.part, &mut spare.part);
         mem::swap(&mut self.kids, &mut spare.kids);
         mem::swap(&mut self.floats, &mut spare.floats);
-    }
-
-    /// Takes a node other than this one out of the rows below it and behind it.
-    #[cycle(take_out)]
-    #[tactic(auto, using(crate::proofs::ForestLemmas::at_absent))]
-    fn take_out_below(&mut self, id: ConId) -> Option<Row>
-        requires { same self.old.part.id id ≡ false }
-        ensures taken { MatchOption result (has id (row_of self.old) ≡ false)
-            (λ row. (has id (row_of self.old) ≡ true) × (row ≡ only id (row_of self.old))) }
-        ensures rest { row_of self.new ≡ without id (row_of self.old) }
-    {
-        let Cell {
-            part: _,
-            kids,
-            floats,
-            rest,
-        } = self;
-        if let Some(row) = kids.take_out(id) {
-            return Some(row);
-        }
-        if let Some(row) = floats.take_out(id) {
-            return Some(row);
-        }
-        rest.take_out(id)
     }
 
     /// Whether the node is a split without children, or a workspace without containers that is not the one shown.
@@ -172,22 +144,40 @@ fn is_split(kind: &ConKind) -> bool
     }
 }
 
+/// Taking a node out, and what was taken out.
+#[derive(Drop)]
+struct TakeOut(Row);
+
+impl Change for TakeOut {
+    ghost word = { λ x part kids floats rest. rest };
+
+    ghost after = { λ x part kids floats. record { 0 = con part kids floats end } };
+
+    fn make(&mut self, row: &mut Row) {
+        if !row.is_end() {
+            self.0 = row.take_first();
+        }
+    }
+}
+
+impl Change for Cell {
+    ghost word = { λ x. in_place (alone x) };
+
+    ghost after = { λ x part kids floats. record x { part = part; kids = kids; floats = floats } };
+
+    fn make(&mut self, row: &mut Row) {
+        if let Some(cell) = &mut row.first {
+            cell.swap_with(self);
+        }
+    }
+}
+
 impl Row {
     /// Whether the row has no node.
     pub fn is_end(&self) -> bool
         ensures { result ≡ is_end self.now }
     {
         self.first.is_none()
-    }
-
-    /// Adds the nodes of a row at the end.
-    pub fn append(&mut self, row: Row)
-        ensures { self.new ≡ append self.old row }
-    {
-        match &mut self.first {
-            None => *self = row,
-            Some(cell) => cell.rest.append(row),
-        }
     }
 
     /// Takes out the first node with all that is below it. Nothing where the row is at its end.
@@ -205,34 +195,26 @@ impl Row {
     }
 
     /// Takes the node out with all that is below it. `None` exactly where it is not here.
-    #[cycle(take_out)]
     pub fn take_out(&mut self, id: ConId) -> Option<Row>
         ensures taken { MatchOption result (has id self.old ≡ false)
             (λ row. (has id self.old ≡ true) × (row ≡ only id self.old)) }
         ensures rest { self.new ≡ without id self.old }
     {
-        match &mut self.first {
-            None => None,
-            Some(cell) if cell.part.id == id => Some(self.take_first()),
-            Some(cell) => cell.take_out_below(id),
+        let mut gone = TakeOut(Row::new());
+        if !self.alter(id, &mut gone) {
+            return None;
         }
+        let TakeOut(row) = gone;
+        Some(row)
     }
 
     /// Changes the node's place with that of the spare cell, where it is here. Says whether it is.
-    #[cycle(swap)]
     pub(crate) fn swap(&mut self, id: ConId, spare: &mut Cell) -> bool
         ensures found { result ≡ has id self.old }
         ensures left { self.new ≡ replaced id (alone spare.old) self.old }
         ensures taken { alone spare.new ≡ (if has id self.old then only id self.old else alone spare.old) }
     {
-        match &mut self.first {
-            None => false,
-            Some(cell) if cell.part.id == id => {
-                cell.swap_with(spare);
-                true
-            }
-            Some(cell) => cell.swap_below(id, spare),
-        }
+        self.alter(id, spare)
     }
 
     /// Takes the node out of the row itself, with all that is below it.
@@ -240,11 +222,15 @@ impl Row {
         ensures taken { result ≡ first_alone (node_in id self.old) }
         ensures rest { self.new ≡ but id self.old }
     {
-        match &mut self.first {
-            None => Row::new(),
-            Some(cell) if cell.part.id == id => self.take_first(),
-            Some(cell) => cell.rest.take_here(id),
+        let mut done = Row::new();
+        while let Some(cell) = &self.first
+            && cell.part.id != id
+        {
+            self.pass(&mut done);
         }
+        let taken = self.take_first();
+        self.hang(done);
+        taken
     }
 
     /// Puts the row's own node last, where it has it.
@@ -257,17 +243,16 @@ impl Row {
     }
 
     /// Takes fullscreen from every container but this one.
+    #[cycle(unfull)]
     pub fn clear_fullscreen(&mut self, id: ConId)
         ensures { self.new ≡ unfull id self.old }
     {
-        if let Some(cell) = &mut self.first {
-            if cell.part.id != id {
-                cell.part.kind.clear_fullscreen();
-            }
-            cell.kids.clear_fullscreen(id);
-            cell.floats.clear_fullscreen(id);
-            cell.rest.clear_fullscreen(id);
+        let mut done = Row::new();
+        while let Some(mut cell) = self.pop() {
+            cell.clear_fullscreen(id);
+            done.push(cell);
         }
+        self.hang(done);
     }
 
     /// Removes splits without children and workspaces without containers, from below upwards, but for the workspace
@@ -277,21 +262,27 @@ impl Row {
         ensures kept { self.new ≡ settled_row shown self.old }
         ensures taken { gone.new ≡ append (vacated shown self.old) gone.old }
     {
-        if let Some(cell) = &mut self.first {
+        let mut done = Row::new();
+        while let Some(mut cell) = self.pop() {
             let below = cell.part.kind.shown();
             cell.kids.settle(below, gone);
-            cell.rest.settle(shown, gone);
-            if cell.is_vacant(shown) {
-                gone.prepend(self.take_first());
-            }
+            done.push(cell);
         }
+        self.hang_settled(done, shown, gone);
     }
 
-    /// Puts the nodes of a row before those of this one.
-    pub(crate) fn prepend(&mut self, mut row: Row)
-        ensures { self.new ≡ append row self.old }
+    /// Puts the nodes of a row, the last one first, before those of this one, or before those of `gone` where they are
+    /// vacant.
+    fn hang_settled(&mut self, mut done: Row, shown: Option<ConId>, gone: &mut Row)
+        ensures kept { self.new ≡ kept_onto (vacant_in shown) done self.old }
+        ensures taken { gone.new ≡ taken_onto (vacant_in shown) done gone.old }
     {
-        row.append(mem::replace(self, Row::new()));
-        *self = row;
+        while let Some(cell) = done.pop() {
+            if cell.is_vacant(shown) {
+                gone.push(cell);
+            } else {
+                self.push(cell);
+            }
+        }
     }
 }

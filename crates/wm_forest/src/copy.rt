@@ -1,7 +1,6 @@
 //! Copies of nodes and of what they say. A copied text shares its bytes.
 ghost use Rattle.std.specs.Prelude.{◌≡◌, ◌++◌, ◌∷◌, [], IfOk};
-ghost use Rattle.wm_forest.specs.Forest.{end, con};
-ghost use Rattle.wm_forest.specs.Row.{row_of};
+ghost use Rattle.wm_forest.specs.Row.{alone, row_of};
 ghost use Rattle.wm_forest.specs.declared.part.ConKind.TheVariants.{Placeholder};
 
 use crate::part::{ConKind, ConPart, NodeKind, OutputPart, Part, SpacePart, Swallow, SwallowKey};
@@ -153,27 +152,35 @@ impl Part {
             marks,
         })
     }
+}
 
-    /// An equal node with nothing below it and none behind it.
+impl Cell {
+    /// An equal node with what is below it and none behind it.
+    #[cycle(copy)]
     fn copied(&self, alloc: Global) -> Result<Box<Cell>, AllocError>
-        ensures { IfOk result (λ cell. row_of cell.value ≡ con self.now end end end) }
+        ensures { IfOk result (λ cell. row_of cell.value ≡ alone self.now) }
     {
-        Cell::of(alloc, self.copy(alloc)?)
+        let mut copy = Cell::of(alloc, self.part.copy(alloc)?)?;
+        copy.set_kids(self.kids.copy(alloc)?);
+        copy.set_floats(self.floats.copy(alloc)?);
+        Ok(copy)
     }
 }
 
 impl Row {
     /// An equal row.
+    #[cycle(copy)]
     pub fn copy(&self, alloc: Global) -> Result<Row, AllocError>
         ensures { IfOk result (λ row. row ≡ self.now) }
     {
-        let Some(cell) = &self.first else {
-            return Ok(Row::new());
-        };
-        let mut copy = cell.part.copied(alloc)?;
-        copy.set_kids(cell.kids.copy(alloc)?);
-        copy.set_floats(cell.floats.copy(alloc)?);
-        copy.set_rest(cell.rest.copy(alloc)?);
-        Ok(Row { first: Some(copy) })
+        let mut done = Row::new();
+        let mut row = self;
+        while let Some(cell) = &row.first {
+            done.push(cell.copied(alloc)?);
+            row = &cell.rest;
+        }
+        let mut copy = Row::new();
+        copy.hang(done);
+        Ok(copy)
     }
 }

@@ -1,9 +1,8 @@
 //! Counts of a row: containers, marks, nodes and shares.
 ghost use Rattle.std.specs.Prelude.{◌≡◌, ◌-◌, ◌*◌, ◌≤◌, ◌<◌, ◌^◌, ◌+◌, ◌/◌, ◌==◌, if◌then◌else◌, min, length};
-ghost use Rattle.wm_forest.specs.Counts.{but, con_count, mark_count, newcomer_share, one_con, one_space, row_length, share_of, share_sum, space_count};
-ghost use Rattle.wm_forest.specs.Forest.{end, con};
+ghost use Rattle.wm_forest.specs.Counts.{but, con_count, count, counts, mark_count, newcomer_share, one_con, one_space, row_length, share_of, share_sum, space_count};
 
-use crate::part::NodeKind;
+use crate::part::{NodeKind, Part};
 use crate::row::Row;
 use wm_base::ConId;
 
@@ -42,58 +41,74 @@ impl NodeKind {
     }
 }
 
+/// What a node counts: one where it is a workspace, one where it is a container, or its marks.
+enum Counted {
+    Spaces,
+    Cons,
+    Marks,
+}
+
+impl Counted {
+    fn of(&self, part: &Part) -> usize
+        ensures { result ≡ counts self.now part.now }
+    {
+        match self {
+            Counted::Spaces => part.kind.one_space(),
+            Counted::Cons => part.kind.one_con(),
+            Counted::Marks => part.marks.items().len(),
+        }
+    }
+}
+
 impl Row {
     /// How many workspaces there are, at any depth, but no more than are counted here: `most`.
     pub fn spaces_up_to(&self, most: usize) -> usize
         ensures { result ≡ min most (space_count self.now) }
     {
-        let cell = match &self.first {
-            None => return 0,
-            Some(cell) => cell,
-        };
-        let mut count = cell.part.kind.one_space().min(most);
-        count += cell.kids.spaces_up_to(most - count);
-        count += cell.floats.spaces_up_to(most - count);
-        count + cell.rest.spaces_up_to(most - count)
+        self.count_up_to(&Counted::Spaces, most)
     }
 
     /// How many containers there are, at any depth, but no more than are counted here: `most`.
     pub fn cons_up_to(&self, most: usize) -> usize
         ensures { result ≡ min most (con_count self.now) }
     {
-        let cell = match &self.first {
-            None => return 0,
-            Some(cell) => cell,
-        };
-        let mut count = cell.part.kind.one_con().min(most);
-        count += cell.kids.cons_up_to(most - count);
-        count += cell.floats.cons_up_to(most - count);
-        count + cell.rest.cons_up_to(most - count)
+        self.count_up_to(&Counted::Cons, most)
     }
 
     /// How many marks there are, at any depth, but no more than are counted here: `most`.
     pub fn marks_up_to(&self, most: usize) -> usize
         ensures { result ≡ min most (mark_count self.now) }
     {
-        let cell = match &self.first {
-            None => return 0,
-            Some(cell) => cell,
-        };
-        let mut count = cell.part.marks.items().len().min(most);
-        count += cell.kids.marks_up_to(most - count);
-        count += cell.floats.marks_up_to(most - count);
-        count + cell.rest.marks_up_to(most - count)
+        self.count_up_to(&Counted::Marks, most)
+    }
+
+    /// What all nodes count, at any depth, but no more than are counted here: `most`.
+    fn count_up_to(&self, counted: &Counted, most: usize) -> usize
+        ensures { result ≡ min most (count (counts counted.now) self.now) }
+    {
+        let (mut row, mut sum) = (self, 0);
+        while let Some(cell) = &row.first {
+            sum += counted.of(&cell.part).min(most - sum);
+            sum += cell.kids.count_up_to(counted, most - sum);
+            sum += cell.floats.count_up_to(counted, most - sum);
+            row = &cell.rest;
+        }
+        sum
     }
 
     /// How many nodes the row has, but no more than are counted here: `most`.
     pub fn len_up_to(&self, most: usize) -> usize
         ensures { result ≡ min most (row_length self.now) }
     {
-        match &self.first {
-            None => 0,
-            Some(_) if most == 0 => 0,
-            Some(cell) => 1 + cell.rest.len_up_to(most - 1),
+        let (mut row, mut length) = (self, 0);
+        while let Some(cell) = &row.first {
+            if length == most {
+                return most;
+            }
+            length += 1;
+            row = &cell.rest;
         }
+        length
     }
 
     /// The sum of the shares of the row's nodes.
@@ -102,30 +117,30 @@ impl Row {
         ensures sum { result ≡ share_sum self.now }
         ensures bound { result ≤ row_length self.now * (2 ^ 32 - 1) }
     {
-        match &self.first {
-            None => 0,
-            Some(cell) => u64::from(cell.part.kind.share()) + cell.rest.share_sum(),
+        let (mut row, mut sum) = (self, 0);
+        while let Some(cell) = &row.first {
+            sum += u64::from(cell.part.kind.share());
+            row = &cell.rest;
         }
-    }
-
-    /// The share that a newcomer to the row gets: the mean of its nodes' shares, or 65,536 in an empty row.
-    pub fn newcomer_share(&self) -> u32
-        requires { row_length self.now ≤ 256 }
-        ensures { result ≡ newcomer_share self.now }
-    {
-        mean(self.share_sum(), self.len_up_to(256))
+        sum
     }
 
     /// How many nodes the row has beside this one, but no more than are counted here: `most`.
     pub fn len_but_up_to(&self, id: ConId, most: usize) -> usize
         ensures { result ≡ min most (row_length (but id self.now)) }
     {
-        match &self.first {
-            None => 0,
-            Some(cell) if cell.part.id == id => cell.rest.len_up_to(most),
-            Some(_) if most == 0 => 0,
-            Some(cell) => 1 + cell.rest.len_but_up_to(id, most - 1),
+        let (mut row, mut length) = (self, 0);
+        while let Some(cell) = &row.first {
+            if cell.part.id == id {
+                return length + cell.rest.len_up_to(most - length);
+            }
+            if length == most {
+                return most;
+            }
+            length += 1;
+            row = &cell.rest;
         }
+        length
     }
 
     /// The sum of the shares of the row's nodes beside this one.
@@ -134,11 +149,23 @@ impl Row {
         ensures sum { result ≡ share_sum (but id self.now) }
         ensures bound { result ≤ row_length (but id self.now) * (2 ^ 32 - 1) }
     {
-        match &self.first {
-            None => 0,
-            Some(cell) if cell.part.id == id => cell.rest.share_sum(),
-            Some(cell) => u64::from(cell.part.kind.share()) + cell.rest.share_sum_but(id),
+        let (mut row, mut sum) = (self, 0);
+        while let Some(cell) = &row.first {
+            if cell.part.id == id {
+                return sum + cell.rest.share_sum();
+            }
+            sum += u64::from(cell.part.kind.share());
+            row = &cell.rest;
         }
+        sum
+    }
+
+    /// The share that a newcomer to the row gets: the mean of its nodes' shares, or 65,536 in an empty row.
+    pub fn newcomer_share(&self) -> u32
+        requires { row_length self.now ≤ 256 }
+        ensures { result ≡ newcomer_share self.now }
+    {
+        mean(self.share_sum(), self.len_up_to(256))
     }
 
     /// The share that a node gets that moves within or to the row: the mean of the others' shares.

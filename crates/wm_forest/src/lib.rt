@@ -11,6 +11,7 @@ mod kind;
 mod look;
 mod marks;
 mod part;
+mod passing;
 mod place;
 mod placing;
 mod raise;

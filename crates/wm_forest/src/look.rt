@@ -30,22 +30,29 @@ impl Row {
     pub fn nth(&self, number: u32) -> Option<ConId>
         ensures { result ≡ nth_id number self.now }
     {
-        match &self.first {
-            None => None,
-            Some(cell) if number == 0 => Some(cell.part.id),
-            Some(cell) => cell.rest.nth(number - 1),
+        let (mut row, mut left) = (self, number);
+        while let Some(cell) = &row.first {
+            if left == 0 {
+                return Some(cell.part.id);
+            }
+            row = &cell.rest;
+            left -= 1;
         }
+        None
     }
 
     /// The row's node that is this one or holds it.
     fn holder(&self, id: ConId) -> Option<ConId>
         ensures { result ≡ row_holder id self.now }
     {
-        match &self.first {
-            None => None,
-            Some(cell) if cell.holds(id) => Some(cell.part.id),
-            Some(cell) => cell.rest.holder(id),
+        let mut row = self;
+        while let Some(cell) = &row.first {
+            if cell.holds(id) {
+                return Some(cell.part.id);
+            }
+            row = &cell.rest;
         }
+        None
     }
 
     /// The row's node that is the first by recency, by itself or what is below it.
@@ -61,11 +68,14 @@ impl Row {
     pub fn leaf_at(&self, recency: &[ConId], id: ConId) -> ConId
         ensures { result ≡ leaf_at recency.now self.now id }
     {
-        match &self.first {
-            None => id,
-            Some(cell) if cell.holds(id) => cell.leaf(recency),
-            Some(cell) => cell.rest.leaf_at(recency, id),
+        let mut row = self;
+        while let Some(cell) = &row.first {
+            if cell.holds(id) {
+                return cell.leaf(recency);
+            }
+            row = &cell.rest;
         }
+        id
     }
 }
 

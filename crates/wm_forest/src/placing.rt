@@ -53,20 +53,20 @@ impl Row {
             ((has id self.now ≡ false) × (room_under (room_by (spot_in row id self.now)) (first_part (only id self.now)) ≡ 0))
             (λ room. (has id self.now ≡ true) × (room ≡ room_under (room_by (spot_in row id self.now)) (first_part (only id self.now)))) }
     {
-        let cell = match &self.first {
-            None => return None,
-            Some(cell) => cell,
-        };
-        if cell.part.id == id {
-            return Some(room_below(row.room, &cell.part.kind));
+        let mut left = self;
+        while let Some(cell) = &left.first {
+            if cell.part.id == id {
+                return Some(room_below(row.room, &cell.part.kind));
+            }
+            if let Some(room) = cell.kids.room_under(row.below(true, &cell.part), id) {
+                return Some(room);
+            }
+            if let Some(room) = cell.floats.room_under(row.below(false, &cell.part), id) {
+                return Some(room);
+            }
+            left = &cell.rest;
         }
-        if let Some(room) = cell.kids.room_under(row.below(true, &cell.part), id) {
-            return Some(room);
-        }
-        if let Some(room) = cell.floats.room_under(row.below(false, &cell.part), id) {
-            return Some(room);
-        }
-        cell.rest.room_under(row, id)
+        None
     }
 
     /// How many levels the row of the node may have.

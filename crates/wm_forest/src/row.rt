@@ -12,7 +12,6 @@ use wm_base::ConId;
 
 /// A row of nodes, from its first cell on.
 #[cycle(row)]
-#[derive(Drop)]
 pub struct Row {
     pub first: Option<Box<Cell>>,
 }
@@ -44,6 +43,25 @@ impl Model for Row {
     ghost use Rattle.wm_forest.specs.ForestFalls.{depth_le-node_count};
 
     ghost size_decreases = { λ a h. depth_le-node_count a };
+}
+
+/// Goes along the row, and down at each of its nodes, so that a long row takes no more of the stack than a short one.
+impl Drop for Row {
+    fn drop(mut self) {
+        loop {
+            let Row { first } = self;
+            let Some(cell) = first else { return };
+            let Cell {
+                part: _,
+                kids,
+                floats,
+                rest,
+            } = Box::into_inner(cell);
+            drop(kids);
+            drop(floats);
+            self = rest;
+        }
+    }
 }
 
 impl Cell {
@@ -109,12 +127,14 @@ impl Row {
     pub fn has(&self, id: ConId) -> bool
         ensures { result ≡ has id self.now }
     {
-        match &self.first {
-            None => false,
-            Some(cell) => {
-                cell.part.id == id || cell.kids.has(id) || cell.floats.has(id) || cell.rest.has(id)
+        let mut row = self;
+        while let Some(cell) = &row.first {
+            if cell.part.id == id || cell.kids.has(id) || cell.floats.has(id) {
+                return true;
             }
+            row = &cell.rest;
         }
+        false
     }
 
     /// The cell of the node.
@@ -123,20 +143,20 @@ impl Row {
             ((has id self.now ≡ false) × (only id self.now ≡ end))
             (λ cell. (has id self.now ≡ true) × (only id self.now ≡ alone cell.now)) }
     {
-        let cell = match &self.first {
-            None => return None,
-            Some(cell) => cell,
-        };
-        if cell.part.id == id {
-            return Some(cell);
+        let mut row = self;
+        while let Some(cell) = &row.first {
+            if cell.part.id == id {
+                return Some(cell);
+            }
+            if let Some(found) = cell.kids.find(id) {
+                return Some(found);
+            }
+            if let Some(found) = cell.floats.find(id) {
+                return Some(found);
+            }
+            row = &cell.rest;
         }
-        if let Some(found) = cell.kids.find(id) {
-            return Some(found);
-        }
-        if let Some(found) = cell.floats.find(id) {
-            return Some(found);
-        }
-        cell.rest.find(id)
+        None
     }
 
     /// The row in which the node stands; `whole` is the row that this one ends.
@@ -144,19 +164,19 @@ impl Row {
         ensures { MatchOption result (has id self.now ≡ false)
             (λ row. (has id self.now ≡ true) × (row.now ≡ row_with id whole.now self.now)) }
     {
-        let cell = match &self.first {
-            None => return None,
-            Some(cell) => cell,
-        };
-        if cell.part.id == id {
-            return Some(whole);
+        let mut row = self;
+        while let Some(cell) = &row.first {
+            if cell.part.id == id {
+                return Some(whole);
+            }
+            if let Some(found) = cell.kids.row_with(&cell.kids, id) {
+                return Some(found);
+            }
+            if let Some(found) = cell.floats.row_with(&cell.floats, id) {
+                return Some(found);
+            }
+            row = &cell.rest;
         }
-        if let Some(row) = cell.kids.row_with(&cell.kids, id) {
-            return Some(row);
-        }
-        if let Some(row) = cell.floats.row_with(&cell.floats, id) {
-            return Some(row);
-        }
-        cell.rest.row_with(whole, id)
+        None
     }
 }

@@ -90,35 +90,34 @@ impl Row {
         ensures value { result ≡ spot_in row id self.now }
         ensures there { is_some result ≡ has id self.now }
     {
-        let cell = match &self.first {
-            None => return None,
-            Some(cell) => cell,
-        };
-        if cell.part.id == id {
-            return Some(row.of(&cell.part));
+        let mut left = self;
+        while let Some(cell) = &left.first {
+            if cell.part.id == id {
+                return Some(row.of(&cell.part));
+            }
+            if let Some(spot) = cell.kids.spot(row.below(true, &cell.part), id) {
+                return Some(spot);
+            }
+            if let Some(spot) = cell.floats.spot(row.below(false, &cell.part), id) {
+                return Some(spot);
+            }
+            left = &cell.rest;
         }
-        if let Some(spot) = cell.kids.spot(row.below(true, &cell.part), id) {
-            return Some(spot);
-        }
-        if let Some(spot) = cell.floats.spot(row.below(false, &cell.part), id) {
-            return Some(spot);
-        }
-        cell.rest.spot(row, id)
+        None
     }
 
     /// Whether the row and what is below it have at most so many levels.
     pub fn fits(&self, room: u32) -> bool
         ensures { result ≡ fits room self.now }
     {
-        match &self.first {
-            None => true,
-            Some(cell) => {
-                room > 0
-                    && cell.kids.fits(room - 1)
-                    && cell.floats.fits(room - 1)
-                    && cell.rest.fits(room)
+        let mut row = self;
+        while let Some(cell) = &row.first {
+            if room == 0 || !cell.kids.fits(room - 1) || !cell.floats.fits(room - 1) {
+                return false;
             }
+            row = &cell.rest;
         }
+        true
     }
 }
 

@@ -57,32 +57,40 @@ pub fn first_id(row: &Cursor<'_>) -> Option<ConId>
 pub fn last_id(row: Cursor<'_>) -> Option<ConId>
     ensures { result ≡ last_id row.entry }
 {
-    let part = row.part()?;
-    last_id(row.rest()).or(Some(part.id))
+    let mut last = None;
+    let mut row = row;
+    while let Some(part) = row.part() {
+        last = Some(part.id);
+        row = row.rest();
+    }
+    last
 }
 
 /// The node after this one in the row.
 fn after(row: &Cursor<'_>, con: ConId) -> Option<ConId>
     ensures { result ≡ after con row.now }
 {
-    let part = row.part()?;
-    let rest = row.rest();
-    if part.id == con {
-        first_id(&rest)
-    } else {
-        after(&rest, con)
+    let mut id = row.part()?.id;
+    let mut rest = row.rest();
+    'nodes: while id != con {
+        id = rest.part()?.id;
+        rest = rest.rest();
     }
+    first_id(&rest)
 }
 
 /// The node before this one in the row.
 fn before(row: &Cursor<'_>, con: ConId) -> Option<ConId>
     ensures { result ≡ before con row.now }
 {
-    let part = row.part()?;
-    let rest = row.rest();
-    if first_id(&rest) == Some(con) {
-        Some(part.id)
-    } else {
-        before(&rest, con)
+    let mut id = row.part()?.id;
+    let mut rest = row.rest();
+    while let Some(next) = rest.part() {
+        if next.id == con {
+            return Some(id);
+        }
+        id = next.id;
+        rest = rest.rest();
     }
+    None
 }

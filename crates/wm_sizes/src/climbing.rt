@@ -75,30 +75,32 @@ fn rung_at(axis: Axis, part: &Part, kids: Cursor<'_>, node: ConId) -> Option<Run
 
 /// The node of the row that is the container or holds it, with the nearest rung. `None` exactly where the container is
 /// not here.
-fn climb(row: Cursor<'_>, con: ConId, axis: Axis) -> Option<Climbed>
+fn climb(mut row: Cursor<'_>, con: ConId, axis: Axis) -> Option<Climbed>
     ensures { result ≡ climb axis con row.entry }
 {
-    let part = row.part()?;
-    if part.id == con {
-        return Some(Climbed {
-            child: con,
-            rung: None,
-        });
+    while let Some(part) = row.part() {
+        if part.id == con {
+            return Some(Climbed {
+                child: con,
+                rung: None,
+            });
+        }
+        if let Some(below) = climb(row.kids(), con, axis) {
+            let rung = below.rung.or(rung_at(axis, part, row.kids(), below.child));
+            return Some(Climbed {
+                child: part.id,
+                rung,
+            });
+        }
+        if let Some(below) = climb(row.floats(), con, axis) {
+            return Some(Climbed {
+                child: part.id,
+                rung: below.rung,
+            });
+        }
+        row = row.rest();
     }
-    if let Some(below) = climb(row.kids(), con, axis) {
-        let rung = below.rung.or(rung_at(axis, part, row.kids(), below.child));
-        return Some(Climbed {
-            child: part.id,
-            rung,
-        });
-    }
-    if let Some(below) = climb(row.floats(), con, axis) {
-        return Some(Climbed {
-            child: part.id,
-            rung: below.rung,
-        });
-    }
-    climb(row.rest(), con, axis)
+    None
 }
 
 /// The nearest rung above the container along the axis.
@@ -109,18 +111,20 @@ pub(crate) fn rung_of(t: &Tree, con: ConId, axis: Axis) -> Option<Rung>
 }
 
 /// The children of a node. `None` exactly where it is not here.
-pub(crate) fn kids_in<'a>(row: Cursor<'a>, id: ConId) -> Option<Cursor<'a>>
+pub(crate) fn kids_in<'a>(mut row: Cursor<'a>, id: ConId) -> Option<Cursor<'a>>
     ensures { MatchOption result (has id row.entry ≡ false) (λ kids. (has id row.entry ≡ true) × (kids ≡ first_kids (only id row.entry))) }
 {
-    let part = row.part()?;
-    if part.id == id {
-        return Some(row.kids());
+    while let Some(part) = row.part() {
+        if part.id == id {
+            return Some(row.kids());
+        }
+        if let Some(kids) = kids_in(row.kids(), id) {
+            return Some(kids);
+        }
+        if let Some(kids) = kids_in(row.floats(), id) {
+            return Some(kids);
+        }
+        row = row.rest();
     }
-    if let Some(kids) = kids_in(row.kids(), id) {
-        return Some(kids);
-    }
-    if let Some(kids) = kids_in(row.floats(), id) {
-        return Some(kids);
-    }
-    kids_in(row.rest(), id)
+    None
 }

@@ -127,18 +127,22 @@ impl Deal {
     }
 
     /// Whether the shares of all children of the row are such as they may have.
-    pub(crate) fn fits_all(self, row: &Cursor<'_>, turn: u64) -> bool
+    pub(crate) fn fits_all(self, mut row: Cursor<'_>, mut turn: u64) -> bool
         requires small { self.amount ≤ 2305843009213693952 }
-        requires few { turn + row_length row.now ≤ 1000 }
-        ensures { result ≡ fits_all self turn (siblings row.now) }
+        requires few { turn + row_length row ≤ 1000 }
+        ensures { result ≡ fits_all self turn (siblings row.entry) }
     {
-        let Some(part) = row.part() else {
-            return true;
-        };
-        let child = Sibling {
-            id: part.id,
-            share: part.kind.share(),
-        };
-        self.fits(child, turn) && self.fits_all(&row.rest(), self.turn_after(part.id, turn))
+        while let Some(part) = row.part() {
+            let child = Sibling {
+                id: part.id,
+                share: part.kind.share(),
+            };
+            if !self.fits(child, turn) {
+                return false;
+            }
+            turn = self.turn_after(part.id, turn);
+            row = row.rest();
+        }
+        true
     }
 }

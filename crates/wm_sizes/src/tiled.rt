@@ -51,10 +51,16 @@ fn count(row: &Cursor<'_>) -> u64
     requires { row_length row.now ≤ 256 }
     ensures { result ≡ row_length row.now }
 {
-    match row.part() {
-        None => 0,
-        Some(_) => 1 + count(&row.rest()),
+    if row.part().is_none() {
+        return 0;
     }
+    let mut number = 1;
+    let mut rest = row.rest();
+    while let Some(_part) = rest.part() {
+        number += 1;
+        rest = rest.rest();
+    }
+    number
 }
 
 /// The one child that gives to the node or takes from it. `None` where all others do, or none is there.
@@ -106,34 +112,36 @@ fn deal_of(growth: Growth, node: ConId, length: u32, row: &Cursor<'_>) -> Deal
 }
 
 /// Whether there is no length of which pixels could be taken, or some share would not be such as it may be.
-fn cannot(growth: Growth, length: u32, deal: Deal, row: &Cursor<'_>) -> bool
+fn cannot(growth: Growth, length: u32, deal: Deal, row: Cursor<'_>) -> bool
     requires small { deal.amount ≤ 2305843009213693952 }
-    requires few { row_length row.now ≤ 256 }
-    ensures { result ≡ cannot growth length deal row.now }
+    requires few { row_length row ≤ 256 }
+    ensures { result ≡ cannot growth length deal row.entry }
 {
     growth.ppt == 0 && length == 0 || !deal.fits_all(row, 0)
 }
 
 /// The row's node with this number, from 0, and its share.
-fn nth_sibling(row: &Cursor<'_>, number: u32) -> Option<Sibling>
-    ensures { result ≡ nth_sibling number (siblings row.now) }
+fn nth_sibling(mut row: Cursor<'_>, mut number: u32) -> Option<Sibling>
+    ensures { result ≡ nth_sibling number (siblings row.entry) }
 {
-    let part = row.part()?;
-    if number == 0 {
-        Some(Sibling {
-            id: part.id,
-            share: part.kind.share(),
-        })
-    } else {
-        nth_sibling(&row.rest(), number - 1)
+    while let Some(part) = row.part() {
+        if number == 0 {
+            return Some(Sibling {
+                id: part.id,
+                share: part.kind.share(),
+            });
+        }
+        number -= 1;
+        row = row.rest();
     }
+    None
 }
 
 /// The child with this number, from 0, and its share.
 fn child_at(t: &Tree, parent: ConId, number: u32) -> Option<Sibling>
     ensures { result ≡ nth_sibling number (siblings (children_of parent t.now)) }
 {
-    nth_sibling(&kids_in(t.nodes(), parent)?, number)
+    nth_sibling(kids_in(t.nodes(), parent)?, number)
 }
 
 /// Gives the children, from the one with this number on, their shares after the deal. All shares are read before the
@@ -167,7 +175,7 @@ fn share_anew(t: &mut Tree, rung: Rung, growth: Growth) -> Result<(), Refusal>
     }
     let length = length_of(t, rung.parent, growth.side);
     let deal = deal_of(growth, rung.node, length, &row);
-    if cannot(growth, length, deal, &row) {
+    if cannot(growth, length, deal, row) {
         return Err(Refusal::NoTarget(ErrorText::CannotResize));
     }
     hand_out(t, rung.parent, deal, 0, 0);

@@ -66,12 +66,7 @@ fn bring(t: &mut Tree, w: ConId, output: ConId)
 fn other_space(t: &Tree, w: ConId, own: ConId) -> Option<Key>
     ensures { result ≡ other_space w own t.now }
 {
-    best_in(
-        node_at(t.nodes().kids(), own).kids(),
-        Pick::But(w),
-        false,
-        None,
-    )
+    best_in(node_at(t.nodes().kids(), own).kids(), Pick::But(w), false)
 }
 
 /// Where the output shows the workspace, makes it show the first of its others, or a new one.

@@ -19,11 +19,14 @@ fn is_output_called(kind: &NodeKind, name: &str) -> bool
 fn output_in_row(row: Cursor<'_>, name: &str) -> Option<ConId>
     ensures { result ≡ output_in_row name.now row.entry }
 {
-    let part = row.part()?;
-    if is_output_called(&part.kind, name) {
-        return Some(part.id);
+    let mut row = row;
+    while let Some(part) = row.part() {
+        if is_output_called(&part.kind, name) {
+            return Some(part.id);
+        }
+        row = row.rest();
     }
-    output_in_row(row.rest(), name)
+    None
 }
 
 /// The output of this name.
@@ -46,22 +49,28 @@ fn is_space_called(kind: &NodeKind, name: &str) -> bool
 fn space_in_row(row: Cursor<'_>, name: &str) -> Option<ConId>
     ensures { result ≡ space_in_row name.now row.entry }
 {
-    let part = row.part()?;
-    if is_space_called(&part.kind, name) {
-        return Some(part.id);
+    let mut row = row;
+    while let Some(part) = row.part() {
+        if is_space_called(&part.kind, name) {
+            return Some(part.id);
+        }
+        row = row.rest();
     }
-    space_in_row(row.rest(), name)
+    None
 }
 
 /// The first workspace on a row of outputs that has the name.
 fn space_on(row: Cursor<'_>, name: &str) -> Option<ConId>
     ensures { result ≡ space_on name.now row.entry }
 {
-    let _part = row.part()?;
-    match space_in_row(row.kids(), name) {
-        Some(found) => Some(found),
-        None => space_on(row.rest(), name),
+    let mut row = row;
+    'outputs: while row.part().is_some() {
+        if let Some(found) = space_in_row(row.kids(), name) {
+            return Some(found);
+        }
+        row = row.rest();
     }
+    None
 }
 
 /// The workspace of this name.
@@ -75,22 +84,28 @@ pub(crate) fn space_named(t: &Tree, name: &str) -> Option<ConId>
 fn other_in_row(row: Cursor<'_>, w: ConId, name: &str) -> bool
     ensures { result ≡ other_in_row w name.now row.entry }
 {
-    match row.part() {
-        None => false,
-        Some(part) => {
-            (part.id != w && is_space_called(&part.kind, name)) || other_in_row(row.rest(), w, name)
+    let mut row = row;
+    while let Some(part) = row.part() {
+        if part.id != w && is_space_called(&part.kind, name) {
+            return true;
         }
+        row = row.rest();
     }
+    false
 }
 
 /// Whether a workspace on the row of outputs other than this one has the name.
 fn other_on(row: Cursor<'_>, w: ConId, name: &str) -> bool
     ensures { result ≡ other_on w name.now row.entry }
 {
-    match row.part() {
-        None => false,
-        Some(_) => other_in_row(row.kids(), w, name) || other_on(row.rest(), w, name),
+    let mut row = row;
+    'outputs: while row.part().is_some() {
+        if other_in_row(row.kids(), w, name) {
+            return true;
+        }
+        row = row.rest();
     }
+    false
 }
 
 /// Whether another workspace has the name.

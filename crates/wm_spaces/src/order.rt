@@ -1,5 +1,5 @@
 //! The order of workspaces: by the number with which the name begins, those without one last, and then by id.
-ghost use Rattle.std.specs.Prelude.{◌≡◌};
+ghost use Rattle.std.specs.Prelude.{◌≡◌, None};
 ghost use Rattle.wm_shared.specs.Keys.{comes_before};
 ghost use Rattle.wm_spaces.specs.Order.{best_on, best_with, better, greater, is_digit, key_if, keys_in, num, number_on, picks, place_of, small, space_key};
 ghost use Rattle.wm_forest.specs.Look.{space_kind};
@@ -105,27 +105,30 @@ fn better(back: bool, a: Option<Key>, b: Option<Key>) -> Option<Key>
     if back { greater(a, b) } else { lesser(a, b) }
 }
 
-/// The last or first of the workspaces of a row that are looked at, and another one.
-#[tactic(auto, using(crate::proofs::OrderLemmas::best_step))]
-pub(crate) fn best_in(row: Cursor<'_>, pick: Pick, back: bool, other: Option<Key>) -> Option<Key>
-    ensures { result ≡ best_with back (keys_in pick row.entry) other }
+/// The last or first of the workspaces of a row that are looked at.
+#[tactic(auto, using(crate::proofs::OrderLemmas::best_of))]
+pub(crate) fn best_in(row: Cursor<'_>, pick: Pick, back: bool) -> Option<Key>
+    ensures { result ≡ best_with back (keys_in pick row.entry) None }
 {
-    match row.part() {
-        None => other,
-        Some(part) => better(
-            back,
-            key_if(pick, part),
-            best_in(row.rest(), pick, back, other),
-        ),
+    let mut best = None;
+    let mut row = row;
+    while let Some(part) = row.part() {
+        best = better(back, best, key_if(pick, part));
+        row = row.rest();
     }
+    best
 }
 
 /// The last or first of the workspaces on a row of outputs that are looked at.
+#[tactic(auto, using(crate::proofs::OrderLemmas::best_of_all))]
 pub(crate) fn best_on(row: Cursor<'_>, pick: Pick, back: bool) -> Option<Key>
     ensures { result ≡ best_on back pick row.entry }
 {
-    match row.part() {
-        None => None,
-        Some(_) => best_in(row.kids(), pick, back, best_on(row.rest(), pick, back)),
+    let mut best = None;
+    let mut row = row;
+    'outputs: while row.part().is_some() {
+        best = better(back, best, best_in(row.kids(), pick, back));
+        row = row.rest();
     }
+    best
 }

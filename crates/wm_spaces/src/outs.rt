@@ -6,6 +6,7 @@ ghost use Rattle.wm_tree.specs.Outputs.{IsOutput};
 ghost use Rattle.wm_tree.specs.Sound.{IsSound};
 
 use crate::names::output_named;
+use crate::targets::node_at;
 use wm_base::ConId;
 use wm_language::OutArg;
 use wm_shared::{output_from, output_of};
@@ -22,11 +23,7 @@ fn first_id(row: Cursor<'_>) -> Option<ConId>
 fn behind(row: Cursor<'_>, con: ConId) -> Option<ConId>
     ensures { result ≡ nth_id 0 (rest_of (node_in con row.entry)) }
 {
-    let part = row.part()?;
-    if part.id == con {
-        return first_id(row.rest());
-    }
-    behind(row.rest(), con)
+    first_id(node_at(row, con).rest())
 }
 
 /// The output after this one, the first after the last.

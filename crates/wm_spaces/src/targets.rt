@@ -83,10 +83,14 @@ fn focused_key(t: &Tree) -> Key
 pub(crate) fn node_at(row: Cursor<'_>, id: ConId) -> Cursor<'_>
     ensures { result ≡ node_in id row.entry }
 {
-    match row.part() {
-        Some(part) if part.id != id => node_at(row.rest(), id),
-        _ => row,
+    let mut row = row;
+    while let Some(part) = row.part() {
+        if part.id == id {
+            return row;
+        }
+        row = row.rest();
     }
+    row
 }
 
 /// The last or first of the current output's workspaces (`here`), or of all.
@@ -95,7 +99,7 @@ fn best_at(t: &Tree, here: bool, back: bool, pick: Pick) -> Option<Key>
 {
     let outputs = t.nodes().kids();
     if here {
-        best_in(node_at(outputs, t.current()).kids(), pick, back, None)
+        best_in(node_at(outputs, t.current()).kids(), pick, back)
     } else {
         best_on(outputs, pick, back)
     }

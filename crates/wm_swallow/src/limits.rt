@@ -31,7 +31,7 @@ pub(crate) fn check(tree: &Tree, workspace: ConId, nodes: &[SavedNode]) -> Resul
     let Some(kids) = kids_of(tree.nodes(), workspace) else {
         return Err(TreeRefusal::Missing(workspace));
     };
-    if let Some(limit) = passed_by_containers(tree, &kids, nodes) {
+    if let Some(limit) = passed_by_containers(tree, kids, nodes) {
         return Err(TreeRefusal::Full { limit });
     }
     if let Some(limit) = passed_by_marks(tree, nodes) {
@@ -41,25 +41,27 @@ pub(crate) fn check(tree: &Tree, workspace: ConId, nodes: &[SavedNode]) -> Resul
 }
 
 /// The row of the node's children. `None` exactly where the node is not here.
-fn kids_of<'a>(row: Cursor<'a>, id: ConId) -> Option<Cursor<'a>>
+fn kids_of<'a>(mut row: Cursor<'a>, id: ConId) -> Option<Cursor<'a>>
     ensures { MatchOption result (has id row.entry ≡ false) (λ kids. (has id row.entry ≡ true) × (kids ≡ first_kids (only id row.entry))) }
 {
-    let part = row.part()?;
-    if part.id == id {
-        return Some(row.kids());
+    while let Some(part) = row.part() {
+        if part.id == id {
+            return Some(row.kids());
+        }
+        if let Some(kids) = kids_of(row.kids(), id) {
+            return Some(kids);
+        }
+        if let Some(kids) = kids_of(row.floats(), id) {
+            return Some(kids);
+        }
+        row = row.rest();
     }
-    if let Some(kids) = kids_of(row.kids(), id) {
-        return Some(kids);
-    }
-    if let Some(kids) = kids_of(row.floats(), id) {
-        return Some(kids);
-    }
-    kids_of(row.rest(), id)
+    None
 }
 
 /// The first of the limits on containers that would be passed by appending these to a workspace with such children.
-fn passed_by_containers(tree: &Tree, kids: &Cursor<'_>, nodes: &[SavedNode]) -> Option<Limit>
-    ensures { result ≡ passed_in kids.now (rows nodes.now) tree.now }
+fn passed_by_containers(tree: &Tree, kids: Cursor<'_>, nodes: &[SavedNode]) -> Option<Limit>
+    ensures { result ≡ passed_in kids.entry (rows nodes.now) tree.now }
 {
     if !containers_fit(tree, nodes) {
         Some(Limit::Containers)
@@ -83,16 +85,16 @@ fn containers_fit(tree: &Tree, nodes: &[SavedNode]) -> bool
 }
 
 /// How much of the room is left beside the containers of the row. `None` where they do not fit.
-fn room_beside(row: Cursor<'_>, room: usize) -> Option<usize>
+fn room_beside(mut row: Cursor<'_>, mut room: usize) -> Option<usize>
     ensures { MatchOption result (room < con_count row.entry) (λ left. left + con_count row.entry ≡ room) }
 {
-    let Some(part) = row.part() else {
-        return Some(room);
-    };
-    let room = room_beside_one(&part.kind, room)?;
-    let room = room_beside(row.kids(), room)?;
-    let room = room_beside(row.floats(), room)?;
-    room_beside(row.rest(), room)
+    while let Some(part) = row.part() {
+        room = room_beside_one(&part.kind, room)?;
+        room = room_beside(row.kids(), room)?;
+        room = room_beside(row.floats(), room)?;
+        row = row.rest();
+    }
+    Some(room)
 }
 
 /// How much of the room is left beside one node, where that is a container.
@@ -131,8 +133,8 @@ fn room_after_kind(kind: &SavedKind, room: usize) -> Option<usize>
 
 /// Whether these have room beside such children of one container.
 #[tactic(auto, using(crate::proofs::SavedLemmas::row_length_is))]
-fn children_fit(kids: &Cursor<'_>, nodes: &[SavedNode]) -> bool
-    ensures { result ≡ not (nat_lt 256 (row_length kids.now + row_size (rows nodes.now))) }
+fn children_fit(kids: Cursor<'_>, nodes: &[SavedNode]) -> bool
+    ensures { result ≡ not (nat_lt 256 (row_length kids.entry + row_size (rows nodes.now))) }
 {
     match room_in(kids, MAX_CHILDREN) {
         Some(room) => nodes.len() <= room,
@@ -141,13 +143,14 @@ fn children_fit(kids: &Cursor<'_>, nodes: &[SavedNode]) -> bool
 }
 
 /// How much of the room is left beside the nodes of a row. `None` where they do not fit.
-fn room_in(row: &Cursor<'_>, room: usize) -> Option<usize>
-    ensures { MatchOption result (room < row_length row.now) (λ left. left + row_length row.now ≡ room) }
+fn room_in(mut row: Cursor<'_>, mut room: usize) -> Option<usize>
+    ensures { MatchOption result (room < row_length row.entry) (λ left. left + row_length row.entry ≡ room) }
 {
-    if row.part().is_none() {
-        return Some(room);
+    while let Some(_part) = row.part() {
+        room = room.checked_sub(1)?;
+        row = row.rest();
     }
-    room_in(&row.rest(), room.checked_sub(1)?)
+    Some(room)
 }
 
 /// The first of the limits on marks and ids that would be passed by appending these.
@@ -174,16 +177,16 @@ fn marks_fit(tree: &Tree, nodes: &[SavedNode]) -> bool
 }
 
 /// How much of the room is left beside the marks of the row's nodes. `None` where they do not fit.
-fn room_beside_marks(row: Cursor<'_>, room: usize) -> Option<usize>
+fn room_beside_marks(mut row: Cursor<'_>, mut room: usize) -> Option<usize>
     ensures { MatchOption result (room < mark_count row.entry) (λ left. left + mark_count row.entry ≡ room) }
 {
-    let Some(part) = row.part() else {
-        return Some(room);
-    };
-    let room = room.checked_sub(part.marks.items().len())?;
-    let room = room_beside_marks(row.kids(), room)?;
-    let room = room_beside_marks(row.floats(), room)?;
-    room_beside_marks(row.rest(), room)
+    while let Some(part) = row.part() {
+        room = room.checked_sub(part.marks.items().len())?;
+        room = room_beside_marks(row.kids(), room)?;
+        room = room_beside_marks(row.floats(), room)?;
+        row = row.rest();
+    }
+    Some(room)
 }
 
 /// Whether there are ids left for these containers and those below them.

@@ -36,17 +36,19 @@ pub fn swallow(
 }
 
 /// The first placeholder of the row, depth first over tiled children, that takes a window with these properties.
-fn taker(row: Cursor<'_>, props: &Props) -> Option<ConId>
+fn taker(mut row: Cursor<'_>, props: &Props) -> Option<ConId>
     ensures { result ≡ takes_at props.now row.entry }
 {
-    let part = row.part()?;
-    if takes(&part.kind, props) {
-        return Some(part.id);
+    while let Some(part) = row.part() {
+        if takes(&part.kind, props) {
+            return Some(part.id);
+        }
+        if let Some(found) = taker(row.kids(), props) {
+            return Some(found);
+        }
+        row = row.rest();
     }
-    if let Some(found) = taker(row.kids(), props) {
-        return Some(found);
-    }
-    taker(row.rest(), props)
+    None
 }
 
 /// Whether this is a placeholder with an entry that matches the properties.

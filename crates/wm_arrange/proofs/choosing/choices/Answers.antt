@@ -5,5 +5,5 @@ use Rattle.wm_arrange.proofs.choosing.choices.Goals as goal
 
 pub returns : goal.returns
 returns c =
-    subst (KnowsOutputs (value_at c.new.result) c.args.tree.now.recency) (c.kids-outputs.ensures ∙ ap first_kids c.nodes.ensures)
+    subst (KnowsOutputs (value_at c.new.result) c.args.tree.now.recency) (c.kids.ensures ∙ ap first_kids c.nodes.ensures)
     (c.shows_one_on.ensures (value_at c.new.result) c.args.tree.now.recency c.if-shows_one_on.false)

@@ -1,5 +1,17 @@
+use Rattle.std.proofs.Common.{◌≡◌, ◌≤◌}
+use Rattle.wm_focus.specs.Within.{within}
 use Rattle.wm_forest.specs.Forest.{node_count}
 use Rattle.wm_focus.proofs.within.+within.Given as goal
 
 abbrev pub decreases-within : goal.decreases-within
 decreases-within l = node_count l.row
+
+abbrev pub decreases-loop-part : goal.decreases-loop-part
+decreases-loop-part l = node_count l.row
+
+-- what is found in what is left of the row is what is found in the row
+abbrev pub invariant-loop-part : goal.invariant-loop-part
+invariant-loop-part l = record {
+  left : node_count l.row ≤ node_count l.fn.row;
+  found : within l.a l.b l.row ≡ within l.a l.b l.fn.row;
+}

@@ -1,5 +1,0 @@
-use Rattle.wm_forest.specs.Forest.{node_count}
-use Rattle.wm_sizes.proofs.tiled.+count.Given as goal
-
-abbrev pub decreases-count : goal.decreases-count
-decreases-count l = node_count l.row.now
