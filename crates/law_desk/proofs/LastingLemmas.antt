@@ -24,10 +24,15 @@ use Rattle.wm_txn.specs.History as commits
 use Rattle.wm_base.specs.declared.ids.Buffer.{Buffer}
 use Rattle.law_desk.specs.LastingLaws.{IsInOrder}
 use Rattle.wm_history.specs.Outputs.{add_answer, added, remove_answer, removed, reserve_answer, reserved, reserved_at, unless_full}
-use Rattle.wm_history.specs.Windows.{AreContainers, is_window, owned, retitled, with_urgency, with_urgent, without_urgent, without_windows}
+use Rattle.wm_focus.specs.Swaps.{is_window_kind}
+use Rattle.wm_opens.specs.Opens.{is_window_of, is_window_part}
+use Rattle.wm_forest.specs.declared.part.ConKind.{ConKind}
+use Rattle.wm_forest.specs.declared.part.ConKind.TheVariants.{Split, Window, Placeholder}
+use Rattle.wm_forest.specs.declared.part.ConPart.{ConPart}
+use Rattle.wm_history.specs.Windows.{AreContainers, is_caller, is_window, kind_owner, owned, part_owner, retitled, with_urgency, with_urgent, without_urgent, without_windows}
 use Rattle.wm_floats.specs.Fullscreen.{fills_alone}
 use Rattle.law_fullscreen.proofs.SingleLemmas.{has_of, single_of, single_opening}
-use Rattle.law_lasting.proofs.LastSteps.{has_added, has_closed, has_detached, has_mapped, has_removed, has_reserved, has_swallowed, has_titled, has_urgent}
+use Rattle.law_lasting.proofs.LastSteps.{has_added, has_calmed, has_closed, has_detached, has_mapped, has_removed, has_reserved, has_swallowed, has_titled, has_urged}
 use Rattle.law_lasting.proofs.LastTexts.{HasLast, has_outcome, has_settled}
 use Rattle.law_lasting.proofs.ScratchpadLemmas.{back, both_lasts, from, openings_empty}
 use Rattle.law_lasting.proofs.SingleLasts.{single_lasts}
@@ -47,7 +52,7 @@ use Rattle.wm_forest.specs.Change.{without}
 use Rattle.wm_forest.specs.Forest.{end}
 use Rattle.wm_forest.specs.Look.{con_kind, has, kind_of, only}
 use Rattle.wm_tree.specs.Outputs.{passed_by_output}
-use Rattle.wm_forest.specs.Recency.{lists, outside, without_id}
+use Rattle.wm_forest.specs.Recency.{lists, outside}
 use Rattle.wm_tree.specs.Sound.{IsSound}
 use Rattle.wm_tree.specs.TreeValue.{TreeValue, newcomer_place, workspace_of}
 use Rattle.wm_forest.specs.RootId.{id}
@@ -71,6 +76,23 @@ may_add true fit passed h = cc
 may_add false false passed h = cc
 may_add false true None h = (refl, refl, refl)
 may_add false true (Some limit) h = cc
+
+-- a caller's window is one
+owned_kind : (who : ℕ) (kind : ConKind) → is_caller who (kind_owner kind) ≡ true → is_window_kind kind ≡ true
+owned_kind who (Split layout last) h = cc
+owned_kind who (Window props owner natural) h = refl
+owned_kind who (Placeholder props swallows) h = cc
+
+owned_part : (who : ℕ) (o : Option ConPart) → is_caller who (part_owner o) ≡ true → is_window_part o ≡ true
+owned_part who None h = cc
+owned_part who (Some part) h = owned_kind who part.kind h
+
+answered : (who : ℕ) (v : ConId) (t : TreeValue) → window_answer t who v ≡ answers.Done → is_window_of t v ≡ true
+answered who v t h = by (is_window t who v) refl h
+  where
+    by : (b : Bool) → is_window t who v ≡ b → cond b answers.Done answers.NoView ≡ answers.Done → is_window_of t v ≡ true
+    by true e z = owned_part who (kind_of con_kind v t.nodes) e
+    by false e z = cc
 
 module _ {P : TreeValue → Type 0} (k : Lasts P) where
   has_without : (vs : List ConId) (t : TreeValue) → AreContainers vs t → HasLast P t → HasLast P (without_windows vs t)
@@ -120,13 +142,13 @@ module _ {P : TreeValue → Type 0} (k : Lasts P) where
   has_map env who props buffer text None t e g =
       has_then env text (mapped_id props t) (mapped t who props buffer.size) (has_come who props buffer.size (swallower props t) t refl e g)
 
-  has_urgency : (v : ConId) (on : Bool) (t : TreeValue) → HasLast P t → HasLast P (with_urgency v on t)
-  has_urgency v true t g = has_settled k (with_urgent v t) (step (lists v t.urgent))
+  has_urgency : (v : ConId) (on : Bool) (t : TreeValue) → is_window_of t v ≡ true → HasLast P t → HasLast P (with_urgency v on t)
+  has_urgency v true t window g = has_settled k (with_urgent v t) (step (lists v t.urgent) refl)
     where
-      step : (b : Bool) → HasLast P (cond b t (record t { urgent = t.urgent ++ v ∷ [] }))
-      step true = g
-      step false = has_urgent k (t.urgent ++ v ∷ []) t g
-  has_urgency v false t g = has_settled k (without_urgent v t) (has_urgent k (without_id v t.urgent) t g)
+      step : (b : Bool) → lists v t.urgent ≡ b → HasLast P (cond b t (record t { urgent = t.urgent ++ v ∷ [] }))
+      step true e = g
+      step false e = has_urged k v t g window e
+  has_urgency v false t window g = has_settled k (without_urgent v t) (has_calmed k v t g)
 
   has_reserve : (o : Option ConId) (edges : Edges) (t : TreeValue) → HasLast P t → HasLast P (settled (reserved_at o edges t))
   has_reserve None edges t g = has_settled k t g
@@ -155,7 +177,7 @@ module _ {P : TreeValue → Type 0} (k : Lasts P) where
           by true e z = some_part who (kind_of con_kind v t.nodes) e
           by false e z = cc
   has_after env mode t who (Retitle v title) g = has_done (window_answer t who v) (retitled v title t) t g (λ h. has_settled k _ (has_titled k v title t g))
-  has_after env mode t who (Urgent v on) g = has_done (window_answer t who v) (with_urgency v on t) t g (λ h. has_urgency v on t g)
+  has_after env mode t who (Urgent v on) g = has_done (window_answer t who v) (with_urgency v on t) t g (λ h. has_urgency v on t (answered who v t h) g)
   has_after env mode t who Gone g = has_settled k (without_windows (owned who t) t) (has_without (owned who t) t (owned_containers who t) g)
   has_after env mode t who (OutputAdd plan) g = has_done (add_answer plan t) (added plan t) t g (λ h. has_add plan t g h)
   has_after env mode t who (OutputRemove name) g = has_done (remove_answer name t) (removed name t) t g (λ h. has_settled k _ (has_removed k name t g))

@@ -1,2 +1,3 @@
 pub mod LastingLemmas
+pub mod MarkLemmas
 pub mod NamingLemmas

@@ -15,7 +15,7 @@ use Rattle.wm_layouts.specs.Plan.{IsSound as IsSoundPlan}
 use Rattle.wm_tree.proofs.StartLemmas.{sound-opening}
 use Rattle.wm_tree.specs.Sound.{IsSound}
 
-sound : (plan : Plan) → IsSoundPlan plan → IsSound (opening_of plan).opened
+pub sound : (plan : Plan) → IsSoundPlan plan → IsSound (opening_of plan).opened
 sound plan p = sound-opening plan.outputs plan.border plan.inner plan.outer p.some p.few (fit_plans plan.outputs plan.outputs refl p.fit)
 
 pub space_names : (plan : Plan) (history : List Entry) → IsSoundPlan plan → SpaceNamesDiffer (tree (opening_of plan) history)

@@ -1,2 +1,3 @@
 pub mod LastingLaws
+pub mod MarkLaws
 pub mod NamingLaws

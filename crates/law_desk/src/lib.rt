@@ -2,6 +2,7 @@
 #![tactic(auto)]
 
 ghost use Rattle.law_desk.specs.LastingLaws.{HistoriesAreInOrder, HistoriesStayInOrder};
+ghost use Rattle.law_desk.specs.MarkLaws.{HistoriesKeepMarksApart, HistoriesKeepUrgentWindows, HistoriesKeepWindowsAfloat};
 ghost use Rattle.law_desk.specs.NamingLaws.{HistoriesHaveOutputNames, HistoriesHaveSpaceNames};
 
 /// A tree that is in order stays so through each history.
@@ -23,4 +24,20 @@ pub fn histories_have_space_names()
 /// From a sound plan every history leaves a tree in which the names of outputs differ.
 pub fn histories_have_output_names()
     ensures { HistoriesHaveOutputNames }
+{}
+
+/// From a sound plan every history leaves a tree in which no mark is on two containers, nor twice on one.
+pub fn histories_keep_marks_apart()
+    ensures { HistoriesKeepMarksApart }
+{}
+
+/// From a sound plan every history leaves a tree in which each urgent id is a window, and none is urgent twice.
+pub fn histories_keep_urgent_windows()
+    ensures { HistoriesKeepUrgentWindows }
+{}
+
+/// From a sound plan every history leaves a tree in which all that floats on a workspace, or hides in the scratchpad, is a
+/// window with an outer rectangle within the limits.
+pub fn histories_keep_windows_afloat()
+    ensures { HistoriesKeepWindowsAfloat }
 {}

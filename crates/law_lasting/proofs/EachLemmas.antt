@@ -90,7 +90,7 @@ module _ (Q : Part → Type 0) where
       step true q = (p.0, p.1, p.2, tt)
       step false q = q
 
-  each_to_end : (c : ConId) (f : Forest) → Each Q f → Each Q (to_end c f)
+  pub each_to_end : (c : ConId) (f : Forest) → Each Q f → Each Q (to_end c f)
   each_to_end c f p = step (in_row c f)
     where
       step : (b : Bool) → Each Q (cond b (append (but c f) (first_alone (node_in c f))) f)
@@ -127,7 +127,7 @@ module _ (Q : Part → Type 0) where
 
   -- ---- exchanging
 
-  each_replaced : (c : ConId) (node f : Forest) → Each Q node → Each Q f → Each Q (replaced c node f)
+  pub each_replaced : (c : ConId) (node f : Forest) → Each Q node → Each Q f → Each Q (replaced c node f)
   each_replaced c end f q p = each_change c in_place end (λ part kids floats rest r. r) f p
   each_replaced c (con part kids floats rest) f q p = each_change c in_place (con part kids floats rest) (λ pt ks fs rs r. (q.0, q.1, q.2, r.3)) f p
 

@@ -18,7 +18,7 @@ use Rattle.wm_opens.proofs.SureSpaces.{none_of_two}
 use Rattle.wm_shared.specs.Refusing.{full_error}
 use Rattle.wm_shared.specs.Rects.{rect_of}
 use Rattle.wm_spaces.specs.Coming.{free_name, output_added_tree}
-use Rattle.wm_forest.specs.Change.{is_id, without}
+use Rattle.wm_forest.specs.Change.{at, is_id, without}
 use Rattle.wm_forest.specs.declared.kind.KindEdit.TheVariants as edits
 use Rattle.wm_forest.specs.declared.part.NodeKind.{NodeKind}
 use Rattle.wm_forest.specs.declared.part.NodeKind.TheVariants.{Root, Output, Space, Con}
@@ -88,24 +88,32 @@ flags_opening plans border inner outer = (refl, right_outputs 1 _ inner outer pl
 pub flags_added : (plan : OutputPlan) (t : TreeValue) → FlagsOnlyWindows t → FlagsOnlyWindows (output_added_tree plan t)
 flags_added plan t q = each_put Right (Last root) (new_output (id t.next_id) plan (id (t.next_id + 1)) (free_name t) t) t.nodes (refl, (refl, tt, tt, tt), tt, tt) q
 
+-- ---- marks
+
+right_marks : (c : ConId) (marks : List (List ℕ)) (f : Forest) → Each Right f → Each Right (at c marks_word marks f)
+right_marks c marks f q = each_change Right c marks_word marks (λ part kids floats rest p. p) f q
+
 -- ---- the whole
 
 pub flags_last : Lasts FlagsOnlyWindows
 flags_last = record {
-  of_nodes = λ t now e q. subst (Each Right) (sym e) q;
-  editing = λ c edit t calm q. right_edited c edit t.nodes (calm_plain edit calm) q;
+  alike = λ t now e f g h q. subst (Each Right) (sym e) q;
+  editing = λ c edit t calm gives q. right_edited c edit t.nodes (calm_plain edit calm) q;
   renaming = λ was name w t s fits is q. right_edited w (edits.Name name) t.nodes refl q;
-  restating = λ c old now t has keeps q. right_state c old now t.nodes keeps.1 has q;
+  restating = λ c old now t has keeps rects q. right_state c old now t.nodes keeps.1 has q;
   filling = λ c on t s fits q. right_fullscreen c on t q;
-  marking = λ c marks t q. each_change Right c marks_word marks (λ part kids floats rest p. p) t.nodes q;
+  stripping = λ c t q. right_marks c [] t.nodes q;
   unmarking = λ c mark t q. each_change Right c unmark_word mark (λ part kids floats rest p. p) t.nodes q;
+  giving = λ c mark add t s q. right_taken_off (Some c) mark _ (right_marks c _ t.nodes q);
   taking_off = λ keep mark t q. right_taken_off keep mark t.nodes q;
   baring = λ t q. right_bare t.nodes q;
+  urging = λ v t s win new q. q;
+  calming = λ v t q. q;
   raising = λ c t s q. each_raised right_loose c (workspace_of t c) t.nodes q;
-  moving = λ c p t s goal out after q. each_moved right_loose c p t q;
+  moving = λ c p t s goal out floats after q. each_moved right_loose c p t q;
   exchanging = λ a b t s g after q. each_exchanged right_loose (refl, tt, tt, tt) a b (share_in a t.nodes) (share_in b t.nodes) (apart t a b) t.nodes q;
   space_moving = λ w o t s ok out after q. each_put Right (Last o) (only w t.nodes) (without w t.nodes) (each_only Right w t.nodes q) (each_without Right w t.nodes q);
-  going_along = λ v w t low q. each_along right_loose v w t q;
+  going_along = λ v w t low none q. each_along right_loose v w t q;
   hiding = λ c t s fits q.
       let two = none_of_two (window_refusal c t) (full_error (passed_by_move c (Scratchpad (floating_rect c t)) t.nodes)) fits in
       right_hidden c t s (window_is c t two.0).1 q;

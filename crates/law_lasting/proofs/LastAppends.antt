@@ -1,12 +1,22 @@
 -- A layout that is appended keeps what lasts.
-use Rattle.std.proofs.Common.{◌≡◌, ℕ, Bool, true, false, cond, ◌||◌, List, [], ◌∷◌, Option, None, Some, refl, ap, arith}
+use Rattle.std.proofs.Common.{◌≡◌, ◌≢◌, ℕ, Bool, true, false, cond, ◌||◌, not, List, [], ◌∷◌, Option, None, Some, refl, ap, arith}
+use Rattle.std.specs.Prelude.{is_some}
+use Rattle.wm_base.specs.declared.errors.ErrorText.TheVariants as texts
+use Rattle.wm_opens.proofs.SureCommands.{unless}
+use Rattle.wm_opens.proofs.SureMarks.{sure_given}
+use Rattle.wm_shared.proofs.KidLemmas.{con_there}
+use Rattle.wm_shared.specs.Subject.{is_container, is_space}
+use Rattle.wm_tree.proofs.AttachLemmas.{sound-attached}
+use Rattle.wm_tree.proofs.SoundLemmas.{sound-edited}
+use Rattle.wm_forest.proofs.EditLemmas.{fits_state}
+use Rattle.wm_forest.specs.declared.kind.KindEdit.TheVariants as edits
+use Rattle.wm_forest.specs.Spot.{spot_in, top}
 use Rattle.std.specs.Option.{option_map}
 use Rattle.wm_apply.specs.Layouts.{append_refusal, append_tree, layout_named}
 use Rattle.wm_base.specs.declared.ids.ConId.{ConId}
 use Rattle.wm_base.specs.declared.plan.Border.{Border}
 use Rattle.wm_floats.specs.Windows.{state_of}
-use Rattle.wm_focus.specs.Marks.{given_mark}
-use Rattle.law_lasting.proofs.LastSizes.{last_given}
+use Rattle.wm_focus.specs.Marks.{give_refusal, given_mark, is_mark, mark_refusal}
 use Rattle.law_lasting.specs.Lasting.{Lasts}
 use Rattle.wm_opens.proofs.AppendLemmas.{HasNoWindow, no_window}
 use Rattle.wm_opens.proofs.SureAppends.{free_append, named_fit, sure_appended, sure_come_marked}
@@ -16,7 +26,7 @@ use Rattle.wm_swallow.proofs.GrowLemmas.{grown, has_new}
 use Rattle.wm_swallow.proofs.HeldLemmas.{absent}
 use Rattle.wm_swallow.specs.Appending.{appended, come, come_marked, given_marks, state_with}
 use Rattle.wm_swallow.specs.SavedRows.{Saved, none, saved, rows}
-use Rattle.wm_swallow.specs.Steps.{IsFree, IsRoomIn}
+use Rattle.wm_swallow.specs.Steps.{IsFree, IsRoomFor, IsRoomIn}
 use Rattle.wm_forest.proofs.RecencyLemmas.{same_self}
 use Rattle.wm_forest.specs.Change.{append}
 use Rattle.wm_forest.specs.declared.part.ConPart.{ConPart}
@@ -24,7 +34,7 @@ use Rattle.wm_forest.specs.declared.part.Part.{Part}
 use Rattle.wm_forest.specs.declared.place.NewCon.{NewCon}
 use Rattle.wm_forest.specs.declared.place.Place.TheVariants.{Last}
 use Rattle.wm_forest.specs.Forest.{Forest, end, con}
-use Rattle.wm_forest.specs.Look.{con_kind, first_part, has, kind_by, only, same}
+use Rattle.wm_forest.specs.Look.{con_kind, first_kids, first_part, has, kind_by, kind_of, only, same}
 use Rattle.wm_forest.specs.Place.{new_part, rect_at, share_at}
 use Rattle.wm_forest.specs.RootId.{id}
 use Rattle.wm_tree.specs.Sound.{IsSound}
@@ -81,16 +91,35 @@ state_new p newcomer t s there =
     let part : Part = new_part (id t.next_id) (share_at (Last p) t.nodes) t.border (rect_at (Last p)) newcomer in
     ap (λ o. option_map (λ (q : ConPart). q.state) (kind_by con_kind o)) (part_new p part t.nodes (absent (id t.next_id) t.nodes (s.fresh (id t.next_id) (omega arith))) there)
 
+-- ---- each step leaves a sound tree
+
+sound_come : (p : ConId) (border : Border) (newcomer : NewCon) (t : TreeValue) → IsSound t → IsRoomIn p t → IsSound (come p border newcomer t)
+sound_come p border newcomer t s room =
+    let c : ConId = id t.next_id in
+    let more : TreeValue = attached (Last p) newcomer t in
+    let came : IsSound (attached (Last p) newcomer t) = sound-attached (Last p) newcomer t room.there room.place room.free s in
+    sound-edited c (edits.State (state_with border)) more (fits_state (state_with border) (spot_in top c more.nodes) (first_kids (only c more.nodes))) came
+
+there_by : (o : Option ConPart) → is_some o ≡ true → o ≢ None
+there_by None h = cc
+there_by (Some p) h = λ e. cc
+
+sound_given : (c : ConId) (m : List ℕ) (t : TreeValue) → IsSound t → is_container t c ≡ true → mark_refusal c m true false t ≡ None → IsSound (given_mark c m true t)
+sound_given c m t s is fits =
+    let a = unless (is_space t c) texts.AtWorkspace _ fits in
+    let b = unless (not (is_mark m)) texts.OutOfRange (give_refusal c m true t) a.1 in
+    (sure_given c m true t s (con_there c t.nodes (there_by (kind_of con_kind c t.nodes) is)) is b.1).sound
+
 -- ---- each step keeps it
 
 module _ {P : TreeValue → Type 0} (k : Lasts P) where
   last_come : (p : ConId) (border : Border) (newcomer : NewCon) (t : TreeValue) → IsSound t → IsRoomIn p t → P t → P (come p border newcomer t)
   last_come p border newcomer t s room q =
-      k.restating (id t.next_id) (state_with t.border) (state_with border) (attached (Last p) newcomer t) (state_new p newcomer t s room.there) (refl, refl, λ h. h) (k.joining p newcomer t s room q)
+      k.restating (id t.next_id) (state_with t.border) (state_with border) (attached (Last p) newcomer t) (state_new p newcomer t s room.there) (refl, refl, λ h. h) (λ r h. tt) (k.joining p newcomer t s room q)
 
-  last_given_marks : (c : ConId) (ms : List (List ℕ)) (t : TreeValue) → P t → P (given_marks c ms t)
-  last_given_marks c [] t q = q
-  last_given_marks c (m ∷ ms) t q = last_given_marks c ms (given_mark c m true t) (last_given k c m true t q)
+  last_given_marks : (c : ConId) (ms : List (List ℕ)) (t : TreeValue) → IsSound t → IsRoomFor c ms t → P t → P (given_marks c ms t)
+  last_given_marks c [] t s room q = q
+  last_given_marks c (m ∷ ms) t s room q = last_given_marks c ms (given_mark c m true t) (sound_given c m t s room.0 room.1) room.2 (k.giving c m true t s q)
 
   last_appended : (p : ConId) (row : Saved) (t : TreeValue) → HasNoWindow row → IsSound t → IsFree p row t → P t → P (appended p row t)
   last_appended p none t h s free q = q
@@ -101,7 +130,7 @@ module _ {P : TreeValue → Type 0} (k : Lasts P) where
       let marked : Sure t (come_marked p border marks newcomer t) = sure_come_marked p border marks newcomer t h.0 s free.0 free.1 in
       let under : Sure first (appended c kids first) = sure_appended c kids first h.1 marked.sound free.2 in
       last_appended p rest (appended c kids first) h.2 under.sound free.3
-      (last_appended c kids first h.1 marked.sound free.2 (last_given_marks c marks bare (last_come p border newcomer t s free.0 q)))
+      (last_appended c kids first h.1 marked.sound free.2 (last_given_marks c marks bare (sound_come p border newcomer t s free.0) free.1 (last_come p border newcomer t s free.0 q)))
 
   pub last_append : (name : List ℕ) (layouts : List (List ℕ × SavedLayout)) (t : TreeValue) → IsSound t → append_refusal (layout_named name layouts) t ≡ None → P t → P (append_tree (layout_named name layouts) t)
   last_append name layouts t s h q = by (layout_named name layouts) refl h

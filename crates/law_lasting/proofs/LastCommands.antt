@@ -25,10 +25,10 @@ use Rattle.wm_focus.specs.Splits.{gives_layout, laid, laid_as, layout_refusal, s
 use Rattle.wm_focus.specs.Swaps.{beside_refusal, deep_error, exchange_refusal, exchanged_with, is_part, moved_after}
 use Rattle.wm_language.specs.declared.arguments.OnOff.{OnOff}
 use Rattle.wm_language.specs.declared.arguments.OutArg.{OutArg}
-use Rattle.law_lasting.proofs.LastFloats.{last_float, last_moved, last_placed}
+use Rattle.law_lasting.proofs.LastFloats.{last_float, last_placed, last_tiled}
 use Rattle.law_lasting.proofs.LastSizes.{last_round}
 use Rattle.law_lasting.proofs.LastSpaces.{last_entered, last_focusing, last_output, last_remembering, last_sent_some, last_space_goes}
-use Rattle.law_lasting.specs.Changes.{stows}
+use Rattle.law_lasting.proofs.PlaceLemmas.{own_share}
 use Rattle.law_lasting.specs.Lasting.{Lasts}
 use Rattle.wm_opens.proofs.SureCommands.{subject_con, unless}
 use Rattle.wm_opens.proofs.SureLemmas.{not_full}
@@ -46,6 +46,7 @@ use Rattle.wm_tree.proofs.WrapLemmas.{sound-wrapped}
 use Rattle.wm_forest.specs.declared.kind.KindEdit.TheVariants as edits
 use Rattle.wm_forest.specs.declared.place.Place.TheVariants.{After, Before, First, Last}
 use Rattle.wm_forest.specs.Look.{has, only}
+use Rattle.wm_forest.specs.Place.{tiles}
 use Rattle.wm_tree.specs.Move.{exchanged, is_too_deep, moved, passed_by_move, passed_by_wrap, share_in, wrapped}
 use Rattle.wm_tree.specs.Outputs.{IsOutput}
 use Rattle.wm_tree.specs.Sound.{IsSound}
@@ -76,27 +77,27 @@ shallow : (b : Bool) → deep_error b ≡ None → b ≡ false
 shallow true h = cc
 shallow false h = refl
 
--- ---- places outside the scratchpad
+-- ---- places where containers are tiled
 
-near_out : (d : Dir) (n : ConId) → stows (near_end d n) ≡ false
-near_out d n = step (is_forward d)
+near_tiles : (d : Dir) (n : ConId) → tiles (near_end d n) ≡ true
+near_tiles d n = step (is_forward d)
   where
-    step : (b : Bool) → stows (cond b (First n) (Last n)) ≡ false
+    step : (b : Bool) → tiles (cond b (First n) (Last n)) ≡ true
     step true = refl
     step false = refl
 
-side_out : (d : Dir) (n : ConId) → stows (side_of d n) ≡ false
-side_out d n = step (is_forward d)
+side_tiles : (d : Dir) (n : ConId) → tiles (side_of d n) ≡ true
+side_tiles d n = step (is_forward d)
   where
-    step : (b : Bool) → stows (cond b (After n) (Before n)) ≡ false
+    step : (b : Bool) → tiles (cond b (After n) (Before n)) ≡ true
     step true = refl
     step false = refl
 
-entry_out : (d : Dir) (n : ConId) (t : TreeValue) → stows (entry d n t) ≡ false
-entry_out d n t = step (runs_split d n t) (focused_child t n)
+entry_tiles : (d : Dir) (n : ConId) (t : TreeValue) → tiles (entry d n t) ≡ true
+entry_tiles d n t = step (runs_split d n t) (focused_child t n)
   where
-    step : (b : Bool) (o : Option ConId) → stows (cond b (near_end d n) (after_child n o)) ≡ false
-    step true o = near_out d n
+    step : (b : Bool) (o : Option ConId) → tiles (cond b (near_end d n) (after_child n o)) ≡ true
+    step true o = near_tiles d n
     step false None = refl
     step false (Some child) = refl
 
@@ -124,7 +125,7 @@ module _ {P : TreeValue → Type 0} (k : Lasts P) where
       by_test false = last_gone_to (dir_goal d c t) t s p
 
   pub last_laid : (c : ConId) (layout : Layout) (t : TreeValue) → P t → P (laid_as c layout t)
-  last_laid c layout t p = k.editing (laid t c) (edits.Layout layout) t refl p
+  last_laid c layout t p = k.editing (laid t c) (edits.Layout layout) t refl tt p
 
   pub last_split : (c : ConId) (layout : Layout) (t : TreeValue) → IsSound t → option_or (layout_refusal c t) (cond (gives_layout t c) None (full_error (passed_by_wrap c t.nodes t.next_id))) ≡ None → P t → P (split_as c layout t)
   last_split c layout t s fits p = step (gives_layout t c) refl both.1
@@ -149,24 +150,24 @@ module _ {P : TreeValue → Type 0} (k : Lasts P) where
   last_turned c n t s g flat p =
       let swapped : TreeValue = exchanged c n t in
       let own : TreeValue = edited c (edits.Share (share_in c t.nodes)) swapped in
-      k.editing n (edits.Share (share_in n t.nodes)) own refl (k.editing c (edits.Share (share_in c t.nodes)) swapped refl (last_exchanged c n t s g flat p))
+      k.editing n (edits.Share (share_in n t.nodes)) own refl (own_share n t s g.1 (g.2.1 g.1)) (k.editing c (edits.Share (share_in c t.nodes)) swapped refl (own_share c t s g.0 (g.2.0 g.0)) (last_exchanged c n t s g flat p))
 
   last_over : (d : Dir) (c : ConId) (w : Option ConId) (t : TreeValue) → space_over d c t ≡ w → IsSound t → is_tiled_con t c ≡ true → over_refusal d c w t ≡ None → P t → P (over_tree d c w t)
   last_over d c None t e s own fits p = p
   last_over d c (Some w) t e s own fits p =
       let went : TreeValue = moved c (near_end d w) t in
-      last_remembering k t (entered c went) (last_entered k c went (last_moved k c (near_end d w) t s (cross_fits d c w t s own e) (near_out d w) fits p))
+      last_remembering k t (entered c went) (last_entered k c went (last_tiled k c (near_end d w) t s (cross_fits d c w t s own e) (near_tiles d w) fits p))
 
   last_out : (d : Dir) (c : ConId) (child : Option ConId) (t : TreeValue) → held_out d c t ≡ child → IsSound t → is_tiled_con t c ≡ true → out_refusal d c child t ≡ None → P t → P (out_tree d c child t)
   last_out d c None t e s own fits p = last_over d c (space_over d c t) t refl s own fits p
-  last_out d c (Some child) t e s own fits p = last_moved k c (side_of d child) t s (side_fits d c child t s own e) (side_out d child) fits p
+  last_out d c (Some child) t e s own fits p = last_tiled k c (side_of d child) t s (side_fits d c child t s own e) (side_tiles d child) fits p
 
   last_step : (d : Dir) (c : ConId) (n : Option ConId) (t : TreeValue) → beside d c t ≡ n → IsSound t → is_tiled_con t c ≡ true → step_refusal d c n t ≡ None → P t → P (step_tree d c n t)
   last_step d c None t e s own fits p = last_out d c (held_out d c t) t refl s own fits p
   last_step d c (Some n) t e s own fits p = step (is_split_con t n) refl fits
     where
       step : (b : Bool) → is_split_con t n ≡ b → cond b (full_error (passed_by_move c (entry d n t) t.nodes)) (deep_error (is_too_deep c n t.nodes)) ≡ None → P (cond b (moved c (entry d n t) t) (turned c n t))
-      step true j f = last_moved k c (entry d n t) t s (entry_fits d c n t s own e j) (entry_out d n t) f p
+      step true j f = last_tiled k c (entry d n t) t s (entry_fits d c n t s own e j) (entry_tiles d n t) f p
       step false j f = last_turned c n t s (turn_fits d c n t s own e) (shallow (is_too_deep c n t.nodes) f) p
 
   pub last_dir : (c : ConId) (d : Dir) (px : ℕ) (t : TreeValue) → IsSound t → move_dir_refusal c d px t ≡ None → P t → P (move_dir_tree c d px t)
@@ -177,7 +178,7 @@ module _ {P : TreeValue → Type 0} (k : Lasts P) where
     where
       by_test : (b : Bool) → is_tiled_con t c ≡ b → cond b (step_refusal d c (beside d c t) t) (shift_refusal c d px t) ≡ None → P (cond b (step_tree d c (beside d c t) t) (shift_tree c d px t))
       by_test true own j = last_step d c (beside d c t) t refl s own j p
-      by_test false own j = last_placed k c _ _ t p
+      by_test false own j = last_placed k c _ _ t j p
 
   last_moved_after : (c : ConId) (m : Option ConId) (t : TreeValue) → IsSubject t c → is_space t c ≡ false → beside_refusal c m t ≡ None → P t → P (moved_after c m t)
   last_moved_after c None t sub con fits p = p
@@ -190,7 +191,7 @@ module _ {P : TreeValue → Type 0} (k : Lasts P) where
           → P (cond b (moved c (After m) t) (sent_some (workspace_of t m) c t))
       by_test true own other out j =
           let goal : IsGoal c (After m) t = (tiled_there t c own, tiled_there t m other, (λ h. (tiled_is t c own).0, λ h. tiled_is t m other, λ h z. out)) in
-          last_moved k c (After m) t sub.sound goal refl j p
+          last_tiled k c (After m) t sub.sound goal refl j p
       by_test false own other out j = last_sent_some k (workspace_of t m) c t sub.sound (subject_con c t sub con) (λ v e. workspace_is m v t sub.sound e) j p
 
   pub last_to_mark : (c : ConId) (m : Option ConId) (t : TreeValue) → IsSubject t c → error_if (is_hidden t c) texts.NoWorkspace (error_if (is_space t c) texts.AtWorkspace (beside_refusal c m t)) ≡ None → P t → P (moved_after c m t)

@@ -1,14 +1,18 @@
 -- Showing, sending, moving and renaming workspaces keep what lasts.
-use Rattle.std.proofs.Common.{◌≡◌, ◌≢◌, ℕ, Bool, true, false, cond, not, List, Option, None, Some, refl, ap, subst}
+use Rattle.std.proofs.Common.{◌≡◌, ◌≢◌, ℕ, Bool, true, false, cond, not, List, Option, None, Some, refl, ap, subst, arith}
 use Rattle.std.specs.Prelude.{is_some}
 use Rattle.wm_base.specs.declared.ids.ConId.{ConId}
 use Rattle.wm_floats.specs.Floating.{IsGoal}
 use Rattle.law_lasting.proofs.FreeNames.{IsNewGoal, new_name_free}
 use Rattle.law_lasting.proofs.LastFloats.{last_moved}
+use Rattle.law_lasting.proofs.PlaceLemmas.{sent_floats}
 use Rattle.law_lasting.specs.Changes.{stows}
 use Rattle.law_lasting.specs.Lasting.{Lasts}
-use Rattle.wm_opens.proofs.SureLemmas.{not_full}
+use Rattle.wm_opens.proofs.MeasureLemmas.{cons_kept, kinds_at, kinds_measured}
+use Rattle.wm_opens.proofs.SureLemmas.{IsNoCon, not_full, space_no_con}
 use Rattle.wm_opens.proofs.SureSpaces.{none_of_two}
+use Rattle.wm_opens.proofs.WordLemmas.{count-edited}
+use Rattle.wm_opens.specs.Opens.{is_fill}
 use Rattle.wm_shared.proofs.ShowLemmas.{sound_showing, space_is, workspace_is}
 use Rattle.wm_shared.specs.declared.keys.Key.{Key}
 use Rattle.wm_shared.specs.Outputs.{output_of}
@@ -35,6 +39,8 @@ use Rattle.wm_forest.proofs.RecencyLemmas.{same_is, same_self}
 use Rattle.wm_tree.proofs.SpaceLemmas.{has_output, sound-space_moved, sound-with_space}
 use Rattle.wm_tree.specs.Along.{gone_along}
 use Rattle.wm_forest.specs.Change.{is_id}
+use Rattle.wm_forest.specs.Counts.{one_con}
+use Rattle.wm_forest.specs.declared.kind.KindEdit.{KindEdit}
 use Rattle.wm_forest.specs.declared.kind.KindEdit.TheVariants as edits
 use Rattle.wm_forest.specs.declared.part.NodeKind.{NodeKind}
 use Rattle.wm_forest.specs.declared.part.NodeKind.TheVariants.{Root, Output, Space, Con}
@@ -48,7 +54,7 @@ use Rattle.wm_forest.specs.SoundRow.{IsNode, IsSoundRow, roots}
 use Rattle.wm_tree.specs.Sound.{IsSound}
 use Rattle.wm_tree.specs.TreeValue.{TreeValue, is_tiled_con, leaf, or_id, parent, shown, workspace_of}
 use Rattle.wm_forest.specs.RootId.{id, root}
-use Rattle.wm_tree.specs.Words.{with_raised}
+use Rattle.wm_tree.specs.Words.{edited, with_raised}
 
 -- ---- the root
 
@@ -76,6 +82,14 @@ space_not_root w t s h = by (same root w) refl
         let none : is_space t w ≡ false = subst (λ v. is_space t v ≡ false) one (ap is_some (root_no_space t s)) in
         cc
 
+-- a change of a node makes no container
+no_con_edited : (w c : ConId) (edit : KindEdit) (t : TreeValue) → is_fill edit ≡ false → IsNoCon w t.nodes → IsNoCon w (edited c edit t).nodes
+no_con_edited w c edit t h none = omega (arith, none, count-edited (kinds_at one_con w) (kinds_measured one_con w cons_kept) c edit t h)
+
+no_con_shown : (o : Option ConId) (v w : ConId) (t : TreeValue) → IsNoCon v t.nodes → IsNoCon v (shown_by o w t).nodes
+no_con_shown None v w t none = none
+no_con_shown (Some o) v w t none = no_con_edited v o (edits.Shown w) t refl none
+
 -- no place to which containers are sent is in the scratchpad
 sent_out : (c w : ConId) (t : TreeValue) → stows (sent_place c w t) ≡ false
 sent_out c w t = step (is_tiled_con t c) (is_tiled_con t (or_id (leaf t w) w))
@@ -94,34 +108,35 @@ module _ {P : TreeValue → Type 0} (k : Lasts P) where
     where
       step : (b : Bool) → P (cond b new (record new { previous = space_name (shown old) old }))
       step true = p
-      step false = k.of_nodes new (record new { previous = space_name (shown old) old }) refl p
+      step false = k.alike new (record new { previous = space_name (shown old) old }) refl refl refl refl p
 
   last_shown : (o : Option ConId) (w : ConId) (t : TreeValue) → P t → P (shown_by o w t)
   last_shown None w t p = p
-  last_shown (Some o) w t p = k.editing o (edits.Shown w) t refl p
+  last_shown (Some o) w t p = k.editing o (edits.Shown w) t refl tt p
 
-  last_followed : (v : Option ConId) (w : ConId) (t : TreeValue) → same root w ≡ false → P t → P (followed v w t)
-  last_followed None w t low p = p
-  last_followed (Some v) w t low p = step (same v w)
+  last_followed : (v : Option ConId) (w : ConId) (t : TreeValue) → same root w ≡ false → IsNoCon w t.nodes → P t → P (followed v w t)
+  last_followed None w t low none p = p
+  last_followed (Some v) w t low none p = step (same v w)
     where
       step : (b : Bool) → P (cond b t (gone_along v w t))
       step true = p
-      step false = k.going_along v w t low p
+      step false = k.going_along v w t low none p
 
-  last_shown_there : (w : ConId) (o : Option ConId) (t : TreeValue) → same root w ≡ false → P t → P (shown_there w o t)
-  last_shown_there w None t low p = p
-  last_shown_there w (Some o) t low p =
+  last_shown_there : (w : ConId) (o : Option ConId) (t : TreeValue) → same root w ≡ false → IsNoCon w t.nodes → P t → P (shown_there w o t)
+  last_shown_there w None t low none p = p
+  last_shown_there w (Some o) t low none p =
       let now : TreeValue = with_current o t in
-      last_followed (shown_on o t) w (with_shown w now) low (last_shown (parent now w) w now (k.editing root (edits.Current o) t refl p))
+      let none_now : IsNoCon w now.nodes = no_con_edited w root (edits.Current o) t refl none in
+      last_followed (shown_on o t) w (with_shown w now) low (no_con_shown (parent now w) w w now none_now) (last_shown (parent now w) w now (k.editing root (edits.Current o) t refl tt p))
 
   pub last_there : (w : ConId) (t : TreeValue) → is_space t w ≡ true → IsSound t → P t → P (shown_there w (parent t w) t)
-  last_there w t h s p = last_shown_there w (parent t w) t (space_not_root w t s h) p
+  last_there w t h s p = last_shown_there w (parent t w) t (space_not_root w t s h) (space_no_con w t s (space_is w t h)) p
 
   pub last_showing : (w : ConId) (t : TreeValue) → is_space t w ≡ true → IsSound t → P t → P (showing w t)
   last_showing w t h s p = last_remembering t (shown_there w (parent t w) t) (last_there w t h s p)
 
   pub last_current : (o : ConId) (t : TreeValue) → P t → P (with_current o t)
-  last_current o t p = k.editing root (edits.Current o) t refl p
+  last_current o t p = k.editing root (edits.Current o) t refl tt p
 
   pub last_output : (o : ConId) (t : TreeValue) → P t → P (output_focused o t)
   last_output o t p = last_remembering t (with_current o t) (last_current o t p)
@@ -177,7 +192,7 @@ module _ {P : TreeValue → Type 0} (k : Lasts P) where
       by_test true e j =
           let r = ready c w t s is_con (space_is w t ok) e in
           let goal : IsGoal c (sent_place c w t) t = (con_there c t.nodes is_con, r.there, (λ h. is_con, r.fits, λ h z. r.outside)) in
-          last_moved k c (sent_place c w t) t s goal (sent_out c w t) j p
+          last_moved k c (sent_place c w t) t s goal (sent_out c w t) (sent_floats c w t) j p
 
   pub last_sent_some : (w : Option ConId) (c : ConId) (t : TreeValue) → IsSound t → kind_of con_kind c t.nodes ≢ None → ((v : ConId) → w ≡ Some v → is_space t v ≡ true) → sent_some_refusal w c t ≡ None → P t → P (sent_some w c t)
   last_sent_some None c t s is_con ok fits p = p

@@ -1,5 +1,5 @@
 -- The steps that are no texts keep what lasts: windows that are mapped and closed, changes of nodes, outputs that come and go.
-use Rattle.std.proofs.Common.{◌≡◌, ◌≢◌, ℕ, Bool, true, false, cond, List, Option, None, Some, refl}
+use Rattle.std.proofs.Common.{◌≡◌, ◌≢◌, ℕ, Bool, true, false, cond, List, [], ◌∷◌, ◌++◌, Option, None, Some, refl}
 use Rattle.wm_base.specs.declared.geometry.Edges.{Edges}
 use Rattle.wm_base.specs.declared.geometry.Size.{Size}
 use Rattle.wm_base.specs.declared.ids.ConId.{ConId}
@@ -7,7 +7,9 @@ use Rattle.wm_base.specs.declared.plan.OutputPlan.{OutputPlan}
 use Rattle.wm_base.specs.declared.properties.Props.{Props}
 use Rattle.law_lasting.proofs.LastSpaces.{last_output}
 use Rattle.law_lasting.proofs.LastTexts.{HasLast, has_settled}
-use Rattle.law_lasting.specs.Lasting.{Lasts}
+use Rattle.law_lasting.specs.Lasting.{IsOfNodes, Lasts}
+use Rattle.wm_opens.specs.Opens.{is_window_of}
+use Rattle.wm_forest.specs.Recency.{lists, without_id}
 use Rattle.wm_opens.proofs.SureSpaces.{fits_all}
 use Rattle.wm_shared.proofs.ShowLemmas.{sound_output}
 use Rattle.wm_shared.specs.Showing.{output_focused}
@@ -32,6 +34,14 @@ use Rattle.wm_forest.specs.Spot.{spot_in, top}
 use Rattle.wm_tree.specs.TreeValue.{TreeValue, current, newcomer_place}
 use Rattle.wm_tree.specs.Words.{attached, detached, edited, settled, with_raised}
 
+-- a sound tree is so whatever is urgent
+sound_urgent : (urgent : List ConId) (t : TreeValue) → IsSound t → IsSound (record t { urgent = urgent })
+sound_urgent urgent t s = record { shaped = s.shaped; rooted = s.rooted; once = s.once; fresh = s.fresh; low = s.low; above = s.above; known = s.known; few = s.few; few_spaces = s.few_spaces; few_marks = s.few_marks; ids = s.ids }
+
+-- other windows are urgent, where only the nodes are spoken of
+pub has_urgent : {P : TreeValue → Type 0} → IsOfNodes P → (urgent : List ConId) (t : TreeValue) → HasLast P t → HasLast P (record t { urgent = urgent })
+has_urgent alone urgent t g = record { sound = sound_urgent urgent t g.sound; held = alone t (record t { urgent = urgent }) refl g.held }
+
 module _ {P : TreeValue → Type 0} (k : Lasts P) where
   -- ---- changes of nodes
 
@@ -41,23 +51,22 @@ module _ {P : TreeValue → Type 0} (k : Lasts P) where
   pub has_titled : (c : ConId) (title : List ℕ) (t : TreeValue) → HasLast P t → HasLast P (edited c (edits.Title title) t)
   has_titled c title t g = record {
     sound = sound-edited c (edits.Title title) t (fits_all (edits.Title title) (λ b kids. tt) (spot_in top c t.nodes) (first_kids (only c t.nodes))) g.sound;
-    held = k.editing c (edits.Title title) t refl g.held;
+    held = k.editing c (edits.Title title) t refl tt g.held;
   }
 
   pub has_reserved : (o : ConId) (edges : Edges) (t : TreeValue) → HasLast P t → HasLast P (edited o (edits.Reserved edges) t)
   has_reserved o edges t g = record {
     sound = sound-edited o (edits.Reserved edges) t (fits_all (edits.Reserved edges) (λ b kids. tt) (spot_in top o t.nodes) (first_kids (only o t.nodes))) g.sound;
-    held = k.editing o (edits.Reserved edges) t refl g.held;
+    held = k.editing o (edits.Reserved edges) t refl tt g.held;
   }
 
-  -- other windows are urgent
-  pub has_urgent : (urgent : List ConId) (t : TreeValue) → HasLast P t → HasLast P (record t { urgent = urgent })
-  has_urgent urgent t g =
-      let s = g.sound in
-      record {
-        sound = record { shaped = s.shaped; rooted = s.rooted; once = s.once; fresh = s.fresh; low = s.low; above = s.above; known = s.known; few = s.few; few_spaces = s.few_spaces; few_marks = s.few_marks; ids = s.ids };
-        held = k.of_nodes t (record t { urgent = urgent }) refl g.held;
-      }
+  -- a window becomes urgent, where it is not so yet
+  pub has_urged : (v : ConId) (t : TreeValue) → HasLast P t → is_window_of t v ≡ true → lists v t.urgent ≡ false → HasLast P (record t { urgent = t.urgent ++ v ∷ [] })
+  has_urged v t g win new = record { sound = sound_urgent (t.urgent ++ v ∷ []) t g.sound; held = k.urging v t g.sound win new g.held }
+
+  -- and one is so no longer
+  pub has_calmed : (v : ConId) (t : TreeValue) → HasLast P t → HasLast P (record t { urgent = without_id v t.urgent })
+  has_calmed v t g = record { sound = sound_urgent (without_id v t.urgent) t g.sound; held = k.calming v t g.held }
 
   -- ---- windows that are mapped and closed
 
@@ -83,7 +92,7 @@ module _ {P : TreeValue → Type 0} (k : Lasts P) where
   has_filled None props owner natural t g = g
   has_filled (Some c) props owner natural t g = record {
     sound = sound-edited c (edits.Fill props owner natural) t (fits_fill props owner natural (spot_in top c t.nodes) (first_kids (only c t.nodes))) g.sound;
-    held = k.editing c (edits.Fill props owner natural) t refl g.held;
+    held = k.editing c (edits.Fill props owner natural) t refl tt g.held;
   }
 
   -- and is raised or not, and then settling

@@ -21,6 +21,7 @@ use Rattle.law_lasting.proofs.LastCommands.{last_dir, last_floating, last_focus_
 use Rattle.law_lasting.proofs.LastFloats.{last_kind, last_placed, last_scratchpad, last_stuck}
 use Rattle.law_lasting.proofs.LastSizes.{last_border, last_cycled, last_format, last_gaps, last_mark, last_rect, last_resized, last_unmark}
 use Rattle.law_lasting.proofs.LastSpaces.{last_focusing, last_goal_sent, last_goal_shown, last_renamed}
+use Rattle.law_lasting.proofs.RectLemmas.{set_fits}
 use Rattle.law_lasting.specs.Lasting.{Lasts}
 use Rattle.wm_layouts.specs.declared.plan.Env.{Env}
 use Rattle.wm_opens.proofs.SureCommands.{subject_con, unless}
@@ -69,7 +70,7 @@ module _ {P : TreeValue → Type 0} (k : Lasts P) where
   last_row env how (commands.MoveDir d px) c t sub h p = last_dir k c d px t sub.sound h p
   last_row env how (commands.MoveToMark name) c t sub h p = last_to_mark k c _ t sub h p
   last_row env how (commands.Swap arg) c t sub h p = last_swap k c _ _ t sub.sound h p
-  last_row env how (commands.Mark add toggle name) c t sub h p = last_mark k c name add toggle t p
+  last_row env how (commands.Mark add toggle name) c t sub h p = last_mark k c name add toggle t sub.sound p
   last_row env how (commands.Unmark name) c t sub h p = last_unmark k (matched_subject how c) name t p
   last_row env how (commands.FocusOutput arg) c t sub h p = last_output_some k (output_at c arg t) t p
   last_row env how (commands.MoveToOutput arg) c t sub h p = last_to_output k c arg (output_at c arg t) t refl sub h p
@@ -83,12 +84,12 @@ module _ {P : TreeValue → Type 0} (k : Lasts P) where
   last_row env how (commands.Floating arg) c t sub h p = last_floating k c arg t sub.sound h p
   last_row env how (commands.Fullscreen arg) c t sub h p = k.filling c _ t sub.sound h p
   last_row env how (commands.Sticky arg) c t sub h p = last_stuck k _ c t p
-  last_row env how (commands.MovePosition x y) c t sub h p = last_placed k c x y t p
-  last_row env how commands.MoveCenter c t sub h p = last_placed k c _ _ t p
+  last_row env how (commands.MovePosition x y) c t sub h p = last_placed k c x y t h p
+  last_row env how commands.MoveCenter c t sub h p = last_placed k c _ _ t h p
   last_row env how commands.MoveToScratchpad c t sub h p = k.hiding c t sub.sound h p
   last_row env how commands.ScratchpadShow c t sub h p = last_scratchpad k (matched_subject how c) t (λ x e. subst (IsSubject t) (matched_is how c x e) sub) sub.sound h p
-  last_row env how (commands.Resize grow side px ppt) c t sub h p = last_resized k c grow side px ppt t p
-  last_row env how (commands.ResizeSet w high) c t sub h p = last_rect k _ c t p
+  last_row env how (commands.Resize grow side px ppt) c t sub h p = last_resized k c grow side px ppt t h p
+  last_row env how (commands.ResizeSet w high) c t sub h p = last_rect k _ c t (λ r. set_fits c w high t h r) p
   last_row env how (commands.SetBorder border) c t sub h p = last_border k border c t p
   last_row env how commands.CycleBorder c t sub h p = last_cycled k c t p
   last_row env how (commands.Gaps outer all op px) c t sub h p = last_gaps k c outer all op px t p

@@ -11,6 +11,8 @@ pub mod LastSizes
 pub mod LastSpaces
 pub mod LastSteps
 pub mod LastTexts
+pub mod PlaceLemmas
+pub mod RectLemmas
 pub mod ScratchpadLemmas
 pub mod SingleLasts
 pub mod StowedHiding

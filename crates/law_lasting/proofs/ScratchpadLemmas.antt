@@ -1,5 +1,5 @@
 -- The scratchpad of sound trees, before and after each step.
-use Rattle.std.proofs.Common.{◌≡◌, ◌≢◌, ℕ, Bool, true, false, cond, ◌&&◌, ◌||◌, not, List, Option, None, refl}
+use Rattle.std.proofs.Common.{◌≡◌, ◌≢◌, ℕ, Bool, true, false, cond, ◌&&◌, ◌||◌, not, List, Option, None, refl, sym, subst}
 use Rattle.std.specs.Prelude.{is_some}
 use Rattle.wm_apply.specs.Batches.{outcome}
 use Rattle.wm_base.specs.declared.geometry.Edges.{Edges}
@@ -16,11 +16,11 @@ use Rattle.law_lasting.proofs.FlagLemmas.{Right}
 use Rattle.law_lasting.proofs.LastSteps.{has_closed, has_detached, has_mapped, has_removed, has_reserved, has_swallowed, has_titled, has_urgent}
 use Rattle.law_lasting.proofs.LastTexts.{HasLast, has_outcome, has_settled}
 use Rattle.law_lasting.proofs.StowedLasts.{Holds, holds_with_output, stowed_lasts}
-use Rattle.law_lasting.proofs.StowedLemmas.{row_of}
+use Rattle.law_lasting.proofs.StowedLemmas.{Stowed, row_of}
 use Rattle.law_lasting.proofs.StowedMoves.{stowed_sound}
 use Rattle.law_lasting.specs.Each.{Each}
 use Rattle.law_lasting.specs.Flags.{FlagsOnlyWindows, may_be_flagged}
-use Rattle.law_lasting.specs.Lasting.{Lasts}
+use Rattle.law_lasting.specs.Lasting.{IsOfNodes, Lasts}
 use Rattle.law_lasting.specs.Rows.{AreStowed, is_stowed}
 use Rattle.law_lasting.specs.Scratchpad.{AreHiddenWindows, HasScratchpad, is_hidden_window, scratchpad}
 use Rattle.wm_layouts.specs.declared.plan.Env.{Env}
@@ -68,6 +68,9 @@ scratchpad_windows t h = hidden_row (scratchpad t) h.row (second_row t.nodes h.f
 pub both_lasts : Lasts (λ t. Holds t × FlagsOnlyWindows t)
 both_lasts = both_last stowed_lasts flags_last
 
+both_alone : IsOfNodes (λ t. Holds t × FlagsOnlyWindows t)
+both_alone t new e h = (subst Stowed (sym e) h.0, subst (Each Right) (sym e) h.1)
+
 pub from : (t : TreeValue) → IsSound t → HasScratchpad t → HasLast (λ z. Holds z × FlagsOnlyWindows z) t
 from t s h = record { sound = s; held = (stowed_sound t s h.row, h.flags) }
 
@@ -105,7 +108,7 @@ pub retitling_keeps : (c : ConId) (title : List ℕ) (t : TreeValue) → IsSound
 retitling_keeps c title t s h = back (settled (edited c (edits.Title title) t)) (has_settled both_lasts (edited c (edits.Title title) t) (has_titled both_lasts c title t (from t s h)))
 
 pub urgency_keeps : (urgent : List ConId) (t : TreeValue) → IsSound t → HasScratchpad t → HasScratchpad (settled (record t { urgent = urgent }))
-urgency_keeps urgent t s h = back (settled (record t { urgent = urgent })) (has_settled both_lasts (record t { urgent = urgent }) (has_urgent both_lasts urgent t (from t s h)))
+urgency_keeps urgent t s h = back (settled (record t { urgent = urgent })) (has_settled both_lasts (record t { urgent = urgent }) (has_urgent both_alone urgent t (from t s h)))
 
 pub reserving_keeps : (o : ConId) (edges : Edges) (t : TreeValue) → IsSound t → HasScratchpad t → HasScratchpad (settled (edited o (edits.Reserved edges) t))
 reserving_keeps o edges t s h = back (settled (edited o (edits.Reserved edges) t)) (has_settled both_lasts (edited o (edits.Reserved edges) t) (has_reserved both_lasts o edges t (from t s h)))

@@ -1,5 +1,5 @@
 -- A workspace has at most one fullscreen container: each word keeps that, and so does each step.
-use Rattle.std.proofs.Common.{◌≡◌, ◌≢◌, ℕ, Bool, true, false, cond, List, Option, None, refl}
+use Rattle.std.proofs.Common.{◌≡◌, ◌≢◌, ℕ, Bool, true, false, cond, List, [], Option, None, Some, refl}
 use Rattle.wm_apply.specs.Batches.{outcome}
 use Rattle.wm_base.specs.declared.geometry.Edges.{Edges}
 use Rattle.wm_base.specs.declared.geometry.Size.{Size}
@@ -37,20 +37,23 @@ plain_state other h = refl
 
 pub single_lasts : Lasts Single
 single_lasts = record {
-  of_nodes = λ t now e q. single_nodes t now e q;
-  editing = λ c edit t calm q. single_edited c edit t (plain_state edit (calm_plain edit calm)) q;
+  alike = λ t now e f g h q. single_nodes t now e q;
+  editing = λ c edit t calm gives q. single_edited c edit t (plain_state edit (calm_plain edit calm)) q;
   renaming = λ was name w t s fits is q. single_edited w (edits.Name name) t refl q;
-  restating = λ c old now t has keeps q. single_restated c old now t has keeps.0 q;
+  restating = λ c old now t has keeps rects q. single_restated c old now t has keeps.0 q;
   filling = λ c on t s fits q. single_filled c on t s q;
-  marking = λ c marks t q. single_marks c marks t q;
+  stripping = λ c t q. single_marks c [] t q;
   unmarking = λ c mark t q. single_unmarked c mark t q;
+  giving = λ c mark add t s q. single_taken_off (Some c) mark _ (single_marks c _ t q);
   taking_off = λ keep mark t q. single_taken_off keep mark t q;
   baring = λ t q. single_bare t q;
+  urging = λ v t s win new q. single_nodes t _ refl q;
+  calming = λ v t q. single_nodes t _ refl q;
   raising = λ c t s q. single_raised c t s q;
-  moving = λ c at t s goal out after q. single_moved c at t s goal q;
+  moving = λ c at t s goal out floats after q. single_moved c at t s goal q;
   exchanging = λ a b t s g after q. single_exchanged a b t s g after q;
   space_moving = λ w o t s ok out after q. single_space_moved w o t (space_is w t ok) after q;
-  going_along = λ v w t low q. single_along v w t q;
+  going_along = λ v w t low none q. single_along v w t q;
   hiding = λ c t s fits q. single_hidden c t s fits q;
   putting_away = λ w c t s on fits q. single_put_away w c t s on q;
   sinking = λ c t s fits q. single_sinking c t s fits q;
@@ -92,7 +95,7 @@ pub retitling_keeps : (c : ConId) (title : List ℕ) (t : TreeValue) → IsSound
 retitling_keeps c title t s h = back (settled (edited c (edits.Title title) t)) (has_settled single_lasts (edited c (edits.Title title) t) (has_titled single_lasts c title t (from t s h)))
 
 pub urgency_keeps : (urgent : List ConId) (t : TreeValue) → IsSound t → HasOne t → HasOne (settled (record t { urgent = urgent }))
-urgency_keeps urgent t s h = back (settled (record t { urgent = urgent })) (has_settled single_lasts (record t { urgent = urgent }) (has_urgent single_lasts urgent t (from t s h)))
+urgency_keeps urgent t s h = back (settled (record t { urgent = urgent })) (has_settled single_lasts (record t { urgent = urgent }) (has_urgent single_nodes urgent t (from t s h)))
 
 pub reserving_keeps : (o : ConId) (edges : Edges) (t : TreeValue) → IsSound t → HasOne t → HasOne (settled (edited o (edits.Reserved edges) t))
 reserving_keeps o edges t s h = back (settled (edited o (edits.Reserved edges) t)) (has_settled single_lasts (edited o (edits.Reserved edges) t) (has_reserved single_lasts o edges t (from t s h)))

@@ -1,5 +1,5 @@
 -- The scratchpad has only flagged containers with a rectangle: each word keeps that.
-use Rattle.std.proofs.Common.{◌≡◌, ℕ, ◌+◌, Bool, true, false, cond, List, Option, None, Some, refl, ap, sym, subst}
+use Rattle.std.proofs.Common.{◌≡◌, ℕ, ◌+◌, Bool, true, false, cond, List, [], Option, None, Some, refl, ap, sym, subst}
 use Rattle.wm_base.specs.declared.geometry.Size.{Size}
 use Rattle.wm_base.specs.declared.ids.ConId.{ConId}
 use Rattle.wm_base.specs.declared.plan.Layout.{Layout}
@@ -134,20 +134,23 @@ holds_without_output o t s out q = by (heir o t.nodes) refl
 
 pub stowed_lasts : Lasts Holds
 stowed_lasts = record {
-  of_nodes = λ t now e q. subst Stowed (sym e) q;
-  editing = λ c edit t calm q. stowed_edited c edit t.nodes (calm_plain edit calm) q;
+  alike = λ t now e f g h q. subst Stowed (sym e) q;
+  editing = λ c edit t calm gives q. stowed_edited c edit t.nodes (calm_plain edit calm) q;
   renaming = λ was name w t s fits is q. stowed_edited w (edits.Name name) t.nodes refl q;
-  restating = λ c old now t has keeps q. stowed_state c old now t.nodes keeps.1 keeps.2 has q;
+  restating = λ c old now t has keeps rects q. stowed_state c old now t.nodes keeps.1 keeps.2 has q;
   filling = λ c on t s fits q. stowed_fullscreen c on t q;
-  marking = λ c marks t q. stowed_marks c marks t.nodes q;
+  stripping = λ c t q. stowed_marks c [] t.nodes q;
   unmarking = λ c mark t q. stowed_unmarked c mark t.nodes q;
+  giving = λ c mark add t s q. stowed_taken_off (Some c) mark _ (stowed_marks c _ t.nodes q);
   taking_off = λ keep mark t q. stowed_taken_off keep mark t.nodes q;
   baring = λ t q. stowed_bare t.nodes q;
+  urging = λ v t s win new q. q;
+  calming = λ v t q. q;
   raising = λ c t s q. stowed_raised c _ t.nodes q;
-  moving = λ c p t s goal out after q. stowed_moved c p t s goal out q;
+  moving = λ c p t s goal out floats after q. stowed_moved c p t s goal out q;
   exchanging = λ a b t s g after q. holds_exchanged a b t s g q;
   space_moving = λ w o t s ok out after q. holds_space_moved w o t s ok out q;
-  going_along = λ v w t low q. stowed_along v w t low q;
+  going_along = λ v w t low none q. stowed_along v w t low q;
   hiding = λ c t s fits q. stowed_hidden c t s fits q;
   putting_away = λ w c t s on fits q. holds_put_away w c t s on fits q;
   sinking = λ c t s fits q. stowed_sink c t s fits q;

@@ -1,8 +1,12 @@
 -- Changes of nodes, and places to which containers move, as commands use them.
-use Rattle.std.specs.Prelude.{◌≡◌, Bool, true, false, is_some}
+use Rattle.std.specs.Prelude.{◌≡◌, ℕ, Bool, true, false, if◌then◌else◌, is_some}
+use Rattle.wm_base.specs.declared.ids.ConId.{ConId}
+use Rattle.wm_forest.specs.Counts.{one_con}
 use Rattle.wm_forest.specs.declared.kind.KindEdit.{KindEdit}
 use Rattle.wm_forest.specs.declared.kind.KindEdit.TheVariants as edits
 use Rattle.wm_forest.specs.declared.part.ConState.{ConState}
+use Rattle.wm_forest.specs.declared.part.Part.{Part}
+use Rattle.wm_forest.specs.Look.{same}
 use Rattle.wm_forest.specs.declared.place.Place.{Place}
 use Rattle.wm_forest.specs.declared.place.Place.TheVariants.{After, Before, First, Last, Float, Scratchpad}
 
@@ -29,3 +33,7 @@ stows (First c) = false
 stows (Last c) = false
 stows (Float w r) = false
 stows (Scratchpad r) = true
+
+-- one for a container with the id c
+abbrev pub con_at : ConId → Part → ℕ
+con_at c p = if same p.id c then one_con p.kind else 0

@@ -3,6 +3,7 @@ pub mod Each
 pub mod Flags
 pub mod FullscreenLaws
 pub mod Lasting
+pub mod Rects
 pub mod Rows
 pub mod Scratchpad
 pub mod ScratchpadLaws

@@ -7,10 +7,10 @@ use Rattle.wm_base.specs.declared.ids.ConId.{ConId}
 use Rattle.wm_base.specs.declared.plan.OutputPlan.{OutputPlan}
 use Rattle.wm_base.specs.declared.properties.Props.{Props}
 use Rattle.wm_criteria.specs.declared.verdict.Verdict.{Verdict}
-use Rattle.law_names.proofs.LastCounts.{AtMostOne}
+use Rattle.law_names.proofs.LastCounts.{AtMostOne, of_nodes}
 use Rattle.law_lasting.proofs.LastSteps.{has_closed, has_mapped, has_removed, has_reserved, has_swallowed, has_titled, has_urgent}
 use Rattle.law_lasting.proofs.LastTexts.{HasLast, has_outcome, has_settled}
-use Rattle.law_names.proofs.OutputNames.{differ_of, once_of, outputs_called, outputs_last}
+use Rattle.law_names.proofs.OutputNames.{differ_of, once_of, outputs_called, outputs_last, outputs_placed}
 use Rattle.law_workspaces.proofs.AddLaws.{adds_other}
 use Rattle.law_workspaces.specs.Added.{OutputNamesDiffer}
 use Rattle.wm_layouts.specs.declared.plan.Env.{Env}
@@ -53,7 +53,7 @@ pub retitling_keeps : (c : ConId) (title : List ℕ) (t : TreeValue) → IsSound
 retitling_keeps c title t s h = back (settled (edited c (edits.Title title) t)) (has_settled outputs_last (edited c (edits.Title title) t) (has_titled outputs_last c title t (from t s h)))
 
 pub urgency_keeps : (urgent : List ConId) (t : TreeValue) → IsSound t → OutputNamesDiffer t → OutputNamesDiffer (settled (record t { urgent = urgent }))
-urgency_keeps urgent t s h = back (settled (record t { urgent = urgent })) (has_settled outputs_last (record t { urgent = urgent }) (has_urgent outputs_last urgent t (from t s h)))
+urgency_keeps urgent t s h = back (settled (record t { urgent = urgent })) (has_settled outputs_last (record t { urgent = urgent }) (has_urgent (of_nodes outputs_called outputs_placed) urgent t (from t s h)))
 
 pub reserving_keeps : (o : ConId) (edges : Edges) (t : TreeValue) → IsSound t → OutputNamesDiffer t → OutputNamesDiffer (settled (edited o (edits.Reserved edges) t))
 reserving_keeps o edges t s h = back (settled (edited o (edits.Reserved edges) t)) (has_settled outputs_last (edited o (edits.Reserved edges) t) (has_reserved outputs_last o edges t (from t s h)))

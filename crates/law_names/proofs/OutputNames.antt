@@ -138,7 +138,7 @@ changed_called n edit (Con c) = by_edit edit
     by_edit (edits.State s) = refl
     by_edit other = refl
 
-outputs_placed : (n : List ℕ) → IsOfPlaces (outputs_called n)
+pub outputs_placed : (n : List ℕ) → IsOfPlaces (outputs_called n)
 outputs_placed n = record { root = λ c. refl; inner = λ c. refl; edited = λ edit kind h. changed_called n edit kind }
 
 names_keep : NewNamesKeep (AtMostOne outputs_called)

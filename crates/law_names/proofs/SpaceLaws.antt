@@ -7,11 +7,11 @@ use Rattle.wm_base.specs.declared.ids.ConId.{ConId}
 use Rattle.wm_base.specs.declared.plan.OutputPlan.{OutputPlan}
 use Rattle.wm_base.specs.declared.properties.Props.{Props}
 use Rattle.wm_criteria.specs.declared.verdict.Verdict.{Verdict}
-use Rattle.law_names.proofs.LastCounts.{AtMostOne}
+use Rattle.law_names.proofs.LastCounts.{AtMostOne, of_nodes}
 use Rattle.law_lasting.proofs.LastSteps.{has_closed, has_mapped, has_removed, has_reserved, has_swallowed, has_titled, has_urgent}
 use Rattle.law_lasting.proofs.LastTexts.{HasLast, has_outcome, has_settled}
 use Rattle.law_lasting.proofs.FreeNames.{spaces_called}
-use Rattle.law_names.proofs.SpaceNames.{added_keeps, differ_of, once_of, spaces_last}
+use Rattle.law_names.proofs.SpaceNames.{added_keeps, differ_of, once_of, spaces_last, spaces_placed}
 use Rattle.law_workspaces.specs.Renamed.{SpaceNamesDiffer}
 use Rattle.wm_layouts.specs.declared.plan.Env.{Env}
 use Rattle.wm_spaces.specs.Coming.{output_added_tree, output_removed_tree}
@@ -53,7 +53,7 @@ pub retitling_keeps : (c : ConId) (title : List ℕ) (t : TreeValue) → IsSound
 retitling_keeps c title t s h = back (settled (edited c (edits.Title title) t)) (has_settled spaces_last (edited c (edits.Title title) t) (has_titled spaces_last c title t (from t s h)))
 
 pub urgency_keeps : (urgent : List ConId) (t : TreeValue) → IsSound t → SpaceNamesDiffer t → SpaceNamesDiffer (settled (record t { urgent = urgent }))
-urgency_keeps urgent t s h = back (settled (record t { urgent = urgent })) (has_settled spaces_last (record t { urgent = urgent }) (has_urgent spaces_last urgent t (from t s h)))
+urgency_keeps urgent t s h = back (settled (record t { urgent = urgent })) (has_settled spaces_last (record t { urgent = urgent }) (has_urgent (of_nodes spaces_called spaces_placed) urgent t (from t s h)))
 
 pub reserving_keeps : (o : ConId) (edges : Edges) (t : TreeValue) → IsSound t → SpaceNamesDiffer t → SpaceNamesDiffer (settled (edited o (edits.Reserved edges) t))
 reserving_keeps o edges t s h = back (settled (edited o (edits.Reserved edges) t)) (has_settled spaces_last (edited o (edits.Reserved edges) t) (has_reserved spaces_last o edges t (from t s h)))

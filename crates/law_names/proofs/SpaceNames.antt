@@ -99,7 +99,7 @@ changed_called n other (Output o) h = refl
 changed_called n other (Space s) h = refl
 changed_called n other (Con c) h = refl
 
-spaces_placed : (n : List ℕ) → IsOfPlaces (spaces_called n)
+pub spaces_placed : (n : List ℕ) → IsOfPlaces (spaces_called n)
 spaces_placed n = record { root = λ c. refl; inner = λ c. refl; edited = changed_called n }
 
 -- a name that finds none is none's

@@ -63,10 +63,10 @@ filled_by : (c : ConId) (f : Forest) → 1 ≤ tally c f → is_end f ≡ false
 filled_by c end h = absurd (omega arith)
 filled_by c (con part kids floats rest) h = refl
 
-filled : (c : ConId) (f : Forest) → has c f ≡ true → is_end (only c f) ≡ false
+pub filled : (c : ConId) (f : Forest) → has c f ≡ true → is_end (only c f) ≡ false
 filled c f h = filled_by c (only c f) (found_counted c f h)
 
-filled_arriving : (share : ℕ) (rect : Option Rect) (away : Bool) (f : Forest) → is_end f ≡ false → is_end (arriving share rect away f) ≡ false
+pub filled_arriving : (share : ℕ) (rect : Option Rect) (away : Bool) (f : Forest) → is_end f ≡ false → is_end (arriving share rect away f) ≡ false
 filled_arriving share rect away end h = h
 filled_arriving share rect true (con part kids floats rest) h = refl
 filled_arriving share rect false (con part kids floats rest) h = refl
@@ -79,7 +79,7 @@ module _ (m : Part → ℕ) where
   held_by (con part kids floats rest) = omega arith
 
   -- what a node holds that comes into another one is added at most
-  taking_most : (h : ConId) (gone f : Forest) → count m (at h taking_in gone f) ≤ count m f + count m gone
+  pub taking_most : (h : ConId) (gone f : Forest) → count m (at h taking_in gone f) ≤ count m f + count m gone
   taking_most h gone =
       by_change h taking_in gone (λ old now found. count m now ≤ count m old + count m gone) (omega arith)
       (λ part kids floats rest. omega (arith, held_by gone, count-append m kids (first_kids gone), count-append m floats (first_floats gone)))
@@ -96,11 +96,11 @@ module _ (m : Part → ℕ) where
       (λ p ks fs r now found h. omega (arith, h))
       (λ p ks fs r now found h. omega (arith, h))
 
-  replaced_filled : (c : ConId) (node f : Forest) → is_end node ≡ false → count m (replaced c node f) + count m (only c f) ≤ count m f + count m node
+  pub replaced_filled : (c : ConId) (node f : Forest) → is_end node ≡ false → count m (replaced c node f) + count m (only c f) ≤ count m f + count m node
   replaced_filled c end f h = cc
   replaced_filled c (con part kids floats rest) f h = in_place_of c part kids floats rest f
 
-  replaced_most : (c : ConId) (node f : Forest) → count m (replaced c node f) ≤ count m f + count m node
+  pub replaced_most : (c : ConId) (node f : Forest) → count m (replaced c node f) ≤ count m f + count m node
   replaced_most c end f = let e : count m (replaced c end f) ≡ count m f = count-same m c in_place end (λ part kids floats rest. refl) f in omega (arith, e)
   replaced_most c (con part kids floats rest) f = omega (arith, in_place_of c part kids floats rest f)
 

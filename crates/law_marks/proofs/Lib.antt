@@ -1,0 +1,15 @@
+pub mod AfloatKinds
+pub mod AfloatLast
+pub mod AfloatRows
+pub mod AfloatShares
+pub mod AfloatWords
+pub mod MarkGiving
+pub mod MarksLast
+pub mod MarkTimes
+pub mod MarkWords
+pub mod StepLemmas
+pub mod TidyMoves
+pub mod UrgentFacts
+pub mod UrgentLast
+pub mod UrgentSteps
+pub mod UrgentWords

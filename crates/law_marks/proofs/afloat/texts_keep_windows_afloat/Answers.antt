@@ -1,0 +1,8 @@
+-- By the lemma on that step.
+use Rattle.law_marks.proofs.AfloatLast.{afloat_last}
+use Rattle.law_marks.proofs.AfloatRows.{float_back, float_from}
+use Rattle.law_marks.proofs.StepLemmas.{texts_keep}
+use Rattle.law_marks.proofs.afloat.texts_keep_windows_afloat.Goals as goal
+
+pub returns : goal.returns
+returns c = texts_keep afloat_last float_from float_back
