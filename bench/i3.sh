@@ -19,14 +19,6 @@ sys.path.insert(0, here)
 sys.dont_write_bytecode = True
 from served import *
 
-KINDS = [
-    ("nop", RUN_COMMAND, ["nop"]),
-    ("focus left, focus right", RUN_COMMAND, ["focus left", "focus right"]),
-    ("mark --toggle a", RUN_COMMAND, ["mark --toggle a"]),
-    ("GET_WORKSPACES", GET_WORKSPACES, []),
-    ("GET_TREE", GET_TREE, []),
-]
-
 
 class I3:
     """i3 on a screen of its own, with as many containers as are asked for."""
@@ -68,7 +60,7 @@ def rate(path, kind, texts):
 for count in [2, 16, 128]:
     server, other = Server(program, folder), I3(count)
     windows = Windows(server.clients, count)
-    for name, kind, texts in KINDS:
+    for name, (kind, texts) in KINDS.items():
         turns = [(rate(server.ipc, kind, texts), rate(other.ipc, kind, texts)) for _ in range(3)]
         ours, theirs = [max(answered) for answered in zip(*turns)]
         print("%d containers, %s: %d a second, i3 %d, %.2f times that" % (count, name, ours, theirs, ours / theirs), flush=True)

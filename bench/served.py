@@ -4,6 +4,15 @@ import json, os, socket, struct, subprocess, tempfile, threading, time
 RUN_COMMAND, GET_WORKSPACES, SUBSCRIBE, GET_TREE, GET_MARKS, SEND_TICK = 0, 1, 2, 4, 5, 10
 DONE = b'[{"success":true}]'
 
+# The kinds of messages that are timed: each one's type, and its texts, which are sent in turn.
+KINDS = {
+    "nop": (RUN_COMMAND, ["nop"]),
+    "focus left, focus right": (RUN_COMMAND, ["focus left", "focus right"]),
+    "mark --toggle a": (RUN_COMMAND, ["mark --toggle a"]),
+    "GET_WORKSPACES": (GET_WORKSPACES, []),
+    "GET_TREE": (GET_TREE, []),
+}
+
 
 class Broken(Exception):
     """What is owed does not hold."""

@@ -17,14 +17,13 @@ sys.path.insert(0, here)
 sys.dont_write_bytecode = True
 from served import *
 
-# Each kind's type and texts, and what i3 4.22 does over one connection with 2, 16 and 128 windows.
-KINDS = [
-    ("nop", RUN_COMMAND, ["nop"], None),
-    ("focus left, focus right", RUN_COMMAND, ["focus left", "focus right"], (1000, 900, 85)),
-    ("mark --toggle a", RUN_COMMAND, ["mark --toggle a"], (3100, 2600, 140)),
-    ("GET_WORKSPACES", GET_WORKSPACES, [], (60000, 45000, 59000)),
-    ("GET_TREE", GET_TREE, [], (9200, 3100, 1000)),
-]
+# What i3 4.22 does of a kind over one connection with 2, 16 and 128 windows, on another machine.
+WANTED = {
+    "focus left, focus right": (1000, 900, 85),
+    "mark --toggle a": (3100, 2600, 140),
+    "GET_WORKSPACES": (60000, 45000, 59000),
+    "GET_TREE": (9200, 3100, 1000),
+}
 
 
 def said(*words):
@@ -57,9 +56,10 @@ def fixed(connections, count):
 for at, count in enumerate([2, 16, 128]):
     server = Server(program, folder)
     windows = Windows(server.clients, count)
-    for name, kind, texts, wanted in KINDS:
+    for name, (kind, texts) in KINDS.items():
         (one, cost), (four, cost_four) = [max(rate(server, connections, kind, texts) for _ in range(3)) for connections in [1, 4]]
-        told = "" if wanted is None else "; %d over one is wanted, %.2f times that" % (wanted[at], one / wanted[at])
+        wanted = WANTED[name][at] if name in WANTED else None
+        told = "" if wanted is None else "; %d over one is wanted, %.2f times that" % (wanted, one / wanted)
         print("%d windows, %s: %d a second over one connection, %d over four (%.0f and %.0f us of the server's processor time each)%s"
               % (count, name, one, four, cost, cost_four, told), flush=True)
     took, summary = server.end()
