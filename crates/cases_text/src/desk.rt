@@ -39,6 +39,9 @@ fn furnish(alloc: Global, tree: &mut Tree) -> Result<(), Fault> {
     open_windows(alloc, tree)?;
     mark_some(alloc, tree)?;
     for con in [ConId(7), ConId(5), ConId(8)] {
+        if tree.is_urgent(con) {
+            return Err(Fault::BadLine);
+        }
         done(tree.add_urgent(con).err())?;
     }
     tree.raise(ConId(4));
@@ -126,6 +129,9 @@ fn ended(alloc: Global, class: &str, end: &str) -> Result<Text, Fault> {
 fn mark_some(alloc: Global, tree: &mut Tree) -> Result<(), Fault> {
     for (con, name) in [(6, "__focused__"), (4, "a"), (4, "b")] {
         let name = Text::new(alloc, name)?;
+        if tree.bearer(None, &name).is_some() {
+            return Err(Fault::BadLine);
+        }
         done(tree.add_mark(ConId(con), &name).err())?;
     }
     Ok(())

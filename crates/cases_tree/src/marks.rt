@@ -1,5 +1,7 @@
 //! The calls on marks and on urgent windows.
+ghost use Rattle.std.specs.Prelude.{◌≡◌, None};
 ghost use Rattle.cases_tree.specs.Desk.{Holds};
+ghost use Rattle.wm_tree.specs.Marks.{bearer};
 
 use crate::desk::Desk;
 use crate::telling::{tell_done, tell_id};
@@ -15,12 +17,16 @@ pub fn mark(desk: &mut Desk, words: &mut Words<'_>, out: &mut String) -> Result<
 {
     let con = words.con()?;
     let name = words.last_text()?;
+    if desk.tree.bearer(None, &name).is_some() {
+        return Err(Fault::BadLine);
+    }
     let answer = add_mark(desk, con, &name);
     tell_done(out, answer)
 }
 
 fn add_mark(desk: &mut Desk, con: ConId, name: &Text) -> Result<(), TreeRefusal>
-    requires { Holds desk.old }
+    requires holds { Holds desk.old }
+    requires other { bearer None name.now desk.old.tree.nodes ≡ None }
     ensures { Holds desk.new }
 {
     desk.sound = desk.sound && desk.tree.container(con).is_some();
@@ -48,6 +54,9 @@ fn add_marks(
     let mut answer = Ok(());
     for number in 0..count {
         let name = numbered(alloc, con, number)?;
+        if tree.bearer(None, &name).is_some() {
+            return Err(Fault::BadLine);
+        }
         answer = tree.add_mark(con, &name);
     }
     Ok(answer)
@@ -101,6 +110,9 @@ pub fn urgent(desk: &mut Desk, words: &mut Words<'_>, out: &mut String) -> Resul
     ensures { Holds desk.new }
 {
     let con = words.con()?;
+    if desk.tree.is_urgent(con) {
+        return Err(Fault::BadLine);
+    }
     let answer = desk.tree.add_urgent(con);
     tell_done(out, answer)
 }

@@ -24,7 +24,7 @@ use Rattle.wm_txn.specs.History as commits
 use Rattle.wm_base.specs.declared.ids.Buffer.{Buffer}
 use Rattle.law_desk.specs.LastingLaws.{IsInOrder}
 use Rattle.wm_history.specs.Outputs.{add_answer, added, remove_answer, removed, reserve_answer, reserved, reserved_at, unless_full}
-use Rattle.wm_focus.specs.Swaps.{is_window_kind}
+use Rattle.wm_forest.specs.Change.{is_window_kind}
 use Rattle.wm_opens.specs.Opens.{is_window_of, is_window_part}
 use Rattle.wm_forest.specs.declared.part.ConKind.{ConKind}
 use Rattle.wm_forest.specs.declared.part.ConKind.TheVariants.{Split, Window, Placeholder}

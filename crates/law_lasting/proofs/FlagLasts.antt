@@ -7,7 +7,7 @@ use Rattle.wm_floats.proofs.FloatLemmas.{window_is}
 use Rattle.wm_floats.specs.Floating.{floating_rect}
 use Rattle.wm_floats.specs.Windows.{window_refusal}
 use Rattle.wm_focus.specs.Marks.{bare, part_off, taken_off}
-use Rattle.wm_focus.specs.Swaps.{is_window_kind}
+use Rattle.wm_forest.specs.Change.{is_window_kind}
 use Rattle.law_lasting.proofs.CalmLemmas.{calm_plain}
 use Rattle.law_lasting.proofs.EachLemmas.{each_along, each_change, each_exchanged, each_only, each_put, each_raised, each_settled, each_taking, each_without}
 use Rattle.law_lasting.proofs.FlagLemmas.{Right, each_moved, either_true, right_edited, right_fullscreen, right_hidden, right_loose, right_sink, right_state}

@@ -10,7 +10,7 @@ use Rattle.wm_floats.specs.Floating.{floating_rect, sink_tree, sunk, tiling_plac
 use Rattle.wm_floats.specs.Fullscreen.{fullscreen_tree, others_unfull, unfull_but}
 use Rattle.wm_floats.specs.Scratchpad.{to_scratchpad_tree}
 use Rattle.wm_floats.specs.Windows.{flag_set, full_set, natural_by, natural_in, natural_of, restated, state_of}
-use Rattle.wm_focus.specs.Swaps.{is_window_kind}
+use Rattle.wm_forest.specs.Change.{is_window_kind}
 use Rattle.law_lasting.proofs.EachLemmas.{each_arriving, each_at, each_change, each_only, each_put, each_unfull, each_without}
 use Rattle.law_lasting.proofs.StowedWords.{HasState}
 use Rattle.law_lasting.specs.Changes.{is_plain}

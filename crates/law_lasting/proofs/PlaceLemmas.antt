@@ -8,7 +8,7 @@ use Rattle.law_lasting.specs.Changes.{stows}
 use Rattle.law_lasting.specs.Rects.{Floats}
 use Rattle.wm_floats.specs.Scratchpad.{first_hidden}
 use Rattle.wm_floats.specs.Windows.{natural_by, natural_in, natural_of}
-use Rattle.wm_focus.specs.Swaps.{is_window_kind}
+use Rattle.wm_forest.specs.Change.{is_window_kind}
 use Rattle.wm_opens.specs.Opens.{is_window_of, is_window_part}
 use Rattle.wm_shared.specs.Rects.{output_part_of, rect_of}
 use Rattle.wm_shared.specs.Subject.{is_hidden}

@@ -9,7 +9,7 @@ use Rattle.wm_base.specs.declared.plan.Border.{Border}
 use Rattle.wm_base.specs.declared.plan.OutputPlan.{OutputPlan}
 use Rattle.wm_base.specs.declared.properties.Props.{Props}
 use Rattle.wm_criteria.specs.declared.verdict.Verdict.{Verdict}
-use Rattle.wm_focus.specs.Swaps.{is_window_kind}
+use Rattle.wm_forest.specs.Change.{is_window_kind}
 use Rattle.law_lasting.proofs.BothLast.{both_last}
 use Rattle.law_lasting.proofs.FlagLasts.{flags_added, flags_last, flags_opening}
 use Rattle.law_lasting.proofs.FlagLemmas.{Right}

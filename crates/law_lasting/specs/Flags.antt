@@ -1,6 +1,6 @@
 -- Which containers may be flagged for the scratchpad.
 use Rattle.std.specs.Prelude.{◌≡◌, Bool, true, ◌||◌, not}
-use Rattle.wm_focus.specs.Swaps.{is_window_kind}
+use Rattle.wm_forest.specs.Change.{is_window_kind}
 use Rattle.law_lasting.specs.Each.{Each}
 use Rattle.wm_forest.specs.declared.part.NodeKind.{NodeKind}
 use Rattle.wm_forest.specs.declared.part.NodeKind.TheVariants.{Root, Output, Space, Con}

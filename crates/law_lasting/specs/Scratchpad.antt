@@ -1,6 +1,6 @@
 -- The scratchpad, and which containers may stand in it.
 use Rattle.std.specs.Prelude.{◌≡◌, Bool, true, false, ◌&&◌, is_some}
-use Rattle.wm_focus.specs.Swaps.{is_window_kind}
+use Rattle.wm_forest.specs.Change.{is_window_kind}
 use Rattle.law_lasting.specs.Flags.{FlagsOnlyWindows}
 use Rattle.law_lasting.specs.Rows.{AreStowed}
 use Rattle.wm_forest.specs.declared.part.NodeKind.{NodeKind}

@@ -8,7 +8,7 @@ use Rattle.wm_base.specs.declared.properties.Props.{Props}
 use Rattle.law_lasting.specs.Changes.{is_calm}
 use Rattle.law_lasting.specs.Each.{Each}
 use Rattle.law_lasting.specs.Rects.{FitsKind, FitsRect, GivesShare}
-use Rattle.wm_focus.specs.Swaps.{is_window_kind}
+use Rattle.wm_forest.specs.Change.{is_window_kind}
 use Rattle.wm_forest.specs.Change.{unfull_kind}
 use Rattle.wm_forest.specs.declared.kind.KindEdit.{KindEdit}
 use Rattle.wm_forest.specs.declared.kind.KindEdit.TheVariants as edits

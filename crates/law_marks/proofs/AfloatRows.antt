@@ -9,7 +9,7 @@ use Rattle.wm_base.specs.declared.plan.Border.{Border}
 use Rattle.wm_base.specs.declared.plan.OutputPlan.{OutputPlan}
 use Rattle.law_marks.proofs.AfloatLast.{AllRight, opening_right}
 use Rattle.law_marks.specs.Afloat.{AreAfloat, FloatRows, HasFitRect, IsAfloat, WindowsFloat}
-use Rattle.wm_focus.specs.Swaps.{is_window_kind}
+use Rattle.wm_forest.specs.Change.{is_window_kind}
 use Rattle.wm_forest.specs.declared.part.NodeKind.{NodeKind}
 use Rattle.wm_forest.specs.declared.part.NodeKind.TheVariants.{Root, Output, Space, Con}
 use Rattle.wm_forest.specs.declared.part.Part.{Part}

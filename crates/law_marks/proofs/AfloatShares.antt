@@ -6,7 +6,7 @@ use Rattle.law_lasting.proofs.EachLemmas.{each_only}
 use Rattle.law_lasting.specs.Each.{Each}
 use Rattle.law_marks.proofs.AfloatKinds.{IsRight, Right, both}
 use Rattle.wm_floats.specs.Floating.{IsGoal}
-use Rattle.wm_focus.specs.Swaps.{is_window_kind}
+use Rattle.wm_forest.specs.Change.{is_window_kind}
 use Rattle.wm_opens.specs.Opens.{is_window_of, is_window_part}
 use Rattle.wm_shared.specs.Subject.{is_hidden}
 use Rattle.wm_forest.proofs.ChangeLemmas.{by_place}

@@ -16,7 +16,7 @@ use Rattle.wm_floats.specs.Floating.{IsGoal}
 use Rattle.wm_floats.specs.Fullscreen.{fullscreen_tree, others_unfull, unfull_but}
 use Rattle.wm_floats.specs.Windows.{restated, state_of}
 use Rattle.wm_focus.specs.Moves.{IsTurn}
-use Rattle.wm_focus.specs.Swaps.{is_window_kind}
+use Rattle.wm_forest.specs.Change.{is_window_kind}
 use Rattle.wm_opens.specs.Opens.{is_window_of, is_window_part}
 use Rattle.wm_forest.specs.Change.{arriving, at, hole, nobody, placed, raised_at, raised_in, replaced, unfull, unfull_kind, without}
 use Rattle.wm_forest.specs.declared.kind.KindEdit.TheVariants as edits

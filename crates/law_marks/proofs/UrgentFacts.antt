@@ -3,7 +3,7 @@ use Rattle.std.proofs.Common.{◌≡◌, ℕ, ◌+◌, ◌≤◌, ◌<◌, Bool,
 use Rattle.std.proofs.lemmas.Bool.Decides.{nat_tests}
 use Rattle.wm_base.specs.declared.ids.ConId.{ConId}
 use Rattle.law_marks.specs.Urgent.{UrgentAreWindows}
-use Rattle.wm_focus.specs.Swaps.{is_window_kind}
+use Rattle.wm_forest.specs.Change.{is_window_kind}
 use Rattle.wm_opens.proofs.KeptLemmas.{Kept}
 use Rattle.wm_opens.proofs.MeasureLemmas.{kinds_at, kinds_fresh, kinds_measured, others, others_kept}
 use Rattle.wm_opens.proofs.OpenLemmas.{windows_seen}

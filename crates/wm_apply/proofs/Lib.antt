@@ -1,4 +1,5 @@
 pub mod AppendLemmas
 pub mod GroupLemmas
 pub mod IdLemmas
+pub mod KillLemmas
 pub mod QuietLemmas

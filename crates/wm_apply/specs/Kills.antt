@@ -1,5 +1,5 @@
 -- The windows that a command asks to close.
-use Rattle.std.specs.Prelude.{◌++◌, Bool, true, false, if◌then◌else◌, List, [], ◌∷◌, Option, None, Some}
+use Rattle.std.specs.Prelude.{◌++◌, Bool, true, false, if◌then◌else◌, List, [], ◌∷◌, Option, None, Some, is_some}
 use Rattle.std.specs.Option.{option_or}
 use Rattle.wm_base.specs.declared.errors.ErrorText.TheVariants as errors
 use Rattle.wm_base.specs.declared.errors.Refusal.{Refusal}
@@ -8,12 +8,11 @@ use Rattle.wm_language.specs.declared.command.Command.{Command}
 use Rattle.wm_language.specs.declared.command.Command.TheVariants as commands
 use Rattle.wm_shared.specs.Refusing.{error_if}
 use Rattle.wm_shared.specs.Subject.{is_container, is_space}
-use Rattle.wm_forest.specs.declared.part.ConKind.{ConKind}
-use Rattle.wm_forest.specs.declared.part.ConKind.TheVariants.{Split, Window, Placeholder}
+use Rattle.wm_forest.specs.Change.{is_window_kind}
 use Rattle.wm_forest.specs.declared.part.NodeKind.{NodeKind}
 use Rattle.wm_forest.specs.declared.part.NodeKind.TheVariants.{Root, Output, Space, Con}
 use Rattle.wm_forest.specs.Forest.{Forest, end, con}
-use Rattle.wm_forest.specs.Look.{same}
+use Rattle.wm_forest.specs.Look.{con_kind, first_part, kind_by, same}
 use Rattle.wm_tree.specs.TreeValue.{TreeValue}
 
 abbrev pub is_kill : Command → Bool
@@ -24,16 +23,11 @@ is_kill other = false
 abbrev pub kill_refusal : ConId → TreeValue → Option Refusal
 kill_refusal c t = error_if (is_space t c) errors.AtWorkspace None
 
-abbrev pub is_window_con : ConKind → Bool
-is_window_con (Split layout last) = false
-is_window_con (Window props owner natural) = true
-is_window_con (Placeholder props swallows) = false
-
 abbrev pub is_window_node : NodeKind → Bool
 is_window_node (Root c) = false
 is_window_node (Output o) = false
 is_window_node (Space s) = false
-is_window_node (Con p) = is_window_con p.kind
+is_window_node (Con p) = is_window_kind p.kind
 
 abbrev pub node_window : ConId → NodeKind → List ConId
 node_window c kind = if is_window_node kind then c ∷ [] else []
@@ -53,6 +47,10 @@ row_at c (con part kids floats rest) =
 abbrev pub first_windows : Forest → List ConId
 first_windows end = []
 first_windows (con part kids floats rest) = node_window part.id part.kind ++ (windows_in kids ++ windows_in floats)
+
+-- the same where that is a container
+abbrev pub con_windows : Forest → List ConId
+con_windows row = if is_some (kind_by con_kind (first_part row)) then first_windows row else []
 
 abbrev pub windows_from : Option Forest → List ConId
 windows_from None = []

@@ -1,6 +1,6 @@
 //! One command of a group.
-ghost use Rattle.std.specs.Prelude.{◌≡◌, true, ◌++◌, length, IfOk, OnOk};
-ghost use Rattle.wm_apply.specs.Commands.{command_kills, command_reply, command_tree, is_exit, is_whole, course_reply, course_tree, is_mark, matched_course, runs_once, still_there, subject, targets_course, whole};
+ghost use Rattle.std.specs.Prelude.{◌≡◌, true, ◌++◌, IfOk, OnOk};
+ghost use Rattle.wm_apply.specs.Commands.{command_kills, command_reply, command_tree, is_exit, is_whole, course_reply, course_tree, is_mark, many_there, matched_course, runs_once, subject, targets_course, whole};
 ghost use Rattle.wm_apply.specs.declared.targets.Targets.TheVariants as targets;
 ghost use Rattle.wm_tree.specs.Sound.{IsSound};
 
@@ -31,19 +31,21 @@ pub fn is_exit(command: &Command) -> bool
     matches!(command, Command::Exit)
 }
 
-/// How many of the containers are still there.
-fn count_there(t: &Tree, cons: &[ConId]) -> usize
-    ensures { result ≡ length (still_there cons.now t.now) }
+/// Whether more than one of the containers is still there.
+fn are_many_there(t: &Tree, cons: &[ConId]) -> bool
+    ensures { result ≡ many_there cons.now t.now }
 {
-    let mut there = 0;
+    let mut found = false;
     let mut rest = cons;
     while let [con, after @ ..] = rest {
-        if is_subject(t, *con) {
-            there += 1;
+        let there = is_subject(t, *con);
+        if found && there {
+            return true;
         }
+        found = found || there;
         rest = after;
     }
-    there
+    false
 }
 
 /// The subject that was handed in, or the focused container where it is gone.
@@ -120,7 +122,7 @@ fn run_matched(
     if cons.is_empty() {
         return Ok(CommandReply::Error(ErrorText::NoMatch));
     }
-    if is_mark(command) && count_there(t, cons) >= 2 {
+    if is_mark(command) && are_many_there(t, cons) {
         return Ok(CommandReply::Error(ErrorText::ManyMatch));
     }
     run_each(alloc, t, env, How::Matched, command, cons)

@@ -1,13 +1,14 @@
 //! The windows that a command asks to close.
-ghost use Rattle.std.specs.Prelude.{◌≡◌, ◌++◌, None, OnOk, OnErr, IfErr};
-ghost use Rattle.wm_apply.specs.Kills.{asked_each, asked_of, first_windows, is_kill, is_window_con, is_window_node, kill_refusal, node_window, row_at, windows_in};
+ghost use Rattle.std.specs.Prelude.{◌≡◌, ◌++◌, None, OnOk, OnErr, IfErr, is_some};
+ghost use Rattle.wm_apply.specs.Kills.{asked_each, asked_of, con_windows, is_kill, is_window_node, kill_refusal, node_window, row_at, windows_in};
+ghost use Rattle.wm_forest.specs.Look.{con_kind};
 ghost use Rattle.wm_shared.specs.Refusing.{IsCause};
 
 use std::alloc::AllocError;
 use wm_base::{ConId, ErrorText, Refusal};
 use wm_language::Command;
 use wm_shared::is_space;
-use wm_tree::{ConKind, Cursor, NodeKind, Part, Tree};
+use wm_tree::{Cursor, NodeKind, Part, Tree};
 
 /// Whether the command asks windows to close.
 pub fn is_kill(command: &Command) -> bool
@@ -27,20 +28,20 @@ pub fn kill(t: &Tree, con: ConId) -> Result<(), Refusal>
     Ok(())
 }
 
-fn is_window_con(kind: &ConKind) -> bool
-    ensures { result ≡ is_window_con kind.now }
-{
-    match kind {
-        ConKind::Window { .. } => true,
-        ConKind::Split { .. } | ConKind::Placeholder { .. } => false,
-    }
-}
-
 fn is_window_node(kind: &NodeKind) -> bool
     ensures { result ≡ is_window_node kind.now }
 {
     match kind {
-        NodeKind::Con(con) => is_window_con(&con.kind),
+        NodeKind::Con(con) => con.kind.is_window(),
+        NodeKind::Root { .. } | NodeKind::Output(_) | NodeKind::Space(_) => false,
+    }
+}
+
+fn is_con(kind: &NodeKind) -> bool
+    ensures { result ≡ is_some (con_kind kind.now) }
+{
+    match kind {
+        NodeKind::Con(_) => true,
         NodeKind::Root { .. } | NodeKind::Output(_) | NodeKind::Space(_) => false,
     }
 }
@@ -68,13 +69,16 @@ fn gather(mut row: Cursor<'_>, found: &mut Vec<ConId>) -> Result<(), AllocError>
     Ok(())
 }
 
-/// Adds the windows of the row's first node and below it.
+/// Adds the windows of the row's first node and below it, where that is a container.
 fn gather_first(row: Cursor<'_>, found: &mut Vec<ConId>) -> Result<(), AllocError>
-    ensures { OnOk result (found.new.items ≡ found.old.items ++ first_windows row.entry) }
+    ensures { OnOk result (found.new.items ≡ found.old.items ++ con_windows row.entry) }
 {
     let Some(part) = row.part() else {
         return Ok(());
     };
+    if !is_con(&part.kind) {
+        return Ok(());
+    }
     add(part, found)?;
     gather(row.kids(), found)?;
     gather(row.floats(), found)?;
@@ -101,12 +105,10 @@ fn row_at(mut row: Cursor<'_>, con: ConId) -> Option<Cursor<'_>>
 }
 
 /// Adds the windows of a container that is there, and below it.
+#[tactic(auto, using(crate::proofs::KillLemmas::asked_at, crate::proofs::KillLemmas::none_asked))]
 pub fn ask(t: &Tree, con: ConId, found: &mut Vec<ConId>) -> Result<(), AllocError>
     ensures { OnOk result (found.new.items ≡ found.old.items ++ asked_of con t.now) }
 {
-    if t.container(con).is_none() {
-        return Ok(());
-    }
     match row_at(t.nodes(), con) {
         Some(row) => gather_first(row, found),
         None => Ok(()),

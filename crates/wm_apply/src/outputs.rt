@@ -6,8 +6,8 @@ ghost use Rattle.wm_shared.specs.Subject.{IsSubject};
 use std::alloc::Global;
 use wm_base::{ConId, ErrorText, Refusal};
 use wm_language::OutArg;
-use wm_shared::{is_hidden, is_space};
-use wm_spaces::{focus_output, move_workspace, output_at, send_to_output};
+use wm_shared::{is_hidden, on_workspace};
+use wm_spaces::{focus_output, move_workspace, output_at, send_shown};
 use wm_tree::Tree;
 
 /// Makes the output that the command names the current one.
@@ -31,16 +31,11 @@ pub fn send_to_named(t: &mut Tree, con: ConId, arg: &OutArg) -> Result<(), Refus
     ensures { Does t.old t.new result (move_to_output_refusal con arg.now)
         (move_to_output_tree con arg.now) }
 {
-    if is_hidden(t, con) {
-        return Err(Refusal::NoTarget(ErrorText::NoWorkspace));
-    }
-    if is_space(t, con) {
-        return Err(Refusal::NoTarget(ErrorText::AtWorkspace));
-    }
+    on_workspace(t, con)?;
     let Some(output) = output_at(t, con, arg) else {
         return Err(Refusal::NoTarget(ErrorText::NoOutput));
     };
-    send_to_output(t, con, output)
+    send_shown(t, con, output)
 }
 
 /// Moves the workspace of the container to the output that the command names.
@@ -54,14 +49,11 @@ pub fn move_space_to_named(
     ensures { Does t.old t.new result (move_space_refusal con arg.now)
         (move_space_tree con arg.now) }
 {
-    if is_hidden(t, con) {
+    let Some(w) = t.workspace_of(con) else {
         return Err(Refusal::NoTarget(ErrorText::NoWorkspace));
-    }
+    };
     let Some(output) = output_at(t, con, arg) else {
         return Err(Refusal::NoTarget(ErrorText::NoOutput));
-    };
-    let Some(w) = t.workspace_of(con) else {
-        return Ok(());
     };
     move_workspace(alloc, t, w, output)
 }

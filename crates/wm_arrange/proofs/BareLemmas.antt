@@ -1,5 +1,6 @@
 -- Parts of a window that are no areas, and the area of a container among parts.
 use Rattle.std.proofs.Common.{◌≡◌, ℕ, ◌+◌, eqb, Bool, true, false, cond, ◌&&◌, ◌||◌, List, [], ◌∷◌, ◌++◌, Option, None, Some, refl, ap, ◌∙◌}
+use Rattle.std.specs.Option.{option_or}
 use Rattle.wm_base.specs.declared.geometry.Rect.{Rect}
 use Rattle.wm_base.specs.declared.ids.ConId.{ConId}
 use Rattle.wm_base.specs.declared.plan.Border.{Border}
@@ -13,7 +14,6 @@ use Rattle.wm_forest.specs.Look.{same}
 use Rattle.wm_arrange.specs.declared.parts.Placed.{Placed}
 use Rattle.wm_arrange.specs.declared.parts.PlacedPart.{PlacedPart}
 use Rattle.wm_arrange.specs.declared.parts.PlacedPart.TheVariants as parts
-use Rattle.wm_arrange.specs.AreaOf.{or_area}
 use Rattle.wm_arrange.specs.Borders.{below_title, border_part, bordered, width, window_parts, within_border}
 use Rattle.wm_arrange.specs.Cover.{is_area}
 use Rattle.wm_arrange.specs.CoverTree.{area_in}
@@ -78,25 +78,25 @@ bare_titles s Stacked area kids = bare_row s (line area) 0 kids
 
 -- ---- the area of a container among parts
 
-or_cond : (b : Bool) (r : Rect) (m n : Option Rect) → cond b (Some r) (or_area m n) ≡ or_area (cond b (Some r) m) n
+or_cond : (b : Bool) (r : Rect) (m n : Option Rect) → cond b (Some r) (option_or m n) ≡ option_or (cond b (Some r) m) n
 or_cond true r m n = refl
 or_cond false r m n = refl
 
-pub area_in_append : (c : ConId) (ps qs : List Placed) → area_in c (ps ++ qs) ≡ or_area (area_in c ps) (area_in c qs)
+pub area_in_append : (c : ConId) (ps qs : List Placed) → area_in c (ps ++ qs) ≡ option_or (area_in c ps) (area_in c qs)
 area_in_append c [] qs = refl
 area_in_append c (p ∷ ps) qs =
     let here : Bool = is_area p.part && same p.con c in
     ap (λ m. cond here (Some p.rect) m) (area_in_append c ps qs) ∙ or_cond here p.rect (area_in c ps) (area_in c qs)
 
-or_none : (m : Option Rect) → or_area m None ≡ m
+or_none : (m : Option Rect) → option_or m None ≡ m
 or_none None = refl
 or_none (Some r) = refl
 
 pub area_in_first : (c : ConId) (ps qs : List Placed) → area_in c qs ≡ None → area_in c (ps ++ qs) ≡ area_in c ps
-area_in_first c ps qs none = area_in_append c ps qs ∙ (ap (or_area (area_in c ps)) none ∙ or_none (area_in c ps))
+area_in_first c ps qs none = area_in_append c ps qs ∙ (ap (option_or (area_in c ps)) none ∙ or_none (area_in c ps))
 
 pub area_in_second : (c : ConId) (ps qs : List Placed) → area_in c ps ≡ None → area_in c (ps ++ qs) ≡ area_in c qs
-area_in_second c ps qs none = area_in_append c ps qs ∙ ap (λ m. or_area m (area_in c qs)) none
+area_in_second c ps qs none = area_in_append c ps qs ∙ ap (λ m. option_or m (area_in c qs)) none
 
 -- an area that is placed, unless it has no pixels
 pub area_in_placed : (c id : ConId) (r : Rect) → same id c ≡ true → area_in c (placed id parts.Area r) ≡ cond (eqb r.w 0 || eqb r.h 0) None (Some r)

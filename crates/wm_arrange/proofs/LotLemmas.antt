@@ -1,5 +1,6 @@
 -- The areas of children told by sums of shares are those told by the shares.
 use Rattle.std.proofs.Common.{◌≡◌, Bool, false, cond, ℕ, suc, ◌+◌, Option, Some, sum, take, drop, refl, ap, ap₂, sym, ◌∙◌, arith}
+use Rattle.std.specs.Option.{option_or}
 use Rattle.wm_base.specs.declared.geometry.Axis.{Axis}
 use Rattle.wm_base.specs.declared.geometry.Rect.{Rect}
 use Rattle.wm_base.specs.declared.ids.ConId.{ConId}
@@ -11,7 +12,7 @@ use Rattle.wm_forest.specs.Forest.{Forest, end, con}
 use Rattle.wm_forest.specs.Look.{first_kids, rest_of, same}
 use Rattle.wm_arrange.specs.declared.lots.Lots.{Lots}
 use Rattle.wm_arrange.specs.declared.lots.Lots.TheVariants.{Beside, Below}
-use Rattle.wm_arrange.specs.AreaOf.{area_among, as_area, child_area, cut_area, layout_of, or_area}
+use Rattle.wm_arrange.specs.AreaOf.{area_among, as_area, child_area, cut_area, layout_of}
 use Rattle.wm_arrange.specs.Areas.{shares}
 use Rattle.wm_arrange.specs.Gaps.{gaps, is_first, is_last}
 use Rattle.wm_arrange.specs.Lots.{area_from, lot_between}
@@ -19,7 +20,7 @@ use Rattle.wm_arrange.proofs.RowLemmas.{Turn, child, next_item}
 
 -- the area of c, from those of the first node, of what is below it and of what is behind it
 abbrev one_of : ℕ → ConId → Part → Forest → Rect → Option Rect → Option Rect
-one_of inner c part below lot behind = cond (same part.id c) (Some lot) (or_area (area_among inner c (layout_of part.kind) lot below 0 below) behind)
+one_of inner c part below lot behind = cond (same part.id c) (Some lot) (option_or (area_among inner c (layout_of part.kind) lot below 0 below) behind)
 
 module _ (inner : ℕ) (c : ConId) (layout : Layout) (area : Rect) (kids : Forest) where
   pub beside_area : (axis : Axis) → ((i : ℕ) (rest : Forest) → child_area inner layout area kids i rest ≡ cut_area inner axis area kids i rest) → (i : ℕ) (row : Forest) → shares row ≡ drop i (shares kids)

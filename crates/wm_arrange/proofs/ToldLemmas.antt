@@ -1,5 +1,6 @@
 -- The area that a tiled container or a workspace has in the arrangement is the one that is told of it.
 use Rattle.std.proofs.Common.{◌≡◌, ℕ, ◌+◌, ◌*◌, ◌≤◌, eqb, Bool, true, false, cond, ◌||◌, pos, List, [], Option, None, Some, refl, ap, sym, subst, ◌∙◌, arith}
+use Rattle.std.specs.Option.{option_or}
 use Rattle.wm_defs.specs.Cut.{cut}
 use Rattle.wm_base.specs.declared.geometry.Axis.TheVariants.{Across, Down}
 use Rattle.wm_base.specs.declared.geometry.Rect.{Rect}
@@ -21,7 +22,7 @@ use Rattle.wm_forest.specs.SoundRow.{tally}
 use Rattle.wm_forest.specs.Focus.{focused_in}
 use Rattle.wm_arrange.specs.declared.parts.Placed.{Placed}
 use Rattle.wm_arrange.specs.declared.parts.PlacedPart.TheVariants as parts
-use Rattle.wm_arrange.specs.AreaOf.{area_among, as_area, child_area, con_layout, layout_of, or_area}
+use Rattle.wm_arrange.specs.AreaOf.{area_among, as_area, child_area, con_layout, layout_of}
 use Rattle.wm_arrange.specs.Areas.{shares, side_of, slice_of, some_area}
 use Rattle.wm_arrange.specs.Arranged.{con_parts, has_own_title, kids_parts, node_parts, row_parts, shown_parts, slot, standing}
 use Rattle.wm_arrange.specs.Borders.{window_parts}
@@ -141,7 +142,7 @@ module _ (c : ConId) (target : Forest) (there : 1 ≤ tally c target) where
       (λ low gone gap. let none = (row_absent c target (pos 0) (pos 0) there s rest (apart_below c target goal part below floats rest once low rest (λ d. omega arith)) st (i + 1)).1 in
       let apart = not_c c target (pos 0) (pos 0) there part.id gone in
       shown_below s own part below r goal place apart (sym (area_in_first c first behind none) ∙ told)
-      (λ q e h. rw apart (ap (λ z. or_area (area_among s.inner c (layout_of part.kind) z below 0 below) later) (is_child q e) ∙ ap (λ m. or_area m later) (deeper low q h))))
+      (λ q e h. rw apart (ap (λ z. option_or (area_among s.inner c (layout_of part.kind) z below 0 below) later) (is_child q e) ∙ ap (λ m. option_or m later) (deeper low q h))))
       (λ more gone gap. let kids_apart = apart_behind c target goal part below floats rest once more below (λ d. omega arith) in
       let none = (shown_absent c target (pos 0) (pos 0) there s own part below (kids_parts s below) gone (kids_absent c target (pos 0) (pos 0) there s below kids_apart) place).1 in
       let within : tally c target ≤ tally c rest = subst (λ z. tally c z ≤ tally c rest) more (tiled-within c c rest) in

@@ -1,5 +1,6 @@
 -- In the arrangement of a whole tree a tiled container or a workspace has the area that is told of it.
 use Rattle.std.proofs.Common.{◌≡◌, ◌≤◌, eqb, Bool, true, false, cond, ◌||◌, pos, [], ◌++◌, Option, None, Some, refl, ap, sym, subst, ◌∙◌, arith}
+use Rattle.std.specs.Option.{option_or}
 use Rattle.wm_base.specs.declared.geometry.Rect.{Rect}
 use Rattle.wm_base.specs.declared.ids.ConId.{ConId}
 use Rattle.wm_forest.specs.declared.part.NodeKind.{NodeKind}
@@ -13,7 +14,7 @@ use Rattle.wm_forest.specs.Look.{first_kids, node_in, output_kind, same, space_k
 use Rattle.wm_forest.specs.SoundRow.{tally}
 use Rattle.wm_tree.specs.TreeValue.{TreeValue, focused}
 use Rattle.wm_arrange.specs.declared.parts.PlacedPart.TheVariants as parts
-use Rattle.wm_arrange.specs.AreaOf.{area_in_output, area_in_outputs, area_in_space, area_in_spaces, as_area, or_area, or_nowhere}
+use Rattle.wm_arrange.specs.AreaOf.{area_in_output, area_in_outputs, area_in_space, area_in_spaces, as_area, or_nowhere}
 use Rattle.wm_arrange.specs.Areas.{some_area}
 use Rattle.wm_arrange.specs.Arranged.{first_space, floats_parts, fullscreen_in, kids_parts, on_space, or_else, output_parts, outputs_parts, space_parts, tiled_parts}
 use Rattle.wm_arrange.specs.CoverTree.{AreasAreTold, area_in, tiled_at}
@@ -94,11 +95,11 @@ module _ (c : ConId) (target : Forest) (there : 1 ≤ tally c target) where
     none_here part kids apart none (Con i) = refl
     none_here part kids apart none (Space w) = rw apart (among_absent w.inner c w.layout (as_area (ground output.rect output.reserved w.outer w.inner)) kids 0 kids none)
 
-    first_of_two : (m n : Option Rect) → m ≡ Some r → or_area m n ≡ Some r
-    first_of_two m n e = ap (λ z. or_area z n) e
+    first_of_two : (m n : Option Rect) → m ≡ Some r → option_or m n ≡ Some r
+    first_of_two m n e = ap (λ z. option_or z n) e
 
-    second_of_two : (m n : Option Rect) → m ≡ None → n ≡ Some r → or_area m n ≡ Some r
-    second_of_two m n none e = ap (λ z. or_area z n) none ∙ e
+    second_of_two : (m n : Option Rect) → m ≡ None → n ≡ Some r → option_or m n ≡ Some r
+    second_of_two m n none e = ap (λ z. option_or z n) none ∙ e
 
     -- the workspace that an output shows, c being in the row of its workspaces or below it
     module _ (part : Part) (kids floats rest : Forest) (once : (d : ConId) → tally d (con part kids floats rest) ≤ 1) (found : tiled_at c (con part kids floats rest) ≡ target) where
@@ -140,7 +141,7 @@ module _ (c : ConId) (target : Forest) (there : 1 ≤ tally c target) where
     spaces_absent end none = refl
     spaces_absent (con part kids floats rest) none =
         let apart = not_first (same part.id c) c part kids floats rest refl none in
-        ap (λ z. or_area z (area_in_spaces c output rest)) (none_here part kids apart (omega (arith, none)) part.kind) ∙ spaces_absent rest (omega (arith, none))
+        ap (λ z. option_or z (area_in_spaces c output rest)) (none_here part kids apart (omega (arith, none)) part.kind) ∙ spaces_absent rest (omega (arith, none))
 
   -- ---- outputs
 
@@ -174,10 +175,10 @@ module _ (c : ConId) (target : Forest) (there : 1 ≤ tally c target) where
         stands_at c target goal part kids floats rest once found
         (λ e whole inner. not_told c target there goal first r (output_here part kids floats rest e once)
         (sym (no_more (apart_here c target goal part kids floats rest once whole rest (λ d. omega arith))) ∙ told))
-        (λ below gone inner. ap (λ z. or_area z later) (output_told part.kind kids (λ d. omega (arith, once d)) below
+        (λ below gone inner. ap (λ z. option_or z later) (output_told part.kind kids (λ d. omega (arith, once d)) below
         (sym (no_more (apart_below c target goal part kids floats rest once below rest (λ d. omega arith))) ∙ told)))
         (λ more gone inner. let none = (output_absent c target (pos 0) (pos 0) there t f (output_kind part.kind) kids (apart_behind c target goal part kids floats rest once more kids (λ d. omega arith))).1 in
-        ap (λ z. or_area z later) (output_absent_told part.kind kids (none_in_kids part kids floats rest once more)) ∙
+        ap (λ z. option_or z later) (output_absent_told part.kind kids (none_in_kids part kids floats rest once more)) ∙
         outputs_told rest (λ d. omega (arith, once d)) more (sym (area_in_second c first behind none) ∙ told))
 
 -- ---- the whole tree

@@ -1,6 +1,7 @@
 -- The area of a workspace or container, as if its workspace were shown without a fullscreen window and each container
 -- on the way to it were the focused child.
 use Rattle.std.specs.Prelude.{ℕ, ◌+◌, ◌*◌, ◌==◌, ◌||◌, pos, if◌then◌else◌, Option, None, Some}
+use Rattle.std.specs.Option.{option_or}
 use Rattle.wm_defs.specs.Cut.{cut}
 use Rattle.wm_base.specs.declared.geometry.Axis.{Axis}
 use Rattle.wm_base.specs.declared.geometry.Axis.TheVariants.{Across, Down}
@@ -9,6 +10,7 @@ use Rattle.wm_base.specs.declared.ids.ConId.{ConId}
 use Rattle.wm_base.specs.declared.plan.Layout.{Layout}
 use Rattle.wm_base.specs.declared.plan.Layout.TheVariants.{SplitH, SplitV, Tabbed, Stacked}
 use Rattle.wm_base.specs.Rect.{inset}
+pub use Rattle.wm_base.specs.Rect.{nowhere}
 use Rattle.wm_forest.specs.declared.part.ConKind.{ConKind}
 use Rattle.wm_forest.specs.declared.part.ConKind.TheVariants.{Split, Window, Placeholder}
 use Rattle.wm_forest.specs.declared.part.NodeKind.{NodeKind}
@@ -26,10 +28,6 @@ use Rattle.wm_arrange.specs.Titles.{lower}
 -- an area without pixels is taken at 0,0, with its width and height
 abbrev pub as_area : Rect → Rect
 as_area r = if r.w == 0 || r.h == 0 then record { x = pos 0; y = pos 0; w = r.w; h = r.h } else r
-
-abbrev pub or_area : Option Rect → Option Rect → Option Rect
-or_area None other = other
-or_area (Some area) other = Some area
 
 -- ---- the children of a container
 
@@ -62,7 +60,7 @@ abbrev pub area_among : ℕ → ConId → Layout → Rect → Forest → ℕ →
 area_among inner c layout area kids i end = None
 area_among inner c layout area kids i (con part below floats rest) =
     if same part.id c then Some (child_area inner layout area kids i rest)
-    else or_area (area_among inner c (layout_of part.kind) (child_area inner layout area kids i rest) below 0 below) (area_among inner c layout area kids (i + 1) rest)
+    else option_or (area_among inner c (layout_of part.kind) (child_area inner layout area kids i rest) below 0 below) (area_among inner c layout area kids (i + 1) rest)
 
 -- ---- workspaces and outputs
 
@@ -77,7 +75,7 @@ area_in_space c output id (Some space) kids = area_on c id space kids (as_area (
 -- the area of c in one of a row of workspaces
 abbrev pub area_in_spaces : ConId → OutputPart → Forest → Option Rect
 area_in_spaces c output end = None
-area_in_spaces c output (con part kids floats rest) = or_area (area_in_space c output part.id (space_kind part.kind) kids) (area_in_spaces c output rest)
+area_in_spaces c output (con part kids floats rest) = option_or (area_in_space c output part.id (space_kind part.kind) kids) (area_in_spaces c output rest)
 
 abbrev pub area_in_output : ConId → Option OutputPart → Forest → Option Rect
 area_in_output c None spaces = None
@@ -86,11 +84,7 @@ area_in_output c (Some output) spaces = area_in_spaces c output spaces
 -- the area of c on one of a row of outputs
 abbrev pub area_in_outputs : ConId → Forest → Option Rect
 area_in_outputs c end = None
-area_in_outputs c (con part kids floats rest) = or_area (area_in_output c (output_kind part.kind) kids) (area_in_outputs c rest)
-
--- no pixels, at 0,0
-abbrev pub nowhere : Rect
-nowhere = record { x = pos 0; y = pos 0; w = 0; h = 0 }
+area_in_outputs c (con part kids floats rest) = option_or (area_in_output c (output_kind part.kind) kids) (area_in_outputs c rest)
 
 abbrev pub or_nowhere : Option Rect → Rect
 or_nowhere None = nowhere

@@ -16,7 +16,7 @@ use Rattle.wm_forest.specs.declared.part.NodeKind.TheVariants.{Root, Output, Spa
 use Rattle.wm_forest.specs.declared.part.OutputPart.{OutputPart}
 use Rattle.wm_forest.specs.declared.part.Part.{Part}
 use Rattle.wm_forest.specs.declared.part.SpacePart.{SpacePart}
-use Rattle.wm_forest.specs.Change.{is_id}
+use Rattle.wm_forest.specs.Change.{is_id, is_window_kind}
 use Rattle.wm_forest.specs.Counts.{row_length}
 use Rattle.wm_forest.specs.Forest.{Forest, end, con}
 use Rattle.wm_forest.specs.Look.{first_kids, node_in, output_kind, space_kind}
@@ -104,11 +104,6 @@ abbrev pub floats_parts : Seen → Forest → List Placed
 floats_parts s end = []
 floats_parts s (con part kids floats rest) =
     shown_parts s true part kids (λ area layout. []) (option_and_then near_area (rect_of part.kind)) ++ floats_parts s rest
-
-abbrev pub is_window_kind : ConKind → Bool
-is_window_kind (Split layout last) = false
-is_window_kind (Window props owner natural) = true
-is_window_kind (Placeholder props swallows) = false
 
 -- a fullscreen window
 abbrev pub is_fullscreen : NodeKind → Bool

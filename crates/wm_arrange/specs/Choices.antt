@@ -27,7 +27,7 @@ value_at map c = lookup (is_at (nat_cmp c.0)) map
 
 -- the places are those in the list
 abbrev pub ArePlaces : Recency → Type 0
-ArePlaces r = (c : ConId) → value_at r.places c ≡ place_from 0 c r.ids.now
+ArePlaces r = (c : ConId) → value_at r.places c ≡ place_from 0 c r.ids
 
 -- ---- the nearest node of a row
 

@@ -1,5 +1,6 @@
 -- The areas of all children of a container, told by the sum of the shares before each.
 use Rattle.std.specs.Prelude.{ℕ, ◌+◌, ◌≤◌, Bool, false, if◌then◌else◌, Option, None, Some}
+use Rattle.std.specs.Option.{option_or}
 use Rattle.wm_base.specs.declared.geometry.Rect.{Rect}
 use Rattle.wm_base.specs.declared.ids.ConId.{ConId}
 use Rattle.wm_base.specs.Rect.{inset}
@@ -8,7 +9,7 @@ use Rattle.wm_forest.specs.Forest.{Forest, end, con}
 use Rattle.wm_forest.specs.Look.{same}
 use Rattle.wm_arrange.specs.declared.lots.Lots.{Lots}
 use Rattle.wm_arrange.specs.declared.lots.Lots.TheVariants.{Beside, Below}
-use Rattle.wm_arrange.specs.AreaOf.{area_among, as_area, layout_of, or_area}
+use Rattle.wm_arrange.specs.AreaOf.{area_among, as_area, layout_of}
 use Rattle.wm_arrange.specs.Areas.{IsArea, cut_between}
 use Rattle.wm_arrange.specs.Gaps.{gaps, is_last}
 
@@ -27,5 +28,5 @@ abbrev pub area_from : ℕ → ConId → Lots → Bool → ℕ → Forest → Op
 area_from inner c lots first before end = None
 area_from inner c lots first before (con part kids floats rest) =
     if same part.id c then Some (lot_between inner lots first (is_last rest) before (before + share_of part.kind))
-    else or_area (area_among inner c (layout_of part.kind) (lot_between inner lots first (is_last rest) before (before + share_of part.kind)) kids 0 kids)
+    else option_or (area_among inner c (layout_of part.kind) (lot_between inner lots first (is_last rest) before (before + share_of part.kind)) kids 0 kids)
     (area_from inner c lots false (before + share_of part.kind) rest)

@@ -1,8 +1,9 @@
 -- What the parts of a workspace depend on besides its own nodes.
-use Rattle.std.specs.Prelude.{ℕ, Bool, false, ◌||◌, if◌then◌else◌, List, [], ◌∷◌}
+use Rattle.std.specs.Prelude.{ℕ, if◌then◌else◌, List}
 use Rattle.wm_base.specs.declared.ids.ConId.{ConId}
 use Rattle.wm_base.specs.declared.ids.Ink.{Ink}
 use Rattle.wm_forest.specs.Look.{same}
+use Rattle.wm_forest.specs.Recency.{lists}
 use Rattle.wm_tree.specs.TreeValue.{TreeValue}
 use Rattle.wm_arrange.specs.declared.scene.Scene.{Scene}
 
@@ -20,13 +21,9 @@ seen_in t c inner = record { recency = t.recency; urgent = t.urgent; focused = c
 abbrev pub seen : Scene → Seen
 seen scene = seen_in scene.tree.now scene.focused scene.inner
 
-abbrev pub is_among : ConId → List ConId → Bool
-is_among c [] = false
-is_among c (id ∷ ids) = same id c || is_among c ids
-
 abbrev pub color : ℕ → Ink
 color n = record { 0 = n }
 
 -- the ink of titles and borders: 4c7899 for the focused container, 900000 for an urgent one, else 333333
 abbrev pub ink : Seen → ConId → Ink
-ink s c = if same c s.focused then color 5011609 else if is_among c s.urgent then color 9437184 else color 3355443
+ink s c = if same c s.focused then color 5011609 else if lists c s.urgent then color 9437184 else color 3355443

@@ -4,7 +4,7 @@ ghost use Rattle.wm_arrange.specs.Areas.{edges_of, some_area, IsArea, IsFitMargi
 ghost use Rattle.wm_base.specs.declared.geometry.Rect.{Rect};
 ghost use Rattle.wm_base.specs.declared.ids.ConId.{ConId};
 ghost use Rattle.wm_base.specs.Rect.{inset};
-ghost use Rattle.wm_arrange.specs.Arranged.{arranged, first_space, fullscreen_in, is_fullscreen, is_window_kind, on_space, or_else, output_parts, outputs_parts, tiled_parts};
+ghost use Rattle.wm_arrange.specs.Arranged.{arranged, first_space, fullscreen_in, is_fullscreen, on_space, or_else, output_parts, outputs_parts, tiled_parts};
 ghost use Rattle.wm_arrange.specs.Choices.{value_at, KnowsFirst, KnowsNode, KnowsOutputs};
 ghost use Rattle.wm_arrange.specs.CoverTree.{inner_at, tiled_at, IsOfSplits, LeavesCover};
 ghost use Rattle.wm_arrange.specs.Gaps.{ground};
@@ -25,7 +25,7 @@ use crate::scene::Scene;
 use std::alloc::Global;
 use wm_base::{ConId, Edges, List, NoMemory, Rect};
 use wm_ids::IdMap;
-use wm_tree::{ConKind, Cursor, NodeKind, OutputPart, SpacePart, Tree};
+use wm_tree::{Cursor, NodeKind, OutputPart, SpacePart, Tree};
 
 /// The arrangement of a tree. With no inner gap, the areas of the windows and placeholders below a tiled container or
 /// workspace cover its area, no pixel twice, where it and each split below it have a child and the layout splith or
@@ -221,15 +221,6 @@ fn is_fullscreen(kind: &NodeKind) -> bool
 {
     match kind {
         NodeKind::Root { .. } | NodeKind::Output(_) | NodeKind::Space(_) => false,
-        NodeKind::Con(con) => con.state.fullscreen && is_window(&con.kind),
-    }
-}
-
-fn is_window(kind: &ConKind) -> bool
-    ensures { result ≡ is_window_kind kind.now }
-{
-    match kind {
-        ConKind::Window { .. } => true,
-        ConKind::Split { .. } | ConKind::Placeholder { .. } => false,
+        NodeKind::Con(con) => con.state.fullscreen && con.kind.is_window(),
     }
 }

@@ -107,8 +107,8 @@ fn choose(
     row: Cursor<'_>,
 ) -> Result<Option<Near>, NoMemory>
     requires { ArePlaces recency.now }
-    ensures near { IfOk result (λ near. near ≡ nearest recency.now.ids.now row.entry) }
-    ensures chosen { (c : ConId) → tally c row.entry ≤ 1 → OnOk result (value_at chosen.new c ≡ option_or (choice_in recency.now.ids.now c row.entry) (value_at chosen.old c)) }
+    ensures near { IfOk result (λ near. near ≡ nearest recency.now.ids row.entry) }
+    ensures chosen { (c : ConId) → tally c row.entry ≤ 1 → OnOk result (value_at chosen.new c ≡ option_or (choice_in recency.now.ids c row.entry) (value_at chosen.old c)) }
 {
     let mut near = None;
     let mut left = row;

@@ -26,4 +26,5 @@ pub use covering::{areas_cover_once, arranged_areas_cover_once};
 pub use cutting::cut;
 pub use finding::area_of;
 pub use parts::{Arrangement, Placed, PlacedPart};
+pub use places::places_of;
 pub use texts::title_text;

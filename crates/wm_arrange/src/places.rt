@@ -9,44 +9,44 @@ ghost use Rattle.wm_arrange.specs.Choices.{value_at, ArePlaces};
 use std::alloc::Global;
 use wm_base::{ConId, NoMemory};
 use wm_ids::IdMap;
+use wm_tree::Recent;
 
 /// A list of ids with the place of each in it, from 0; the first where an id is there twice.
 #[derive(Drop)]
 pub struct Recency<'a> {
-    pub ids: &'a [ConId],
+    pub ids: Recent<'a>,
     pub places: IdMap<usize>,
 }
 
 impl<'a> Recency<'a> {
     /// The places of the ids of a list.
-    pub fn new(alloc: Global, ids: &'a [ConId]) -> Result<Recency<'a>, NoMemory>
+    pub fn new(alloc: Global, ids: Recent<'a>) -> Result<Recency<'a>, NoMemory>
         ensures places { IfOk result (λ recency. ArePlaces recency) }
-        ensures ids { IfOk result (λ recency. recency.ids.now ≡ ids.now) }
+        ensures ids { IfOk result (λ recency. recency.ids ≡ ids.entry) }
     {
-        let places = places(alloc, ids)?;
+        let places = places_of(alloc, ids.again())?;
         Ok(Recency { ids, places })
     }
 
     /// The place of an id. `None` exactly where it is not in the list.
     pub fn place(&self, id: ConId) -> Option<usize>
         requires { ArePlaces self.now }
-        ensures { result ≡ place_from 0 id self.now.ids.now }
+        ensures { result ≡ place_from 0 id self.now.ids }
     {
         self.places.get(id.0).copied()
     }
 }
 
+/// The place of each id in the list, from 0; the first where an id is there twice.
 #[tactic(auto, using(crate::proofs::MapLemmas::place_step))]
-fn places(alloc: Global, list: &[ConId]) -> Result<IdMap<usize>, NoMemory>
-    ensures { IfOk result (λ map. (c : ConId) → value_at map c ≡ place_from 0 c list.now) }
+pub fn places_of(alloc: Global, mut ids: Recent<'_>) -> Result<IdMap<usize>, NoMemory>
+    ensures { IfOk result (λ map. (c : ConId) → value_at map c ≡ place_from 0 c ids.entry) }
 {
     let mut map = IdMap::new(alloc);
     let mut at = 0;
-    let mut rest = list;
-    while let [id, after @ ..] = rest {
-        keep_place(&mut map, *id, at)?;
+    while let Some(id) = ids.next() {
+        keep_place(&mut map, id, at)?;
         at += 1;
-        rest = after;
     }
     Ok(map)
 }

@@ -1,6 +1,6 @@
 //! What the parts of a workspace depend on besides its own nodes.
 ghost use Rattle.std.specs.Prelude.{◌≡◌};
-ghost use Rattle.wm_arrange.specs.Scene.{ink, is_among, seen};
+ghost use Rattle.wm_arrange.specs.Scene.{ink, seen};
 
 use std::alloc::Global;
 use wm_base::{ConId, Ink};
@@ -31,23 +31,10 @@ impl Scene<'_> {
     {
         if con == self.focused {
             FOCUSED
-        } else if is_among(con, self.tree.urgent_ids()) {
+        } else if self.tree.is_urgent(con) {
             URGENT
         } else {
             PLAIN
         }
     }
-}
-
-fn is_among(con: ConId, ids: &[ConId]) -> bool
-    ensures { result ≡ is_among con ids.now }
-{
-    let mut rest = ids;
-    while let [id, after @ ..] = rest {
-        if *id == con {
-            return true;
-        }
-        rest = after;
-    }
-    false
 }

@@ -27,6 +27,10 @@ pub record IsCommon (a : ℤ) (n : ℕ) (b : ℤ) (m : ℕ) (first : ℤ) (count
 
 -- ---- rectangles
 
+-- the rectangle without pixels at 0,0, where nothing is
+abbrev pub nowhere : Rect
+nowhere = record { x = pos 0; y = pos 0; w = 0; h = 0 }
+
 -- places from -1,000,000 to 1,000,000, and sides of at most 1,000,000
 pub record IsNear (r : Rect) : Type 0 where
   pub across : IsNearSpan r.x r.w

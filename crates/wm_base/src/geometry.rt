@@ -13,6 +13,14 @@ pub struct Rect {
     pub h: u32,
 }
 
+/// The rectangle without pixels at 0,0, where nothing is.
+pub const NOWHERE: Rect = Rect {
+    x: 0,
+    y: 0,
+    w: 0,
+    h: 0,
+};
+
 /// A width and a height in pixels.
 #[derive(Clone, Copy, Debug, PartialEq, Eq, Hash)]
 pub struct Size {

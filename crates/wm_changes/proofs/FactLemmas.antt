@@ -1,5 +1,5 @@
 -- Windows and workspaces put in under their ids, and sums of shares.
-use Rattle.std.proofs.Common.{◌≡◌, ℕ, ◌*◌, ◌≤◌, Bool, true, false, List, [], ◌∷◌, ◌++◌, append_assoc, refl, ap, sym, ◌∙◌, arith}
+use Rattle.std.proofs.Common.{◌≡◌, ℕ, ◌*◌, ◌≤◌, Bool, true, false, List, [], ◌∷◌, ◌++◌, refl, ap, arith}
 use Rattle.std.specs.BTreeMap.{insert_entry}
 use Rattle.std.specs.Ordering.{nat_cmp}
 use Rattle.wm_base.specs.declared.ids.ConId.{ConId}
@@ -17,12 +17,6 @@ use Rattle.wm_tree.specs.TreeValue.{TreeValue}
 pub windows_both : (vs ws : List WindowFact) (done : List (ℕ × WindowFact)) → put_windows vs (put_windows ws done) ≡ put_windows (vs ++ ws) done
 windows_both [] ws done = refl
 windows_both (v ∷ vs) ws done = ap (λ all. insert_entry nat_cmp all v.part.id.0 v) (windows_both vs ws done)
-
--- a row's windows are put in: those behind its first node, those below it, and the node
-pub windows_row : (here kids floats rest : List WindowFact) (done : List (ℕ × WindowFact)) → put_windows here (put_windows (kids ++ floats) (put_windows rest done)) ≡ put_windows (here ++ kids ++ floats ++ rest) done
-windows_row here kids floats rest done =
-    ap (put_windows here) (windows_both (kids ++ floats) rest done)
-    ∙ (windows_both here (kids ++ floats ++ rest) done ∙ ap (λ ws. put_windows ws done) (sym (append_assoc here (kids ++ floats) rest) ∙ ap (λ ws. ws ++ rest) (sym (append_assoc here kids floats))))
 
 pub spaces_both : (vs ws : List SpaceFact) (done : List (ℕ × SpaceFact)) → put_spaces vs (put_spaces ws done) ≡ put_spaces (vs ++ ws) done
 spaces_both [] ws done = refl

@@ -3,7 +3,8 @@ use Rattle.std.proofs.Common.{◌≡◌, ◌≤◌, ℕ, suc, Bool, true, false,
 use Rattle.std.specs.Option.{option_or}
 use Rattle.wm_base.specs.declared.ids.ConId.{ConId}
 use Rattle.wm_changes.specs.declared.standing.Standing.{Standing}
-use Rattle.wm_changes.specs.FactLaws.{IsFound, StandsAt, is_window_kind}
+use Rattle.wm_changes.specs.FactLaws.{IsFound, StandsAt}
+use Rattle.wm_forest.specs.Change.{is_window_kind}
 use Rattle.wm_changes.specs.Facts.{WindowFact, float_standing, kid_standing, put_windows, top, window_by, window_here, windows, windows_in}
 use Rattle.wm_forest.proofs.CountLemmas.{counted, tally-absent}
 use Rattle.wm_forest.specs.declared.part.ConKind.{ConKind}

@@ -3,8 +3,7 @@ use Rattle.std.specs.Prelude.{◌≡◌, Bool, true, false, not, Option, None, S
 use Rattle.wm_base.specs.declared.ids.ConId.{ConId}
 use Rattle.wm_changes.specs.declared.standing.Standing.{Standing}
 use Rattle.wm_changes.specs.Facts.{SpaceFact, WindowFact, spaces, windows}
-use Rattle.wm_forest.specs.declared.part.ConKind.{ConKind}
-use Rattle.wm_forest.specs.declared.part.ConKind.TheVariants.{Split, Window, Placeholder}
+use Rattle.wm_forest.specs.Change.{is_window_kind}
 use Rattle.wm_forest.specs.declared.part.ConPart.{ConPart}
 use Rattle.wm_forest.specs.declared.part.SpacePart.{SpacePart}
 use Rattle.wm_forest.specs.declared.spot.Spot.{Spot}
@@ -14,11 +13,6 @@ use Rattle.wm_tree.specs.TreeValue.{TreeValue, spot}
 use Rattle.wm_views.specs.Maps.{value_at}
 
 -- ---- windows
-
-abbrev pub is_window_kind : ConKind → Bool
-is_window_kind (Split layout last) = false
-is_window_kind (Window props owner natural) = true
-is_window_kind (Placeholder props swallows) = false
 
 -- a container that is a window
 abbrev pub is_window : Option ConPart → Bool

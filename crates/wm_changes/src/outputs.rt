@@ -2,7 +2,7 @@
 ghost use Rattle.std.specs.Prelude.{◌≡◌, not};
 ghost use Rattle.wm_changes.specs.OutputChanges.{are_kept, has_output, is_kept, is_output, outputs_differ, same_edges};
 ghost use Rattle.wm_arrange.specs.Same.{same_rect};
-ghost use Rattle.wm_forest.specs.Look.{output_kind};
+ghost use Rattle.wm_forest.specs.Look.{first_kids, output_kind};
 
 use wm_base::{ConId, Edges, Rect};
 use wm_tree::{Cursor, NodeKind, OutputPart, Tree};
@@ -11,24 +11,28 @@ use wm_tree::{Cursor, NodeKind, OutputPart, Tree};
 pub fn outputs_differ(before: &Tree, after: &Tree) -> bool
     ensures { result ≡ outputs_differ before.now after.now }
 {
-    let old = before.nodes().kids();
-    let new = after.nodes().kids();
-    !(are_kept(&old, &new) && are_kept(&new, &old))
+    let old = before.nodes();
+    let new = after.nodes();
+    !(are_kept(old.kids(), &new) && are_kept(new.kids(), &old))
 }
 
-/// Whether each output of a row stands in the other one as it is.
-fn are_kept(outputs: &Cursor<'_>, row: &Cursor<'_>) -> bool
-    ensures { result ≡ are_kept outputs.now row.now }
+/// Whether each output of a row stands among the children of the other one's first node as it is.
+fn are_kept(outputs: Cursor<'_>, root: &Cursor<'_>) -> bool
+    ensures { result ≡ are_kept outputs.entry (first_kids root.now) }
 {
-    let Some(part) = outputs.part() else {
-        return true;
-    };
-    is_kept(part.id, &part.kind, row) && are_kept(&outputs.rest(), row)
+    let mut left = outputs;
+    while let Some(part) = left.part() {
+        if !is_kept(part.id, &part.kind, root.kids()) {
+            return false;
+        }
+        left = left.rest();
+    }
+    true
 }
 
 /// Whether the node is no output, or the row has it as it is.
-fn is_kept(id: ConId, kind: &NodeKind, row: &Cursor<'_>) -> bool
-    ensures { result ≡ is_kept id (output_kind kind.now) row.now }
+fn is_kept(id: ConId, kind: &NodeKind, row: Cursor<'_>) -> bool
+    ensures { result ≡ is_kept id (output_kind kind.now) row.entry }
 {
     match kind {
         NodeKind::Output(output) => has_output(id, output, row),
@@ -37,13 +41,17 @@ fn is_kept(id: ConId, kind: &NodeKind, row: &Cursor<'_>) -> bool
 }
 
 /// Whether the row has this output with the same rectangle and the same reserved edges.
-fn has_output(id: ConId, output: &OutputPart, row: &Cursor<'_>) -> bool
-    ensures { result ≡ has_output id output.now row.now }
+fn has_output(id: ConId, output: &OutputPart, row: Cursor<'_>) -> bool
+    ensures { result ≡ has_output id output.now row.entry }
 {
-    let Some(part) = row.part() else {
-        return false;
-    };
-    is_output(id, output, part.id, &part.kind) || has_output(id, output, &row.rest())
+    let mut left = row;
+    while let Some(part) = left.part() {
+        if is_output(id, output, part.id, &part.kind) {
+            return true;
+        }
+        left = left.rest();
+    }
+    false
 }
 
 /// Whether a node is this output with the same rectangle and the same reserved edges.

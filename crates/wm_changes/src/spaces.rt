@@ -35,63 +35,76 @@ impl<'a> Model for Site<'a> {
 pub fn spaces(alloc: Global, tree: &Tree) -> Result<BTreeMap<u32, Site<'_>>, NoMemory>
     ensures { IfOk result (λ map. map.entries ≡ spaces tree.now) }
 {
+    let mut sites = Vec::new(alloc);
+    gather_outputs(&mut sites, tree.nodes().kids())?;
     let mut map = BTreeMap::new(alloc);
-    gather_outputs(&mut map, tree.nodes().kids())?;
+    put_all(&mut map, sites)?;
     Ok(map)
 }
 
-/// Puts in the workspaces on a row of outputs.
-#[tactic(auto, using(crate::proofs::FactLemmas::spaces_both))]
-fn gather_outputs<'a>(map: &mut BTreeMap<u32, Site<'a>>, row: Cursor<'a>) -> Result<(), NoMemory>
-    ensures { OnOk result (map.new.entries ≡ put_spaces (spaces_in row.entry) map.old.entries) }
+/// Puts workspaces in under their ids, the last first.
+fn put_all<'a>(map: &mut BTreeMap<u32, Site<'a>>, sites: Vec<Site<'a>>) -> Result<(), NoMemory>
+    ensures { OnOk result (map.new.entries ≡ put_spaces sites.entry.items map.old.entries) }
 {
-    let Some(part) = row.part() else {
-        return Ok(());
-    };
-    gather_outputs(map, row.rest())?;
-    gather_output(map, part, row.kids())
+    let mut left = sites;
+    while let Some(site) = left.pop() {
+        map.insert(site.part.id.0, site)?;
+    }
+    Ok(())
 }
 
-/// Puts in the workspaces of a node, where it is an output.
+/// Gathers the workspaces on a row of outputs.
+fn gather_outputs<'a>(sites: &mut Vec<Site<'a>>, row: Cursor<'a>) -> Result<(), NoMemory>
+    ensures { OnOk result (sites.new.items ≡ sites.old.items ++ spaces_in row.entry) }
+{
+    let mut left = row;
+    while let Some(part) = left.part() {
+        gather_output(sites, part, left.kids())?;
+        left = left.rest();
+    }
+    Ok(())
+}
+
+/// Gathers the workspaces of a node, where it is an output.
 fn gather_output<'a>(
-    map: &mut BTreeMap<u32, Site<'a>>,
+    sites: &mut Vec<Site<'a>>,
     part: &'a Part,
     row: Cursor<'a>,
 ) -> Result<(), NoMemory>
-    ensures { OnOk result (map.new.entries ≡ put_spaces (spaces_of part.now.id (output_kind part.now.kind) row.entry) map.old.entries) }
+    ensures { OnOk result (sites.new.items ≡ sites.old.items ++ spaces_of part.now.id (output_kind part.now.kind) row.entry) }
 {
     match &part.kind {
-        NodeKind::Output(output) => gather(map, part.id, output, row),
+        NodeKind::Output(output) => gather(sites, part.id, output, row),
         NodeKind::Root { .. } | NodeKind::Space(_) | NodeKind::Con(_) => Ok(()),
     }
 }
 
-/// Puts in the workspaces of an output.
-#[tactic(auto, using(crate::proofs::FactLemmas::spaces_both))]
+/// Gathers the workspaces of an output.
 fn gather<'a>(
-    map: &mut BTreeMap<u32, Site<'a>>,
+    sites: &mut Vec<Site<'a>>,
     id: ConId,
     output: &'a OutputPart,
     row: Cursor<'a>,
 ) -> Result<(), NoMemory>
-    ensures { OnOk result (map.new.entries ≡ put_spaces (spaces_on id output.now row.entry) map.old.entries) }
+    ensures { OnOk result (sites.new.items ≡ sites.old.items ++ spaces_on id output.now row.entry) }
 {
-    let Some(part) = row.part() else {
-        return Ok(());
-    };
-    gather(map, id, output, row.rest())?;
-    put(map, id, output, part, row)
+    let mut left = row;
+    while let Some(part) = left.part() {
+        push(sites, id, output, part, &left)?;
+        left = left.rest();
+    }
+    Ok(())
 }
 
-/// Puts the first node of a row in, where it is a workspace.
-fn put<'a>(
-    map: &mut BTreeMap<u32, Site<'a>>,
+/// Gathers the first node of a row, where it is a workspace.
+fn push<'a>(
+    sites: &mut Vec<Site<'a>>,
     id: ConId,
     output: &'a OutputPart,
     part: &'a Part,
-    row: Cursor<'a>,
+    row: &Cursor<'a>,
 ) -> Result<(), NoMemory>
-    ensures { OnOk result (map.new.entries ≡ put_spaces (space_here id output.now part.now (space_kind part.now.kind) (first_kids row.entry) (first_floats row.entry)) map.old.entries) }
+    ensures { OnOk result (sites.new.items ≡ sites.old.items ++ space_here id output.now part.now (space_kind part.now.kind) (first_kids row.now) (first_floats row.now)) }
 {
     let NodeKind::Space(state) = &part.kind else {
         return Ok(());
@@ -104,6 +117,6 @@ fn put<'a>(
         kids: row.kids(),
         floats: row.floats(),
     };
-    map.insert(part.id.0, site)?;
+    sites.push(site)?;
     Ok(())
 }

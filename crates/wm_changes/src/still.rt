@@ -1,5 +1,6 @@
 //! Whether two trees have the same nodes and the same urgent windows.
-ghost use Rattle.std.specs.Prelude.{◌≡◌, ◌*◌, IsTrue};
+ghost use Rattle.std.specs.Prelude.{◌≡◌, ◌*◌, IsTrue, Some};
+ghost use Rattle.wm_forest.specs.Look.{first_part};
 
 use crate::comparing::same_texts;
 use wm_base::{ConId, Props, Rect, Text};
@@ -10,7 +11,7 @@ pub fn are_still(before: &Tree, after: &Tree) -> bool
     ensures nodes { IsTrue result → before.now.nodes ≡ after.now.nodes }
     ensures urgent { IsTrue result → before.now.urgent ≡ after.now.urgent }
 {
-    same_ids(before.urgent_ids(), after.urgent_ids()) && same_row(&before.nodes(), &after.nodes())
+    same_ids(before.urgent_ids(), after.urgent_ids()) && same_row(before.nodes(), after.nodes())
 }
 
 /// Whether two lists of ids are the same.
@@ -21,19 +22,36 @@ fn same_ids(ids: &[ConId], others: &[ConId]) -> bool
 }
 
 /// Whether two rows are surely the same, with all that is below them.
-fn same_row(row: &Cursor<'_>, other: &Cursor<'_>) -> bool
-    ensures { IsTrue result → row.now ≡ other.now }
+#[tactic(auto, using(crate::proofs::SameLemmas::same_ends, crate::proofs::SameLemmas::same_nodes))]
+fn same_row(row: Cursor<'_>, other: Cursor<'_>) -> bool
+    ensures { IsTrue result → row.entry ≡ other.entry }
 {
-    let Some(part) = row.part() else {
-        return other.part().is_none();
-    };
-    let Some(other_part) = other.part() else {
-        return false;
-    };
-    same_part(part, other_part)
-        && same_row(&row.kids(), &other.kids())
-        && same_row(&row.floats(), &other.floats())
-        && same_row(&row.rest(), &other.rest())
+    let mut left = row;
+    let mut right = other;
+    while let Some(part) = left.part() {
+        if !same_first(part, &right) {
+            return false;
+        }
+        if !same_row(left.kids(), right.kids()) {
+            return false;
+        }
+        if !same_row(left.floats(), right.floats()) {
+            return false;
+        }
+        left = left.rest();
+        right = right.rest();
+    }
+    right.part().is_none()
+}
+
+/// Whether a row's first node is surely the same as this one.
+fn same_first(part: &Part, row: &Cursor<'_>) -> bool
+    ensures { IsTrue result → first_part row.now ≡ Some part.now }
+{
+    match row.part() {
+        Some(other) => same_part(part, other),
+        None => false,
+    }
 }
 
 /// Whether two nodes are surely the same.

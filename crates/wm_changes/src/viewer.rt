@@ -11,18 +11,11 @@ use std::alloc::Global;
 use std::marker::Model;
 use std::mem;
 use wm_arrange::Arrangement;
-use wm_base::{ConId, NoMemory, Rect};
+use wm_base::{ConId, NOWHERE, NoMemory, Rect};
 use wm_forest::Row;
 use wm_json::NodeView;
 use wm_tree::{Cursor, Tree};
 use wm_views::{Above, Sight, con_view, space_view as view_of};
-
-const NOWHERE: Rect = Rect {
-    x: 0,
-    y: 0,
-    w: 0,
-    h: 0,
-};
 
 /// So many views are made without maps.
 const FEW: u32 = 8;

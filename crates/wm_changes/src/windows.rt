@@ -37,69 +37,74 @@ pub fn windows(alloc: Global, tree: &Tree) -> Result<BTreeMap<u32, Found<'_>>, N
     requires { IsSound tree.now }
     ensures { IfOk result (λ map. map.entries ≡ windows tree.now) }
 {
+    let mut found = Vec::new(alloc);
+    gather(&mut found, TOP, tree.nodes())?;
     let mut map = BTreeMap::new(alloc);
-    gather(&mut map, TOP, &tree.nodes())?;
+    put_all(&mut map, found)?;
     Ok(map)
 }
 
-/// Puts in the windows of a row and of what is below it.
-#[cycle(gather)]
-#[tactic(auto, using(crate::proofs::FactLemmas::windows_row))]
-fn gather<'a>(
-    map: &mut BTreeMap<u32, Found<'a>>,
-    standing: Standing,
-    row: &Cursor<'a>,
-) -> Result<(), NoMemory>
-    requires { IsNarrow row.now }
-    ensures { OnOk result (map.new.entries ≡ put_windows (windows_in standing row.now) map.old.entries) }
+/// Puts windows in under their ids, the last first.
+fn put_all<'a>(map: &mut BTreeMap<u32, Found<'a>>, found: Vec<Found<'a>>) -> Result<(), NoMemory>
+    ensures { OnOk result (map.new.entries ≡ put_windows found.entry.items map.old.entries) }
 {
-    let Some(part) = row.part() else {
-        return Ok(());
-    };
-    gather(map, standing, &row.rest())?;
-    gather_below(map, standing, part, &row.kids(), &row.floats())?;
-    put(map, standing, part)
+    let mut left = found;
+    while let Some(window) = left.pop() {
+        map.insert(window.part.id.0, window)?;
+    }
+    Ok(())
 }
 
-/// Puts in the windows below a node.
+/// Gathers the windows of a row and of what is below it.
 #[cycle(gather)]
-#[tactic(auto, using(crate::proofs::FactLemmas::windows_both))]
+fn gather<'a>(
+    found: &mut Vec<Found<'a>>,
+    standing: Standing,
+    row: Cursor<'a>,
+) -> Result<(), NoMemory>
+    requires { IsNarrow row }
+    ensures { OnOk result (found.new.items ≡ found.old.items ++ windows_in standing row.entry) }
+{
+    let mut left = row;
+    while let Some(part) = left.part() {
+        push(found, standing, part)?;
+        gather_below(found, standing, part, left.kids(), left.floats())?;
+        left = left.rest();
+    }
+    Ok(())
+}
+
+/// Gathers the windows below a node.
+#[cycle(gather)]
 fn gather_below<'a>(
-    map: &mut BTreeMap<u32, Found<'a>>,
+    found: &mut Vec<Found<'a>>,
     standing: Standing,
     part: &Part,
-    kids: &Cursor<'a>,
-    floats: &Cursor<'a>,
+    kids: Cursor<'a>,
+    floats: Cursor<'a>,
 ) -> Result<(), NoMemory>
-    requires few { row_length kids.now ≤ 256 }
-    requires kids { IsNarrow kids.now }
-    requires floats { IsNarrow floats.now }
-    ensures { OnOk result (map.new.entries ≡ put_windows (windows_in (kid_standing standing part.now kids.now) kids.now ++ windows_in (float_standing standing part.now) floats.now) map.old.entries) }
+    requires few { row_length kids ≤ 256 }
+    requires kids { IsNarrow kids }
+    requires floats { IsNarrow floats }
+    ensures { OnOk result (found.new.items ≡ found.old.items ++ windows_in (kid_standing standing part.now kids.entry) kids.entry ++ windows_in (float_standing standing part.now) floats.entry) }
 {
-    gather(map, float_standing(standing, part), floats)?;
-    gather(map, kid_standing(standing, part, kids), kids)
+    gather(found, kid_standing(standing, part, &kids), kids)?;
+    gather(found, float_standing(standing, part), floats)
 }
 
-/// Puts a node in, where it is a window.
-fn put<'a>(
-    map: &mut BTreeMap<u32, Found<'a>>,
-    standing: Standing,
-    part: &'a Part,
-) -> Result<(), NoMemory>
-    ensures { OnOk result (map.new.entries ≡ put_windows (window_here standing part.now (con_kind part.now.kind)) map.old.entries) }
+/// Gathers a node, where it is a window.
+fn push<'a>(found: &mut Vec<Found<'a>>, standing: Standing, part: &'a Part) -> Result<(), NoMemory>
+    ensures { OnOk result (found.new.items ≡ found.old.items ++ window_here standing part.now (con_kind part.now.kind)) }
 {
     let NodeKind::Con(state) = &part.kind else {
         return Ok(());
     };
     if let ConKind::Window { .. } = state.kind {
-        map.insert(
-            part.id.0,
-            Found {
-                part,
-                state,
-                standing,
-            },
-        )?;
+        found.push(Found {
+            part,
+            state,
+            standing,
+        })?;
     }
     Ok(())
 }

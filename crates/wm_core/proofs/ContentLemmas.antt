@@ -31,9 +31,8 @@ use Rattle.wm_arrange.specs.Parts.{placed}
 use Rattle.wm_arrange.specs.Scene.{Seen, ink, seen_in}
 use Rattle.wm_arrange.specs.Titles.{kids_titles, line, own_title, tab, title_part, titles, upper}
 use Rattle.wm_arrange.specs.TitleText.{title_text}
-use Rattle.wm_arrange.specs.Arranged as shown
 use Rattle.wm_arrange.specs.Sizes.{content_size, is_content}
-use Rattle.wm_focus.specs.Swaps.{is_window_kind}
+use Rattle.wm_forest.specs.Change.{is_window_kind}
 use Rattle.wm_opens.specs.Opens.{window_at, windows, windows_at}
 use Rattle.wm_forest.proofs.RecencyLemmas.{same_is}
 
@@ -194,17 +193,12 @@ found_by : (P : ConId → Type 0) (b : Bool) (id : ConId) (a c d : Option ConId)
 found_by P true id a c d p q r s = p refl
 found_by P false id a c d p q r s = or_found P a (or_else c d) q (or_found P c d r s)
 
-one_kind : (kind : ConKind) → shown.is_window_kind kind ≡ is_window_kind kind
-one_kind (Split layout last) = refl
-one_kind (Window props owner natural) = refl
-one_kind (Placeholder props swallows) = refl
-
 -- a fullscreen window is a window
 fullscreen_rank : (kind : NodeKind) → is_fullscreen kind ≡ true → windows kind ≡ 1
 fullscreen_rank (Root c) h = cc
 fullscreen_rank (Output o) h = cc
 fullscreen_rank (Space s) h = cc
-fullscreen_rank (Con c) h = ap (λ b. cond b 1 0) (sym (one_kind c.kind) ∙ (and_parts c.state.fullscreen (shown.is_window_kind c.kind) h).1)
+fullscreen_rank (Con c) h = ap (λ b. cond b 1 0) (and_parts c.state.fullscreen (is_window_kind c.kind) h).1
 
 fullscreen_all : (row : Forest) → OfFound (Holds row) (fullscreen_in row)
 fullscreen_all end = tt

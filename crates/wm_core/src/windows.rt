@@ -76,11 +76,10 @@ impl Desk {
     {
         let mut windows = Vec::new(self.alloc);
         let mut rest = self.tree.recent_ids();
-        while let [con, after @ ..] = rest {
-            if self.is_window(who, *con) {
-                windows.push(*con)?;
+        while let Some(con) = rest.next() {
+            if self.is_window(who, con) {
+                windows.push(con)?;
             }
-            rest = after;
         }
         Ok(windows)
     }

@@ -5,3 +5,4 @@ pub mod MovedLemmas
 pub mod PlaceLemmas
 pub mod RiseLemmas
 pub mod RoundLemmas
+pub mod SieveLemmas

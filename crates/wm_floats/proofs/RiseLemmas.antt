@@ -9,8 +9,8 @@ use Rattle.wm_floats.specs.Fullscreen.{fullscreen_tree, others_unfull}
 use Rattle.wm_floats.specs.Kinds.{is_of_space, latest, raised_some}
 use Rattle.wm_floats.specs.Placing.{place_at_tree}
 use Rattle.wm_floats.specs.Rounds.{focused_some, round_to, focus_round_tree, shift_tree, shifted_x, shifted_y}
-use Rattle.wm_floats.specs.Scratchpad.{brought, coming_place, first_brought, first_hidden, latest_or_first, put_away, show_next_tree, show_scratchpad_tree, show_this_tree, to_scratchpad_tree}
-use Rattle.wm_floats.specs.Windows.{flag_set, full_set, rect_set, restated, state_of, sticky_set}
+use Rattle.wm_floats.specs.Scratchpad.{brought, coming_place, first_brought, first_hidden, latest_or_first, put_away, show_next_tree, show_scratchpad_tree, to_scratchpad_tree}
+use Rattle.wm_floats.specs.Windows.{flag_set, full_set, restated, state_of, sticky_set}
 use Rattle.wm_shared.proofs.RiseLemmas.{ids_focusing, ids_same}
 use Rattle.wm_shared.specs.Subject.{is_hidden}
 use Rattle.wm_shared.specs.Rects.{rect_of}

@@ -8,6 +8,7 @@ use Rattle.wm_floats.specs.declared.kinds.Kind.TheVariants as kinds
 use Rattle.wm_floats.specs.Windows.{state_of}
 use Rattle.wm_shared.specs.Refusing.{error_if}
 use Rattle.wm_shared.specs.Subject.{is_container, is_hidden}
+use Rattle.wm_forest.specs.declared.part.ConPart.{ConPart}
 use Rattle.wm_forest.specs.declared.part.ConState.{ConState}
 use Rattle.wm_forest.specs.Change.{is_id}
 use Rattle.wm_tree.specs.TreeValue.{TreeValue, is_tiled_con, workspace_of}
@@ -22,6 +23,12 @@ abbrev pub is_of : Kind → TreeValue → ConId → Bool
 is_of kinds.Tiled t c = is_tiled_con t c
 is_of kinds.Floating t c = is_container t c && not (is_tiled_con t c)
 is_of kinds.Flagged t c = is_container t c && not (is_tiled_con t c) && is_flagged_state (state_of c t)
+
+-- the same of a container with this part that is tiled or not
+abbrev pub is_placed_of : Kind → ConPart → Bool → Bool
+is_placed_of kinds.Tiled part tiled = tiled
+is_placed_of kinds.Floating part tiled = not tiled
+is_placed_of kinds.Flagged part tiled = not tiled && part.state.flagged
 
 -- such a container of the workspace w
 abbrev pub is_of_space : Kind → ConId → TreeValue → ConId → Bool

@@ -5,4 +5,5 @@ pub mod Places
 pub mod Placing
 pub mod Rounds
 pub mod Scratchpad
+pub mod Sieve
 pub mod Windows

@@ -1,15 +1,12 @@
 -- Places and sizes of windows in pixels, as plain numbers.
-use Rattle.std.specs.Prelude.{ℕ, ◌+◌, ◌*◌, min, ℤ, pos, negsuc, ◌+ℤ◌, ◌-ℤ◌, Bool, ◌&&◌, int_le}
+use Rattle.std.specs.Prelude.{ℕ, ◌+◌, ◌*◌, min, ℤ, pos, ◌+ℤ◌, ◌-ℤ◌}
 use Rattle.std.specs.Int.{int_div_euclid}
 use Rattle.wm_base.specs.declared.geometry.Rect.{Rect}
 use Rattle.wm_base.specs.declared.geometry.Size.{Size}
 use Rattle.wm_base.specs.declared.plan.Border.{Border}
 use Rattle.wm_base.specs.declared.plan.Border.TheVariants.{Normal, Pixel, Bare}
+pub use Rattle.wm_shared.specs.Rects.{is_in_range}
 use Rattle.wm_shared.specs.Rects.{held}
-
--- a number that a place may have
-abbrev pub is_in_range : ℤ → Bool
-is_in_range z = int_le (negsuc 131071) z && int_le z (pos 131071)
 
 -- where a span of this length begins in the middle of one that begins at `start` and is as long as `room`: half of what is
 -- left is before it, rounded down, also where the span is the longer one

@@ -10,11 +10,11 @@ ghost use Rattle.wm_forest.specs.Look.{con_kind, kind_of};
 ghost use Rattle.wm_tree.specs.Sound.{IsSound};
 ghost use Rattle.wm_tree.specs.TreeValue.{is_tiled_con, workspace_of};
 
-use crate::places::{NOWHERE, held_middle, outer_size};
-use crate::windows::{natural_by, set_flag, window_refusal};
-use wm_base::{Border, ConId, Rect, Refusal, Size};
+use crate::places::{held_middle, outer_size};
+use crate::windows::{natural_by, set_flag, window_at};
+use wm_base::{Border, ConId, NOWHERE, Rect, Refusal, Size};
 use wm_shared::{output_part_of, refused};
-use wm_tree::{ConPart, OutputPart, Place, Tree};
+use wm_tree::{ConPart, OutputPart, Place, Placed, Tree};
 
 /// Puts the container at the place.
 pub(crate) fn go(t: &mut Tree, con: ConId, at: Place) -> Result<(), Refusal>
@@ -70,27 +70,23 @@ pub fn float(t: &mut Tree, con: ConId) -> Result<(), Refusal>
     // The window that was tiled has that rectangle.
     ensures rect { is_tiled_con t.old con ≡ true → OnOk result (earlier con t.new ≡ Some (floating_rect con t.old)) }
 {
-    if let Some(error) = window_refusal(t, con) {
-        return Err(error);
+    let Placed { space, tiled, .. } = window_at(t, con)?;
+    if !tiled {
+        return Ok(());
     }
-    match t.workspace_of(con) {
-        Some(w) => float_on(t, con, w),
-        None => Ok(()),
-    }
+    float_on(t, con, space)
 }
 
-/// Lets the window float on its workspace.
+/// Lets the tiled window float on its workspace.
 fn float_on(t: &mut Tree, con: ConId, w: ConId) -> Result<(), Refusal>
     requires sound { IsSound t.old }
+    requires tiled { is_tiled_con t.old con ≡ true }
     requires con { kind_of con_kind con t.old.nodes ≢ None }
     requires space { is_space t.old w ≡ true }
     ensures does { DoesExactly t.old t.new result (floated_refusal con (Some w))
         (floated con (Some w)) }
     ensures rect { is_tiled_con t.old con ≡ true → OnOk result (earlier con t.new ≡ Some (floating_rect con t.old)) }
 {
-    if !t.is_tiled(con) {
-        return Ok(());
-    }
     let rect = floating_rect(t, con);
     go(t, con, Place::Float(w, rect))
 }
@@ -116,26 +112,22 @@ pub fn sink(t: &mut Tree, con: ConId) -> Result<(), Refusal>
     // It keeps the rectangle with which it floated, and with which it floats again.
     ensures rect { OnOk result (earlier con t.new ≡ earlier con t.old) }
 {
-    if let Some(error) = window_refusal(t, con) {
-        return Err(error);
+    let Placed { space, tiled, .. } = window_at(t, con)?;
+    if tiled {
+        return Ok(());
     }
-    match t.workspace_of(con) {
-        Some(w) => sink_on(t, con, w),
-        None => Ok(()),
-    }
+    sink_on(t, con, space)
 }
 
-/// Tiles the window in its workspace.
+/// Tiles the floating window in its workspace.
 fn sink_on(t: &mut Tree, con: ConId, w: ConId) -> Result<(), Refusal>
     requires sound { IsSound t.old }
+    requires loose { is_tiled_con t.old con ≡ false }
     requires window { natural_of con t.old ≢ None }
     requires space { workspace_of t.old con ≡ Some w }
     ensures does { DoesExactly t.old t.new result (sunk_refusal con (Some w)) (sunk con (Some w)) }
     ensures rect { OnOk result (earlier con t.new ≡ earlier con t.old) }
 {
-    if t.is_tiled(con) {
-        return Ok(());
-    }
     let at = tiling_place(t, w);
     go(t, con, at)?;
     set_flag(t, con, false);

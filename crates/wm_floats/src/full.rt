@@ -9,9 +9,9 @@ ghost use Rattle.wm_forest.specs.Look.{first_floats, first_kids};
 ghost use Rattle.wm_tree.specs.Sound.{IsSound};
 ghost use Rattle.wm_tree.specs.TreeValue.{workspace_of};
 
-use crate::windows::{set_full, window_refusal};
+use crate::windows::{set_full, window_at};
 use wm_base::{ConId, Refusal};
-use wm_tree::{Cursor, NodeKind, Tree};
+use wm_tree::{Cursor, NodeKind, Placed, Tree};
 
 /// Whether this is a fullscreen container.
 fn is_full(kind: &NodeKind) -> bool
@@ -95,26 +95,15 @@ fn clear_others(t: &mut Tree, con: ConId, w: ConId)
     }
 }
 
-/// Takes fullscreen from the others of the container's workspace.
-fn clear_beside(t: &mut Tree, con: ConId)
-    requires { IsSound t.old }
-    ensures tree { t.new ≡ others_unfull con (workspace_of t.old con) t.old }
-    ensures alone { fills_alone con (workspace_of t.old con) t.new ≡ true }
-    ensures sound { IsSound t.new }
-{
-    if let Some(w) = t.workspace_of(con) {
-        clear_others(t, con, w);
-    }
-}
-
 /// Makes the container fullscreen, and no other of its workspace.
-fn fill(t: &mut Tree, con: ConId)
-    requires { IsSound t.old }
+fn fill(t: &mut Tree, con: ConId, w: ConId)
+    requires sound { IsSound t.old }
+    requires space { workspace_of t.old con ≡ Some w }
     ensures tree { t.new ≡ fullscreen_tree con true t.old }
     ensures alone { fills_alone con (workspace_of t.old con) t.new ≡ true }
     ensures sound { IsSound t.new }
 {
-    clear_beside(t, con);
+    clear_others(t, con, w);
     set_full(t, con, true);
 }
 
@@ -126,11 +115,9 @@ pub fn fullscreen(t: &mut Tree, con: ConId, on: bool) -> Result<(), Refusal>
     // No other window of its workspace is fullscreen beside it.
     ensures alone { on ≡ true → OnOk result (fills_alone con (workspace_of t.old con) t.new ≡ true) }
 {
-    if let Some(error) = window_refusal(t, con) {
-        return Err(error);
-    }
+    let Placed { space, .. } = window_at(t, con)?;
     if on {
-        fill(t, con);
+        fill(t, con, space);
     } else {
         set_full(t, con, false);
     }

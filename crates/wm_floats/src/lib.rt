@@ -9,6 +9,7 @@ mod places;
 mod placing;
 mod rounds;
 mod scratchpad;
+mod sieve;
 mod sticking;
 mod windows;
 

@@ -1,32 +1,12 @@
 //! Places and sizes of windows in pixels, as plain numbers.
 ghost use Rattle.std.specs.Prelude.{◌≡◌, ◌<◌, min, ◌+◌};
-ghost use Rattle.wm_floats.specs.Places.{border_height, border_width, held_middle, is_in_range, middle_of, outer_size};
+ghost use Rattle.wm_floats.specs.Places.{border_height, border_width, held_middle, middle_of, outer_size};
 
 use wm_base::{Border, Rect, Size};
 use wm_shared::held;
 
-/// The least and the greatest number of a place.
-const LEAST: i64 = -131_072;
-
-const GREATEST: i64 = 131_071;
-
 /// How high a title is, in pixels.
 const TITLE: u64 = 20;
-
-/// Where no window is.
-pub(crate) const NOWHERE: Rect = Rect {
-    x: 0,
-    y: 0,
-    w: 0,
-    h: 0,
-};
-
-/// Whether a place may have this number.
-pub(crate) fn is_in_range(n: i64) -> bool
-    ensures { result ≡ is_in_range n }
-{
-    LEAST <= n && n <= GREATEST
-}
 
 /// Where a span begins in the middle of another one: half of what is left is before it, rounded down.
 pub(crate) fn middle_of(start: i32, room: u32, length: u32) -> i64

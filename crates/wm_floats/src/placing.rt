@@ -1,33 +1,29 @@
 //! Moving floating windows about on the screen.
-ghost use Rattle.std.specs.Prelude.{◌≡◌, ◌+ℤ◌};
+ghost use Rattle.std.specs.Prelude.{◌≡◌, ◌+ℤ◌, None, Some, OnOk, IfErr};
 ghost use Rattle.wm_floats.specs.Placing.{centre_refusal, centre_tree, middle_x, middle_y, move_by_refusal, move_by_tree, place_at_refusal, place_at_tree};
 ghost use Rattle.std.specs.Option.{option_copied};
 ghost use Rattle.wm_shared.specs.Does.{DoesExactly};
 ghost use Rattle.wm_shared.specs.Subject.{IsSubject};
 
-use crate::places::{is_in_range, middle_of};
+use crate::places::middle_of;
 use crate::windows::set_rect;
 use wm_base::{ConId, ErrorText, Rect, Refusal};
-use wm_shared::{is_hidden, is_space, output_part_of, rect_of};
+use wm_shared::{is_in_range, on_workspace, output_part_of, rect_of};
 use wm_tree::{OutputPart, Tree};
 
 /// Why the floating window is not put at this place, in pixels.
-fn place_refusal(t: &Tree, con: ConId, x: i64, y: i64) -> Option<Refusal>
-    ensures { result ≡ place_at_refusal con x y t.now }
+fn place_refusal(t: &Tree, con: ConId, x: i64, y: i64) -> Result<(), Refusal>
+    requires { IsSubject t.now con }
+    ensures fine { OnOk result (place_at_refusal con x y t.now ≡ None) }
+    ensures cause { IfErr result (λ e. place_at_refusal con x y t.now ≡ Some e) }
 {
-    if is_hidden(t, con) {
-        return Some(Refusal::NoTarget(ErrorText::NoWorkspace));
-    }
-    if is_space(t, con) {
-        return Some(Refusal::NoTarget(ErrorText::AtWorkspace));
-    }
-    if t.is_tiled(con) {
-        return Some(Refusal::NoTarget(ErrorText::NotFloating));
+    if on_workspace(t, con)?.tiled {
+        return Err(Refusal::NoTarget(ErrorText::NotFloating));
     }
     if !(is_in_range(x) && is_in_range(y)) {
-        return Some(Refusal::NoTarget(ErrorText::OutOfRange));
+        return Err(Refusal::NoTarget(ErrorText::OutOfRange));
     }
-    None
+    Ok(())
 }
 
 /// Puts the floating window's outer rectangle at this place, in pixels. Its size stays.
@@ -35,9 +31,7 @@ pub fn place_at(t: &mut Tree, con: ConId, x: i64, y: i64) -> Result<(), Refusal>
     requires { IsSubject t.old con }
     ensures { DoesExactly t.old t.new result (place_at_refusal con x y) (place_at_tree con x y) }
 {
-    if let Some(error) = place_refusal(t, con, x, y) {
-        return Err(error);
-    }
+    place_refusal(t, con, x, y)?;
     let Rect { w, h, .. } = rect_of(t, con);
     let rect = Rect {
         x: x as i32,

@@ -1,13 +1,14 @@
 //! Floating windows in a direction: the next one by id, round both ends, and a shift by so many pixels.
-ghost use Rattle.std.specs.Prelude.{◌≡◌};
+ghost use Rattle.std.specs.Prelude.{◌≡◌, Some};
 ghost use Rattle.wm_floats.specs.Rounds.{ahead, floats_at, focus_round_refusal, focus_round_tree, key_round, keys_round, off, round_to, shift_refusal, shift_tree, shifted_x, shifted_y};
 ghost use Rattle.wm_shared.specs.Does.{Does, DoesExactly};
 ghost use Rattle.wm_shared.specs.Keys.{least};
 ghost use Rattle.wm_shared.specs.Subject.{IsSubject};
+ghost use Rattle.wm_tree.specs.TreeValue.{workspace_of};
 
 use crate::placing::place_at;
 use wm_base::{ConId, Dir, ErrorText, NoMemory, Rect, Refusal};
-use wm_shared::{Key, focus, is_hidden, lesser, rect_of};
+use wm_shared::{Key, focus, lesser, rect_of};
 use wm_tree::{Cursor, Tree};
 
 /// How many ids there are.
@@ -83,10 +84,10 @@ fn floats_at(row: Cursor<'_>, w: ConId) -> Option<Cursor<'_>>
 }
 
 /// The next floating window of the container's workspace.
-fn round_to(t: &Tree, con: ConId, d: Dir) -> Option<ConId>
+fn round_to(t: &Tree, con: ConId, w: ConId, d: Dir) -> Option<ConId>
+    requires { workspace_of t.now con ≡ Some w }
     ensures { result ≡ round_to d con t.now }
 {
-    let w = t.workspace_of(con)?;
     let key = nearest(d, con, floats_at(t.nodes(), w)?)?;
     Some(key.id)
 }
@@ -97,10 +98,10 @@ pub fn focus_round(t: &mut Tree, from: ConId, d: Dir) -> Result<(), Refusal>
     requires { IsSubject t.old from }
     ensures { Does t.old t.new result (focus_round_refusal from d) (focus_round_tree from d) }
 {
-    if is_hidden(t, from) {
+    let Some(w) = t.workspace_of(from) else {
         return Err(Refusal::NoTarget(ErrorText::NoWorkspace));
-    }
-    let Some(next) = round_to(t, from, d) else {
+    };
+    let Some(next) = round_to(t, from, w, d) else {
         return Err(Refusal::NoTarget(ErrorText::NoNeighbour));
     };
     match focus(t, next) {

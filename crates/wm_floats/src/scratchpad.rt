@@ -13,7 +13,7 @@ ghost use Rattle.wm_tree.specs.Sound.{IsSound};
 use crate::floating::{floating_rect, go};
 use crate::kinds::{Kind, is_of_space, latest};
 use crate::places::held_middle;
-use crate::windows::{set_flag, window_refusal};
+use crate::windows::{set_flag, window_at};
 use wm_base::{ConId, ErrorText, Rect, Refusal, Size};
 use wm_shared::{is_hidden, rect_of};
 use wm_tree::{OutputPart, Place, Tree};
@@ -28,9 +28,7 @@ pub fn to_scratchpad(t: &mut Tree, con: ConId) -> Result<(), Refusal>
     ensures flagged { OnOk result (is_flagged_state (state_of con t.new) ≡ true) }
     ensures rect { OnOk result (earlier con t.new ≡ Some (floating_rect con t.old)) }
 {
-    if let Some(error) = window_refusal(t, con) {
-        return Err(error);
-    }
+    window_at(t, con)?;
     let rect = floating_rect(t, con);
     go(t, con, Place::Scratchpad(rect))?;
     set_flag(t, con, true);

@@ -1,11 +1,13 @@
 //! Windows as subjects of commands: their state, their natural size, and who is none.
-ghost use Rattle.std.specs.Prelude.{◌≡◌};
+ghost use Rattle.std.specs.Prelude.{◌≡◌, ◌≢◌, None, Some, OnOk, IfOk, IfErr};
+ghost use Rattle.wm_shared.specs.Subject.{IsSubject};
 ghost use Rattle.wm_floats.specs.Windows.{flag_set, full_set, natural_by, natural_of, rect_set, state_of, sticky_set, window_refusal};
 ghost use Rattle.wm_tree.specs.Sound.{IsSound};
+ghost use Rattle.wm_tree.specs.Standing.{IsPlaced};
 
 use wm_base::{ConId, ErrorText, Rect, Refusal, Size};
-use wm_shared::{is_hidden, is_space};
-use wm_tree::{ConKind, ConState, Tree};
+use wm_shared::on_workspace;
+use wm_tree::{ConKind, ConState, Placed, Tree};
 
 /// The natural size of a window. `None` exactly where it is a split or a placeholder.
 pub(crate) fn natural_by(kind: &ConKind) -> Option<Size>
@@ -17,26 +19,19 @@ pub(crate) fn natural_by(kind: &ConKind) -> Option<Size>
     }
 }
 
-fn natural_of(t: &Tree, con: ConId) -> Option<Size>
-    ensures { result ≡ natural_of con t.now }
+/// The subject where it is a window on a workspace; else why a command for such windows is not done to it.
+pub(crate) fn window_at(t: &Tree, con: ConId) -> Result<Placed<'_>, Refusal>
+    requires { IsSubject t.now con }
+    ensures fine { OnOk result (window_refusal con t.now ≡ None) }
+    ensures size { OnOk result (natural_of con t.now ≢ None) }
+    ensures placed { IfOk result (λ placed. IsPlaced placed con t.now) }
+    ensures cause { IfErr result (λ e. window_refusal con t.now ≡ Some e) }
 {
-    natural_by(&t.container(con)?.kind)
-}
-
-/// Why a command for windows outside the scratchpad is not done to this one.
-pub(crate) fn window_refusal(t: &Tree, con: ConId) -> Option<Refusal>
-    ensures { result ≡ window_refusal con t.now }
-{
-    if is_hidden(t, con) {
-        return Some(Refusal::NoTarget(ErrorText::NoWorkspace));
+    let placed = on_workspace(t, con)?;
+    if natural_by(&placed.part.kind).is_none() {
+        return Err(Refusal::NoTarget(ErrorText::NotWindow));
     }
-    if is_space(t, con) {
-        return Some(Refusal::NoTarget(ErrorText::AtWorkspace));
-    }
-    if natural_of(t, con).is_none() {
-        return Some(Refusal::NoTarget(ErrorText::NotWindow));
-    }
-    None
+    Ok(placed)
 }
 
 /// The state of a container.

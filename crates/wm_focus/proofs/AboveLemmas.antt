@@ -1,26 +1,20 @@
 -- The tiled containers above a node that are found at its rungs.
-use Rattle.std.proofs.Common.{◌≡◌, ◌≢◌, ℕ, Bool, true, false, cond, ◌||◌, List, [], ◌∷◌, ◌++◌, Option, None, Some, refl, ap, sym, ◌∙◌, subst}
+use Rattle.std.proofs.Common.{◌≡◌, ℕ, Bool, true, false, cond, [], ◌∷◌, ◌++◌, Option, None, Some, refl, ap, sym, ◌∙◌}
 use Rattle.std.specs.Option.{option_or}
 use Rattle.wm_base.specs.declared.geometry.Dir.{Dir}
 use Rattle.wm_base.specs.declared.ids.ConId.{ConId}
-use Rattle.wm_shared.proofs.DownLemmas.{Once, down_floats, down_kids, down_rest, in_floats, in_kids, in_rest, once_floats, once_kids, once_rest}
+use Rattle.wm_shared.proofs.DownLemmas.{Once, down_floats, down_kids, down_rest, once_floats, once_kids, once_rest}
 use Rattle.wm_focus.proofs.RungLemmas.{first_aimed-append, holder_is}
 use Rattle.wm_focus.specs.declared.rungs.Aim.TheVariants.{Out}
 use Rattle.wm_focus.specs.Rungs.{first_aimed, nearest, rung, rungs, runs}
-use Rattle.wm_tree.proofs.AttachLemmas.{has_row}
-use Rattle.wm_forest.proofs.ForestLemmas.{only_absent}
-use Rattle.wm_forest.proofs.RecencyLemmas.{same_self}
 use Rattle.wm_forest.specs.declared.part.NodeKind.{NodeKind}
 use Rattle.wm_forest.specs.declared.part.NodeKind.TheVariants.{Root, Output, Space, Con}
-use Rattle.wm_forest.specs.declared.part.Part.{Part}
-use Rattle.wm_forest.specs.declared.spot.Spot.{Spot}
 use Rattle.wm_forest.specs.Forest.{Forest, end, con}
-use Rattle.wm_forest.specs.Look.{con_kind, first_part, has, in_row, kind_by, only, same}
-use Rattle.wm_forest.specs.Place.{IsTiled, is_tiled}
-use Rattle.wm_forest.specs.SoundRow.{IsNode, IsSoundRow, Level, below, containers, outputs, roots, spaces}
-use Rattle.wm_forest.specs.Spot.{room_below, spot_below, spot_in, spot_of, top}
+use Rattle.wm_forest.specs.Look.{has, in_row, only, same}
+use Rattle.wm_forest.specs.SoundRow.{IsSoundRow, Level, below, containers}
+use Rattle.wm_forest.specs.Spot.{room_below}
 use Rattle.wm_tree.specs.TreeValue.{or_id}
-use Rattle.wm_forest.specs.Focus.{row_holder, tiled_by, tiled_kids}
+use Rattle.wm_forest.specs.Focus.{row_holder, tiled_by}
 use Rattle.wm_shared.proofs.KidLemmas.{IsKid, child_kid, holder_holds, kid_floats, kid_kids, kid_rest, kid_there}
 
 runs_tiled : (d : Dir) (kind : NodeKind) (kids : Forest) → runs d kind ≡ true → tiled_by kind kids ≡ kids

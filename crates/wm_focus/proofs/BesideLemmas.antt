@@ -4,13 +4,13 @@ use Rattle.std.specs.Option.{option_or}
 use Rattle.std.specs.Prelude.{option_and_then}
 use Rattle.wm_base.specs.declared.geometry.Dir.{Dir}
 use Rattle.wm_base.specs.declared.ids.ConId.{ConId}
-use Rattle.wm_shared.proofs.DownLemmas.{Once, down_kids, down_rest, has_only, none, not_below, once_only, once_rest, only_below}
+use Rattle.wm_shared.proofs.DownLemmas.{Once, down_kids, down_rest, has_only, none, once_only, once_rest, only_below}
 use Rattle.wm_shared.proofs.KidLemmas.{child_there}
-use Rattle.wm_shared.proofs.NeighbourLemmas.{AreTwo, neighbour_two, right}
+use Rattle.wm_shared.proofs.NeighbourLemmas.{AreTwo, neighbour_two}
 use Rattle.wm_focus.specs.declared.rungs.Aim.TheVariants.{Beside}
 use Rattle.wm_focus.specs.Moves.{beside, neighbour_below}
 use Rattle.wm_focus.specs.Rungs.{aimed, rung, runs}
-use Rattle.wm_shared.specs.Neighbours.{after, before, first_id, is_forward, neighbour}
+use Rattle.wm_shared.specs.Neighbours.{neighbour}
 use Rattle.wm_focus.specs.Walks.{neighbour_at}
 use Rattle.wm_tree.proofs.AttachLemmas.{has_row}
 use Rattle.wm_forest.proofs.CountLemmas.{counted}
@@ -18,8 +18,6 @@ use Rattle.wm_forest.proofs.ForestLemmas.{only_absent}
 use Rattle.wm_forest.proofs.RecencyLemmas.{same_is, same_self}
 use Rattle.wm_forest.specs.declared.part.NodeKind.{NodeKind}
 use Rattle.wm_forest.specs.declared.part.NodeKind.TheVariants.{Root, Output, Space, Con}
-use Rattle.wm_forest.specs.declared.part.Part.{Part}
-use Rattle.wm_forest.specs.Change.{is_id}
 use Rattle.wm_forest.specs.Forest.{Forest, end, con}
 use Rattle.wm_forest.specs.Look.{has, in_row, only, same}
 use Rattle.wm_forest.specs.SoundRow.{tally}

@@ -2,8 +2,8 @@
 use Rattle.std.proofs.Common.{◌≡◌, ℕ, Bool, true, false, cond, List, Option, None, Some, refl, ap, ◌∙◌}
 use Rattle.std.specs.Option.{option_or}
 use Rattle.wm_base.specs.declared.ids.ConId.{ConId}
-use Rattle.wm_focus.proofs.BearerLemmas.{bearer_marks, none_other}
-use Rattle.wm_focus.proofs.MarkForests.{has_off}
+use Rattle.wm_tree.proofs.BearerLemmas.{bearer_marks, none_other}
+use Rattle.wm_tree.proofs.MarkForests.{has_off}
 use Rattle.wm_focus.specs.Laws.{FindsMarked, NoOtherHasIt, NoneIsLeft}
 use Rattle.wm_focus.specs.Marks.{bare, bearer, bears, kept_marks, taken_off, with_mark}
 use Rattle.wm_forest.proofs.RecencyLemmas.{same_is}

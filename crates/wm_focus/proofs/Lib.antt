@@ -1,10 +1,9 @@
 pub mod AboveLemmas
 pub mod AllLemmas
-pub mod BearerLemmas
 pub mod BesideLemmas
+pub mod ClimbLemmas
 pub mod GiveLemmas
 pub mod LawLemmas
-pub mod MarkForests
 pub mod MarkLists
 pub mod MoveGoals
 pub mod OnlyLemmas

@@ -162,11 +162,3 @@ left_some n ms = by (bears n ms) refl where
       let old : with_mark n ms ≡ ms ++ n ∷ [] = rw e refl in
       let new : with_mark n (that_mark n ms) ≡ that_mark n ms ++ n ∷ [] = rw (bears_that n ms, e) refl in
       ap (left (Some n) ms) old ∙ left_filter (Some n) ms (ms ++ n ∷ []) ∙ filter_last (stays_all (Some n) ms) ms n (that_stays n ms n (bytes_self n)) ∙ ap (λ ys. ys ++ n ∷ []) that ∙ sym new
-
--- where the mark is not among them nothing of it is
-pub that_none : (n : List ℕ) (ms : List (List ℕ)) → bears n ms ≡ false → that_mark n ms ≡ []
-that_none n [] h = refl
-that_none n (m ∷ ms) h = by (bytes_eq m n) (that_none n ms) h where
-  by : (b : Bool) → (bears n ms ≡ false → that_mark n ms ≡ []) → (b || bears n ms) ≡ false → cond b (m ∷ that_mark n ms) (that_mark n ms) ≡ []
-  by true r h = cc
-  by false r h = r h

@@ -4,23 +4,30 @@ use Rattle.std.specs.Option.{option_or}
 use Rattle.wm_base.specs.declared.geometry.Dir.{Dir}
 use Rattle.wm_base.specs.declared.ids.ConId.{ConId}
 use Rattle.wm_focus.specs.declared.rungs.Aim.{Aim}
-use Rattle.wm_focus.specs.declared.rungs.Held.{Held}
 use Rattle.wm_focus.specs.Rungs.{Rung, aimed, first_aimed, nearest, rung, rungs}
-use Rattle.wm_focus.specs.Walks.{held}
 use Rattle.wm_forest.specs.declared.part.Part.{Part}
 use Rattle.wm_forest.specs.Forest.{Forest, end, con, node_count}
 use Rattle.wm_forest.specs.Look.{first_floats, first_kids, first_part, has, rest_of, same}
 use Rattle.wm_tree.specs.TreeValue.{or_id}
 use Rattle.wm_forest.specs.Focus.{row_holder}
 
+-- a row's node that is a container or holds it, and what is found at the nearest node above the container
+pub record Held : Type 0 where
+  pub child : ConId
+  pub found : Option ConId
+
+abbrev pub held_by : Option ConId → Option ConId → Option Held
+held_by None found = None
+held_by (Some child) found = Some (record { child = child; found = found })
+
+-- the node of the row that is c or holds it, and what is found at the nearest node above c
+abbrev pub held : Aim → Dir → ConId → Forest → Option Held
+held aim d c row = held_by (row_holder c row) (nearest aim d c row)
+
 -- a row with a first part is that node and its rest
 pub row_is : (row : Forest) (part : Part) → first_part row ≡ Some part → row ≡ con part (first_kids row) (first_floats row) (rest_of row)
 row_is end part h = cc
 row_is (con p kids floats rest) part h = let same_part : p ≡ part = cc in ap (λ q. con q kids floats rest) same_part
-
-pub row_end : (row : Forest) → first_part row ≡ None → row ≡ end
-row_end end h = refl
-row_end (con p kids floats rest) h = cc
 
 -- the rows below and behind the first node have fewer nodes
 pub record Falls (row : Forest) : Type 0 where
@@ -96,14 +103,7 @@ held_none aim d c row h = by (has c row) refl where
       let same_held : held aim d c row ≡ Some (record { child = k.0; found = nearest aim d c row }) = rw k.1 refl in
       absurd (cc)
 
--- ---- the four ways on
-
-pub held_end : (aim : Aim) (d : Dir) (c : ConId) (row : Forest) → first_part row ≡ None → held aim d c row ≡ None
-held_end aim d c row h = rw (row_end row h) refl
-
-here_way : (aim : Aim) (d : Dir) (c : ConId) (p : Part) (kids floats rest : Forest) → same p.id c ≡ true
-    → held aim d c (con p kids floats rest) ≡ Some (record { child = p.id; found = None })
-here_way aim d c p kids floats rest s = rw s refl
+-- ---- the three ways on
 
 kids_way : (aim : Aim) (d : Dir) (c : ConId) (p : Part) (kids floats rest : Forest) (x : Held) → same p.id c ≡ false → held aim d c kids ≡ Some x
     → held aim d c (con p kids floats rest) ≡ Some (record { child = p.id; found = option_or x.found (aimed aim d (rung p.kind kids x.child)) })
@@ -120,12 +120,6 @@ floats_way aim d c p kids floats rest x s n k =
 rest_way : (aim : Aim) (d : Dir) (c : ConId) (p : Part) (kids floats rest : Forest) → same p.id c ≡ false → held aim d c kids ≡ None → held aim d c floats ≡ None
     → held aim d c (con p kids floats rest) ≡ held aim d c rest
 rest_way aim d c p kids floats rest s n m = rw (s, held_none aim d c kids n, held_none aim d c floats m) refl
-
-pub held_here : (aim : Aim) (d : Dir) (c : ConId) (row : Forest) (part : Part) → first_part row ≡ Some part → same part.id c ≡ true → held aim d c row ≡ Some (record { child = part.id; found = None })
-held_here aim d c end part h s = cc
-held_here aim d c (con p kids floats rest) part h s =
-    let one : p ≡ part = cc in
-    ap (λ q. held aim d c (con q kids floats rest)) one ∙ here_way aim d c part kids floats rest s
 
 pub held_kids : (aim : Aim) (d : Dir) (c : ConId) (row : Forest) (part : Part) (x : Held) → first_part row ≡ Some part → same part.id c ≡ false → held aim d c (first_kids row) ≡ Some x
     → held aim d c row ≡ Some (record { child = part.id; found = option_or x.found (aimed aim d (rung part.kind (first_kids row) x.child)) })

@@ -1,5 +1,5 @@
 -- Splitting containers, and the layouts of what holds them.
-use Rattle.std.specs.Prelude.{Bool, true, false, ◌&&◌, ◌||◌, not, if◌then◌else◌, Option, None, Some, is_none}
+use Rattle.std.specs.Prelude.{◌≡◌, Bool, true, false, ◌&&◌, ◌||◌, not, if◌then◌else◌, Option, None, Some, is_none}
 use Rattle.std.specs.Option.{option_or}
 use Rattle.wm_base.specs.declared.errors.ErrorText.TheVariants as texts
 use Rattle.wm_base.specs.declared.errors.Refusal.{Refusal}
@@ -7,6 +7,7 @@ use Rattle.wm_base.specs.declared.ids.ConId.{ConId}
 use Rattle.wm_base.specs.declared.plan.Layout.{Layout}
 use Rattle.wm_base.specs.declared.plan.Layout.TheVariants.{SplitH, SplitV, Stacked, Tabbed}
 use Rattle.wm_focus.specs.declared.splits.Layouts.{Layouts}
+use Rattle.wm_focus.specs.declared.splits.Target.{Target}
 use Rattle.wm_shared.specs.Refusing.{error_if, full_error}
 use Rattle.wm_shared.specs.Subject.{is_hidden, is_space}
 use Rattle.wm_language.specs.declared.arguments.Cycle.{Cycle}
@@ -45,6 +46,12 @@ layouts_by None None = record { now = SplitH; last = SplitH }
 -- those of a workspace or split
 abbrev pub layouts_of : TreeValue → ConId → Layouts
 layouts_of t c = layouts_by (kind_of space_kind c t.nodes) (kind_of con_kind c t.nodes)
+
+-- the node whose layout a command on c sets, with its layouts, and whether it is c itself
+pub record IsTarget (x : Target) (c : ConId) (t : TreeValue) : Type 0 where
+  pub at : x.at ≡ laid t c
+  pub layouts : x.layouts ≡ layouts_of t (laid t c)
+  pub own : x.own ≡ is_space t c
 
 -- the tree in which that node has this layout
 abbrev pub laid_as : ConId → Layout → TreeValue → TreeValue

@@ -1,20 +1,14 @@
 -- Taking several marks off, one by one.
-use Rattle.std.specs.Prelude.{◌≡◌, ℕ, Bool, true, false, not, if◌then◌else◌, List, [], ◌∷◌, ◌++◌, Option, None, Some}
+use Rattle.std.specs.Prelude.{ℕ, Bool, false, not, if◌then◌else◌, List, [], ◌∷◌, ◌++◌, Option, None, Some}
 use Rattle.std.specs.Str.{bytes_eq}
 use Rattle.wm_base.specs.declared.ids.ConId.{ConId}
-use Rattle.wm_focus.specs.Marks.{bears, taken_off, with_mark}
-use Rattle.wm_shared.specs.Subject.{IsSubject, is_container}
-use Rattle.wm_tree.specs.declared.refusal.TreeRefusal.{TreeRefusal}
-use Rattle.wm_tree.specs.declared.refusal.TreeRefusal.TheVariants as tree
+use Rattle.wm_shared.specs.Subject.{IsSubject}
+pub use Rattle.wm_tree.specs.Marks.{all_or_none}
+use Rattle.wm_tree.specs.Marks.{bears, taken_off}
 use Rattle.wm_forest.specs.Forest.{Forest, end, con}
 use Rattle.wm_forest.specs.Marks.{other_marks}
 use Rattle.wm_tree.specs.Sound.{IsSound}
 use Rattle.wm_tree.specs.TreeValue.{TreeValue}
-
--- the marks with one more where it is given
-abbrev pub with_given : Option (List ℕ) → List (List ℕ) → List (List ℕ)
-with_given None marks = marks
-with_given (Some n) marks = with_mark n marks
 
 -- the mark is the one that is given
 abbrev pub is_given : Option (List ℕ) → List ℕ → Bool
@@ -44,21 +38,6 @@ all_marks (con part kids floats rest) = part.marks ++ (all_marks kids ++ (all_ma
 abbrev pub all_off : List (List ℕ) → Forest → Forest
 all_off [] forest = forest
 all_off (n ∷ ns) forest = all_off ns (taken_off None n forest)
-
--- marks are given to containers alone
-abbrev pub MayGive : Option (List ℕ) → ConId → TreeValue → Type 0
-MayGive None c t = Unit {0}
-MayGive (Some n) c t = is_container t c ≡ true
-
--- why giving the mark to a container with these marks was refused, before others are taken off
-abbrev pub IsGiveCause : Option (List ℕ) → List (List ℕ) → TreeRefusal → Type 0
-IsGiveCause given marks (tree.Full limit) = lacks given marks ≡ true
-IsGiveCause given marks (tree.Missing c) = ⊥
-IsGiveCause given marks tree.NoMemory = Unit {0}
-
--- the marks that stay where another one comes in their place: all or none
-abbrev pub all_or_none : Bool → List (List ℕ) → List (List ℕ)
-all_or_none add marks = if add then marks else []
 
 -- marks are taken off one workspace or container that is there, or off all
 abbrev pub IsUnmarked : Option ConId → TreeValue → Type 0

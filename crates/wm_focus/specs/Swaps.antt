@@ -12,21 +12,15 @@ use Rattle.wm_shared.specs.Subject.{is_hidden, is_space}
 use Rattle.wm_language.specs.declared.arguments.SwapArg.{SwapArg}
 use Rattle.wm_language.specs.declared.arguments.SwapArg.TheVariants as swaps
 use Rattle.wm_spaces.specs.Sending.{sent_some, sent_some_refusal}
-use Rattle.wm_forest.specs.declared.part.ConKind.{ConKind}
-use Rattle.wm_forest.specs.declared.part.ConKind.TheVariants.{Split, Window, Placeholder}
 use Rattle.wm_forest.specs.declared.part.ConPart.{ConPart}
 use Rattle.wm_forest.specs.declared.place.Place.TheVariants.{After}
+use Rattle.wm_forest.specs.Change.{is_window_kind}
 use Rattle.wm_forest.specs.Look.{con_kind, has, kind_of, only}
 use Rattle.wm_tree.specs.Move.{exchanged, is_too_deep, moved, passed_by_move}
 use Rattle.wm_tree.specs.TreeValue.{TreeValue, is_tiled_con, workspace_of}
 use Rattle.wm_forest.specs.RootId.{id}
 
 -- ---- whom the command names
-
-abbrev pub is_window_kind : ConKind → Bool
-is_window_kind (Split layout last) = false
-is_window_kind (Window props owner natural) = true
-is_window_kind (Placeholder props swallows) = false
 
 abbrev pub con_named : ConId → Option ConPart → Option ConId
 con_named c None = None

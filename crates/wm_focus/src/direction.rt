@@ -1,16 +1,18 @@
 //! Focusing in a direction.
-ghost use Rattle.std.specs.Prelude.{◌≡◌, true, Some, OnOk, OnErr, IfOk};
+ghost use Rattle.std.specs.Prelude.{◌≡◌, false, true, Some, OnOk, OnErr, IfOk};
 ghost use Rattle.wm_focus.specs.Direction.{IsListed, focus_dir_refusal, focus_dir_tree, focusing_some, goal_of, gone_to};
 ghost use Rattle.wm_shared.specs.Does.{Does};
-ghost use Rattle.wm_shared.specs.Subject.{IsSubject};
+ghost use Rattle.wm_floats.specs.Kinds.{is_of};
+ghost use Rattle.wm_floats.specs.declared.kinds.Kind.TheVariants as kinds;
+ghost use Rattle.wm_shared.specs.Subject.{IsSubject, is_hidden};
 ghost use Rattle.wm_tree.specs.Sound.{IsSound};
 ghost use Rattle.wm_tree.specs.TreeValue.{leaf};
 
-use crate::rungs::{Aim, nearest};
+use crate::rungs::ways_above;
 use wm_base::{ConId, Dir, ErrorText, NoMemory, Refusal};
-use wm_floats::{focus_round, is_floating};
-use wm_shared::{enter_output, focus, is_hidden, output_from};
-use wm_tree::Tree;
+use wm_floats::focus_round;
+use wm_shared::{enter_output, focus, output_from};
+use wm_tree::{Placed, Standing, Tree};
 
 /// Where focus goes in a direction: to a node, or to another output.
 #[derive(Clone, Copy, Debug)]
@@ -26,12 +28,23 @@ pub fn focus_dir(t: &mut Tree, from: ConId, d: Dir) -> Result<(), Refusal>
     requires { IsSubject t.old from }
     ensures { Does t.old t.new result (focus_dir_refusal from d) (focus_dir_tree from d) }
 {
-    if is_floating(t, from) {
-        return focus_round(t, from, d);
+    match t.standing(from) {
+        Some(Standing::Placed(Placed { tiled: true, .. }) | Standing::Space(_)) => {
+            focus_beside(t, from, d)
+        }
+        Some(Standing::Placed(_)) => focus_round(t, from, d),
+        Some(Standing::Away(..)) => Err(Refusal::NoTarget(ErrorText::NoWorkspace)),
+        Some(Standing::Above) | None => unreachable!(),
     }
-    if is_hidden(t, from) {
-        return Err(Refusal::NoTarget(ErrorText::NoWorkspace));
-    }
+}
+
+/// Focuses what lies in a direction of a workspace or of a tiled container on one.
+fn focus_beside(t: &mut Tree, from: ConId, d: Dir) -> Result<(), Refusal>
+    requires sound { IsSound t.old }
+    requires tiled { is_of kinds.Floating t.old from ≡ false }
+    requires seen { is_hidden t.old from ≡ false }
+    ensures { Does t.old t.new result (focus_dir_refusal from d) (focus_dir_tree from d) }
+{
     let Some(goal) = find_goal(t, from, d) else {
         return Err(Refusal::NoTarget(ErrorText::NoNeighbour));
     };
@@ -46,13 +59,14 @@ fn find_goal(t: &Tree, from: ConId, d: Dir) -> Option<Goal>
     ensures value { result ≡ goal_of d from t.now }
     ensures listed { IsListed result t.now }
 {
-    if let Some(beside) = nearest(t.nodes(), from, Aim::Beside, d) {
+    let ways = ways_above(t.nodes(), from, d);
+    if let Some(beside) = ways.beside {
         return Some(Goal::Node(beside));
     }
     if let Some(output) = output_from(t, from, d) {
         return Some(Goal::Output(output));
     }
-    Some(Goal::Node(nearest(t.nodes(), from, Aim::Around, d)?))
+    Some(Goal::Node(ways.around?))
 }
 
 /// Focuses the leaf of a node, or makes an output the current one.

@@ -1,7 +1,6 @@
 //! Commands on the tree that focus, move, mark and lay out: each does one command to one subject.
 #![tactic(auto)]
 
-mod bearers;
 mod direction;
 mod giving;
 mod laws;

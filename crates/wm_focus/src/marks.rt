@@ -7,10 +7,9 @@ ghost use Rattle.wm_shared.specs.Does.{DoesIfSound};
 ghost use Rattle.wm_shared.specs.Subject.{IsSubject};
 ghost use Rattle.wm_tree.specs.Sound.{IsSound};
 
-use crate::bearers::{bearer, bears, marks_of};
-use crate::giving::{give, replace_from, take_all_off, take_off};
+use crate::giving::{give, give_again, strip_from, take_all_off};
 use wm_base::{ConId, ErrorText, NoMemory, Refusal, Text};
-use wm_shared::{is_space, refused};
+use wm_shared::is_space;
 use wm_tree::Tree;
 
 /// How many bytes a mark has at most.
@@ -20,7 +19,7 @@ const MAX_MARK: usize = 256;
 pub fn marked(t: &Tree, name: &Text) -> Option<ConId>
     ensures { result ≡ holder_of name.now t.now }
 {
-    bearer(t.nodes(), None, name)
+    t.bearer(None, name)
 }
 
 /// Gives the mark to the container, and takes it off any other. Without `add` the container loses its other marks, and
@@ -36,11 +35,14 @@ pub fn mark(t: &mut Tree, con: ConId, name: &Text, add: bool, toggle: bool) -> R
     if !is_mark(name) {
         return Err(Refusal::NoTarget(ErrorText::OutOfRange));
     }
-    if toggle && bears(marks_of(t, con), name) {
+    if !t.is_marked(con, name) {
+        return give(t, con, name, add);
+    }
+    if toggle {
         t.remove_mark(con, name);
         return Ok(());
     }
-    give(t, con, name, add)
+    give_again(t, con, name, add)
 }
 
 /// Whether it has 1 to 256 bytes.
@@ -62,12 +64,12 @@ pub fn unmark(t: &mut Tree, con: Option<ConId>, name: Option<&Text>) -> Result<(
             t.remove_mark(con, name);
             Ok(())
         }
-        (Some(con), None) => match replace_from(t, con, None, 0) {
+        (Some(con), None) => match strip_from(t, con, None, 0) {
             Ok(()) => Ok(()),
-            Err(error) => Err(refused(error)),
+            Err(NoMemory) => Err(Refusal::NoMemory),
         },
         (None, Some(name)) => {
-            take_off(t, None, name);
+            t.take_mark(None, name);
             Ok(())
         }
         (None, None) => unmark_all(t),

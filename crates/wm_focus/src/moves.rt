@@ -1,21 +1,20 @@
 //! Moving a container in a direction.
-ghost use Rattle.std.specs.Prelude.{◌≡◌, Some, false, true};
+ghost use Rattle.std.specs.Prelude.{◌≡◌, Some, IfNone, IfSome, false, true};
 ghost use Rattle.wm_focus.specs.Moves.{IsGoal, IsTurn, after_child, beside, cross_refusal, cross_tree, entry, held_out, is_split_con, leave_refusal, leave_tree, move_dir_refusal, move_dir_tree, move_refusal, near_end, runs_split, side_of, space_over, step_refusal, step_tree, turn_refusal, turned};
 ghost use Rattle.wm_shared.specs.Does.{Does};
 ghost use Rattle.wm_shared.specs.Subject.{IsSubject};
 ghost use Rattle.wm_focus.specs.Walks.{neighbour_at};
-ghost use Rattle.wm_forest.specs.Change.{is_split};
 ghost use Rattle.wm_tree.specs.Move.{moved, share_in};
 ghost use Rattle.wm_tree.specs.Sound.{IsSound};
-ghost use Rattle.wm_tree.specs.TreeValue.{is_tiled_con};
+ghost use Rattle.wm_tree.specs.TreeValue.{is_tiled_con, parent};
 
-use crate::rungs::{Aim, aimed, nearest, runs_con};
+use crate::rungs::{Aim, aimed, runs_con, ways_above};
 use wm_base::{ConId, Dir, ErrorText, Refusal};
 use wm_floats::shift;
 use wm_shared::{
-    enter, is_forward, is_hidden, is_space, output_from, refused, remember, shown_on, space_name,
+    enter, is_forward, on_workspace, output_from, refused, remember, shown_on, space_name,
 };
-use wm_tree::{ConKind, Cursor, Place, Tree};
+use wm_tree::{ConKind, Cursor, Place, Placed, Tree};
 
 /// Moves the container in a direction: past a window or placeholder beside it, into a split beside it, out of its
 /// parent, or to what the output in that direction shows. A floating window is shifted by `px` pixels. It may leave a
@@ -24,26 +23,28 @@ pub fn move_dir(t: &mut Tree, con: ConId, d: Dir, px: u32) -> Result<(), Refusal
     requires { IsSubject t.old con }
     ensures { Does t.old t.new result (move_dir_refusal con d px) (move_dir_tree con d px) }
 {
-    if is_hidden(t, con) {
-        return Err(Refusal::NoTarget(ErrorText::NoWorkspace));
-    }
-    if is_space(t, con) {
-        return Err(Refusal::NoTarget(ErrorText::AtWorkspace));
-    }
-    if !t.is_tiled(con) {
+    let Placed {
+        part,
+        holder,
+        tiled,
+        ..
+    } = on_workspace(t, con)?;
+    let own = part.share;
+    if !tiled {
         return shift(t, con, d, px);
     }
-    match beside(t, con, d) {
-        Some(next) => pass(t, con, next, d),
-        None => leave(t, con, d),
+    match beside(t, con, holder, d) {
+        Some(next) => pass(t, con, own, next, d),
+        None => leave(t, con, holder, d),
     }
 }
 
 /// The neighbour of the container on that side, where its parent is along the axis of the direction.
-fn beside(t: &Tree, con: ConId, d: Dir) -> Option<ConId>
+fn beside(t: &Tree, con: ConId, holder: Option<ConId>, d: Dir) -> Option<ConId>
+    requires { parent t.now con ≡ holder }
     ensures { result ≡ beside d con t.now }
 {
-    neighbour_at(t.nodes(), t.parent(con)?, con, d)?
+    neighbour_at(t.nodes(), holder?, con, d)?
 }
 
 /// The neighbour of the container on that side among the parent's children. `None` exactly where the parent is not
@@ -66,29 +67,32 @@ fn neighbour_at(mut row: Cursor<'_>, parent: ConId, con: ConId, d: Dir) -> Optio
     None
 }
 
-/// Moves the container past its neighbour, or into it where that is a split.
-fn pass(t: &mut Tree, con: ConId, next: ConId, d: Dir) -> Result<(), Refusal>
+/// Moves the container, which has this share, past its neighbour, or into it where that is a split.
+fn pass(t: &mut Tree, con: ConId, own: u32, next: ConId, d: Dir) -> Result<(), Refusal>
     requires sound { IsSound t.old }
+    requires own { share_in con t.old.nodes ≡ own }
     requires tiled { is_tiled_con t.old con ≡ true }
     requires next { beside d con t.old ≡ Some next }
     ensures { Does t.old t.new result (step_refusal d con (Some next))
         (step_tree d con (Some next)) }
 {
-    if is_split_con(t, next) {
-        let at = entry(t, next, d);
-        go(t, con, at)
-    } else {
-        turn(t, con, next)
+    match split_along(t, next, d) {
+        Some(along) => {
+            let at = entry(t, next, along, d);
+            go(t, con, at)
+        }
+        None => turn(t, con, own, next),
     }
 }
 
 /// Moves the container out of its parent, beside the child that holds it of the nearest node above along the axis.
-fn leave(t: &mut Tree, con: ConId, d: Dir) -> Result<(), Refusal>
+fn leave(t: &mut Tree, con: ConId, holder: Option<ConId>, d: Dir) -> Result<(), Refusal>
     requires sound { IsSound t.old }
     requires tiled { is_tiled_con t.old con ≡ true }
+    requires holder { parent t.old con ≡ holder }
     ensures { Does t.old t.new result (leave_refusal d con) (leave_tree d con) }
 {
-    match held_out(t, con, d) {
+    match held_out(t, con, holder, d) {
         Some(child) => go(t, con, side_of(d, child)),
         None => cross(t, con, d),
     }
@@ -132,13 +136,13 @@ fn go(t: &mut Tree, con: ConId, at: Place) -> Result<(), Refusal>
     }
 }
 
-/// Two neighbours change places, each with its share.
-fn turn(t: &mut Tree, con: ConId, next: ConId) -> Result<(), Refusal>
+/// Two neighbours change places, each with its share, of which one is given.
+fn turn(t: &mut Tree, con: ConId, own: u32, next: ConId) -> Result<(), Refusal>
     requires sound { IsSound t.old }
+    requires own { share_in con t.old.nodes ≡ own }
     requires turn { IsTurn con next t.old }
     ensures { Does t.old t.new result (turn_refusal con next) (turned con next) }
 {
-    let own = share(t, con);
     let other = share(t, next);
     match t.exchange(con, next) {
         Ok(()) => {
@@ -160,40 +164,24 @@ fn share(t: &Tree, con: ConId) -> u32
     }
 }
 
-/// Whether it is a split.
-fn is_split_con(t: &Tree, con: ConId) -> bool
-    ensures { result ≡ is_split_con t.now con }
+/// Whether the split is along the axis of the direction. `None` exactly where it is no split.
+fn split_along(t: &Tree, con: ConId, d: Dir) -> Option<bool>
+    ensures some { IfSome result (λ along. (is_split_con t.now con ≡ true) × (runs_split d con t.now ≡ along)) }
+    ensures none { IfNone result (is_split_con t.now con ≡ false) }
 {
-    match t.container(con) {
-        Some(part) => is_split_kind(&part.kind),
-        None => false,
+    let part = t.container(con)?;
+    match part.kind {
+        ConKind::Split { .. } => Some(runs_con(d, &part.kind)),
+        ConKind::Window { .. } | ConKind::Placeholder { .. } => None,
     }
 }
 
-fn is_split_kind(kind: &ConKind) -> bool
-    ensures { result ≡ is_split kind.now }
-{
-    match kind {
-        ConKind::Split { .. } => true,
-        ConKind::Window { .. } | ConKind::Placeholder { .. } => false,
-    }
-}
-
-/// Whether it is a split along the axis of the direction.
-fn runs_split(t: &Tree, con: ConId, d: Dir) -> bool
-    ensures { result ≡ runs_split d con t.now }
-{
-    match t.container(con) {
-        Some(part) => runs_con(d, &part.kind),
-        None => false,
-    }
-}
-
-/// The place in a split for a container that comes from the other side.
-fn entry(t: &Tree, split: ConId, d: Dir) -> Place
+/// The place in a split, along the axis of the direction or not, for a container that comes from the other side.
+fn entry(t: &Tree, split: ConId, along: bool, d: Dir) -> Place
+    requires { runs_split d split t.now ≡ along }
     ensures { result ≡ entry d split t.now }
 {
-    if runs_split(t, split, d) {
+    if along {
         near_end(d, split)
     } else {
         after_child(split, t.focused_child(split))
@@ -231,8 +219,9 @@ fn side_of(d: Dir, child: ConId) -> Place
 }
 
 /// The child that holds the container, of the nearest node above its parent along the axis of the direction.
-fn held_out(t: &Tree, con: ConId, d: Dir) -> Option<ConId>
+fn held_out(t: &Tree, con: ConId, holder: Option<ConId>, d: Dir) -> Option<ConId>
+    requires { parent t.now con ≡ holder }
     ensures { result ≡ held_out d con t.now }
 {
-    nearest(t.nodes(), t.parent(con)?, Aim::Out, d)
+    ways_above(t.nodes(), holder?, d).out
 }

@@ -4,8 +4,8 @@ ghost use Rattle.wm_shared.specs.Does.{DoesExactlyIfSound};
 ghost use Rattle.wm_shared.specs.Subject.{IsSubject};
 
 use wm_base::{ConId, ErrorText, Refusal};
-use wm_shared::{is_hidden, is_space};
-use wm_tree::Tree;
+use wm_shared::is_hidden;
+use wm_tree::{Standing, Tree};
 
 /// Raises the container's parent, which is a workspace for the containers at the top of it and for floating windows.
 pub fn focus_parent(t: &mut Tree, from: ConId) -> Result<(), Refusal>
@@ -13,13 +13,13 @@ pub fn focus_parent(t: &mut Tree, from: ConId) -> Result<(), Refusal>
     ensures { DoesExactlyIfSound t.old t.new result (focus_parent_refusal from)
         (focus_parent_tree from) }
 {
-    if is_hidden(t, from) {
-        return Err(Refusal::NoTarget(ErrorText::NoWorkspace));
-    }
-    if is_space(t, from) {
-        return Err(Refusal::NoTarget(ErrorText::NoNeighbour));
-    }
-    if let Some(parent) = t.parent(from) {
+    let parent = match t.standing(from) {
+        Some(Standing::Placed(placed)) => placed.holder,
+        Some(Standing::Space(_)) => return Err(Refusal::NoTarget(ErrorText::NoNeighbour)),
+        Some(Standing::Away(..)) => return Err(Refusal::NoTarget(ErrorText::NoWorkspace)),
+        Some(Standing::Above) | None => unreachable!(),
+    };
+    if let Some(parent) = parent {
         t.raise(parent);
     }
     Ok(())

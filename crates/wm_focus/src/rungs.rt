@@ -1,8 +1,9 @@
 //! Climbing from a container along the nodes that hold it.
 ghost use Rattle.std.specs.Prelude.{◌≡◌};
-ghost use Rattle.wm_focus.specs.Rungs.{aimed, far_end, nearest, rung, runs, runs_con};
+ghost use Rattle.wm_focus.specs.Rungs.{aimed, far_end, rung, runs, runs_con};
 ghost use Rattle.wm_shared.specs.Neighbours.{after, axis_of, before, dir_axis, first_id, is_forward, last_id, neighbour};
-ghost use Rattle.wm_focus.specs.Walks.{held};
+ghost use Rattle.wm_focus.specs.Walks.{climbed, further, ways};
+ghost use Rattle.wm_forest.specs.Look.{first_kids};
 
 use wm_base::{ConId, Dir};
 use wm_shared::{dir_axis, first_id, is_forward, last_id, layout_axis, neighbour};
@@ -17,49 +18,82 @@ pub enum Aim {
     Out,
 }
 
-/// A row's node that is a container or holds it, and what is found at the nearest node above the container.
+/// What is found in a direction above a container, at the nearest node that has it: a neighbour on that side, the child
+/// at the other end, and the child itself.
 #[derive(Clone, Copy, Debug, PartialEq, Eq)]
-pub struct Held {
-    pub child: ConId,
-    pub found: Option<ConId>,
+pub struct Ways {
+    pub beside: Option<ConId>,
+    pub around: Option<ConId>,
+    pub out: Option<ConId>,
 }
 
-/// What is found at the nearest node above the container that has it.
-pub(crate) fn nearest(row: Cursor<'_>, con: ConId, aim: Aim, d: Dir) -> Option<ConId>
-    ensures { result ≡ nearest aim d con row.entry }
+/// A row's node that is a container or holds it, and what is found above the container.
+#[derive(Clone, Copy, Debug, PartialEq, Eq)]
+pub struct Climbed {
+    pub child: ConId,
+    pub ways: Ways,
+}
+
+/// Where nothing is found.
+const NO_WAYS: Ways = Ways {
+    beside: None,
+    around: None,
+    out: None,
+};
+
+/// What is found in a direction above the container.
+pub(crate) fn ways_above(row: Cursor<'_>, con: ConId, d: Dir) -> Ways
+    ensures { result ≡ ways d con row.entry }
 {
-    climb(row, con, aim, d)?.found
+    match climb(row, con, d) {
+        Some(climbed) => climbed.ways,
+        None => NO_WAYS,
+    }
 }
 
 /// The node of the row that is the container or holds it, with what is found below. `None` exactly where the container
 /// is not here.
-fn climb(mut row: Cursor<'_>, con: ConId, aim: Aim, d: Dir) -> Option<Held>
-    ensures { result ≡ held aim d con row.entry }
+fn climb(mut row: Cursor<'_>, con: ConId, d: Dir) -> Option<Climbed>
+    ensures { result ≡ climbed d con row.entry }
 {
     while let Some(part) = row.part() {
         if part.id == con {
-            return Some(Held {
+            return Some(Climbed {
                 child: con,
-                found: None,
+                ways: NO_WAYS,
             });
         }
-        let kids = row.kids();
-        if let Some(below) = climb(row.kids(), con, aim, d) {
-            let found = below.found.or(aimed(aim, d, &part.kind, kids, below.child));
-            return Some(Held {
+        if let Some(below) = climb(row.kids(), con, d) {
+            let ways = further(below.ways, d, &part.kind, &row, below.child);
+            return Some(Climbed {
                 child: part.id,
-                found,
+                ways,
             });
         }
-        if let Some(below) = climb(row.floats(), con, aim, d) {
-            return Some(Held {
+        if let Some(below) = climb(row.floats(), con, d) {
+            return Some(Climbed {
                 child: part.id,
-                found: below.found,
+                ways: below.ways,
             });
         }
         row = row.rest();
     }
     None
+}
+
+/// What was found further down, and else at the row's first node, which is of this kind.
+fn further(found: Ways, d: Dir, kind: &NodeKind, row: &Cursor<'_>, child: ConId) -> Ways
+    ensures { result ≡ further found d (rung kind.now (first_kids row.now) child) }
+{
+    Ways {
+        beside: found
+            .beside
+            .or(aimed(Aim::Beside, d, kind, row.kids(), child)),
+        around: found
+            .around
+            .or(aimed(Aim::Around, d, kind, row.kids(), child)),
+        out: found.out.or(aimed(Aim::Out, d, kind, row.kids(), child)),
+    }
 }
 
 /// What is found at a node of this kind with these children, one of which holds the container.

@@ -1,14 +1,14 @@
 //! Splitting containers, and the layouts of what holds them.
-ghost use Rattle.std.specs.Prelude.{◌≡◌, ◌≢◌, None, Some, OnOk, IfErr};
-ghost use Rattle.wm_focus.specs.Splits.{asked_split, chosen, cycle_layout_refusal, cycle_layout_tree, gives_layout, has_no_second, is_plain_split, laid, layout_refusal, layouts_by, layouts_of, next_layout, other_split, set_layout_refusal, set_layout_tree, split_layouts, split_refusal, split_tree};
+ghost use Rattle.std.specs.Prelude.{◌≡◌, ◌≢◌, ◌&&◌, ◌||◌, false, None, Some, OnOk, IfOk, IfErr};
+ghost use Rattle.wm_focus.specs.Splits.{IsTarget, asked_split, chosen, cycle_layout_refusal, cycle_layout_tree, gives_layout, has_no_second, is_plain_split, laid, layout_refusal, layouts_by, layouts_of, next_layout, other_split, set_layout_refusal, set_layout_tree, split_layouts, split_refusal, split_tree};
 ghost use Rattle.wm_shared.specs.Does.{DoesExactlyIfSound, DoesIfSound};
 ghost use Rattle.wm_shared.specs.Subject.{IsSubject};
 ghost use Rattle.wm_forest.specs.declared.part.ConPart.{ConPart};
 
 use wm_base::{ConId, ErrorText, Layout, Refusal};
 use wm_language::{Cycle, LayoutArg, SplitArg};
-use wm_shared::{is_hidden, is_space, refused};
-use wm_tree::{ConKind, Tree};
+use wm_shared::refused;
+use wm_tree::{ConKind, Placed, SpacePart, Standing, Tree};
 
 /// A layout, and the last split layout.
 #[derive(Clone, Copy, Debug, PartialEq, Eq)]
@@ -23,29 +23,34 @@ const PLAIN: Layouts = Layouts {
     last: Layout::SplitH,
 };
 
-/// The node whose layout a command on the container sets: a workspace's own, else that of the parent.
-fn laid(t: &Tree, con: ConId) -> ConId
-    ensures { result ≡ laid t.now con }
-{
-    if is_space(t, con) {
-        return con;
-    }
-    t.parent(con).unwrap_or(con)
+/// The node whose layout a command sets, its layouts, and whether it is the command's subject itself, a workspace.
+#[derive(Clone, Copy, Debug)]
+pub struct Target {
+    pub at: ConId,
+    pub layouts: Layouts,
+    pub own: bool,
 }
 
 /// The layouts of the workspace or split.
 fn layouts_of(t: &Tree, con: ConId) -> Layouts
     ensures { result ≡ layouts_of t.now con }
 {
-    if let Some(space) = t.space(con) {
-        return Layouts {
-            now: space.layout,
-            last: space.last_split,
-        };
+    match t.standing(con) {
+        Some(Standing::Space(part)) => space_layouts(part),
+        Some(Standing::Placed(Placed { part, .. }) | Standing::Away(part, _)) => {
+            split_layouts(&part.kind)
+        }
+        Some(Standing::Above) | None => PLAIN,
     }
-    match t.container(con) {
-        None => PLAIN,
-        Some(part) => split_layouts(&part.kind),
+}
+
+/// The layouts of a workspace.
+fn space_layouts(space: &SpacePart) -> Layouts
+    ensures { result ≡ layouts_by (Some space.now) None }
+{
+    Layouts {
+        now: space.layout,
+        last: space.last_split,
     }
 }
 
@@ -62,18 +67,37 @@ fn split_layouts(kind: &ConKind) -> Layouts
     }
 }
 
-/// Why no layout is set for the container.
-fn layout_refusal(t: &Tree, con: ConId) -> Result<(), Refusal>
+/// The node whose layout a command on the subject sets: a workspace's own, else that of a tiled container's parent.
+fn laid(t: &Tree, con: ConId) -> Result<Target, Refusal>
+    requires { IsSubject t.now con }
     ensures fine { OnOk result (layout_refusal con t.now ≡ None) }
+    ensures laid { IfOk result (λ target. IsTarget target con t.now) }
     ensures cause { IfErr result (λ e. (layout_refusal con t.now ≡ Some e) × (e ≢ Refusal.NoMemory)) }
 {
-    if is_hidden(t, con) {
-        return Err(Refusal::NoTarget(ErrorText::NoWorkspace));
+    match t.standing(con) {
+        Some(Standing::Space(part)) => Ok(Target {
+            at: con,
+            layouts: space_layouts(part),
+            own: true,
+        }),
+        Some(Standing::Placed(placed)) if placed.tiled => {
+            Ok(around(t, placed.holder.unwrap_or(con)))
+        }
+        Some(Standing::Placed(_)) => Err(Refusal::NoTarget(ErrorText::NotTiled)),
+        Some(Standing::Away(..)) => Err(Refusal::NoTarget(ErrorText::NoWorkspace)),
+        Some(Standing::Above) | None => unreachable!(),
     }
-    if !is_space(t, con) && !t.is_tiled(con) {
-        return Err(Refusal::NoTarget(ErrorText::NotTiled));
+}
+
+/// A tiled container's parent, as the node whose layout is set.
+fn around(t: &Tree, parent: ConId) -> Target
+    ensures { result ≡ record { at = parent; layouts = layouts_of t.now parent; own = false } }
+{
+    Target {
+        at: parent,
+        layouts: layouts_of(t, parent),
+        own: false,
     }
-    Ok(())
 }
 
 /// Sets the layout of the container's parent, or of a workspace itself. The default is the last split layout that it
@@ -83,10 +107,8 @@ pub fn set_layout(t: &mut Tree, con: ConId, arg: LayoutArg) -> Result<(), Refusa
     ensures { DoesExactlyIfSound t.old t.new result (set_layout_refusal con arg)
         (set_layout_tree con arg) }
 {
-    layout_refusal(t, con)?;
-    let at = laid(t, con);
-    let layout = chosen(arg, layouts_of(t, at).last);
-    t.set_layout(at, layout);
+    let Target { at, layouts, .. } = laid(t, con)?;
+    t.set_layout(at, chosen(arg, layouts.last));
     Ok(())
 }
 
@@ -109,10 +131,8 @@ pub fn cycle_layout(t: &mut Tree, con: ConId, arg: Cycle) -> Result<(), Refusal>
     ensures { DoesExactlyIfSound t.old t.new result (cycle_layout_refusal con arg)
         (cycle_layout_tree con arg) }
 {
-    layout_refusal(t, con)?;
-    let at = laid(t, con);
-    let layout = next_layout(arg, layouts_of(t, at));
-    t.set_layout(at, layout);
+    let Target { at, layouts, .. } = laid(t, con)?;
+    t.set_layout(at, next_layout(arg, layouts));
     Ok(())
 }
 
@@ -139,11 +159,10 @@ pub fn split(t: &mut Tree, con: ConId, arg: SplitArg) -> Result<(), Refusal>
     requires { IsSubject t.old con }
     ensures { DoesIfSound t.old t.new result (split_refusal con arg) (split_tree con arg) }
 {
-    layout_refusal(t, con)?;
-    let at = laid(t, con);
-    let layout = asked_split(arg, layouts_of(t, at).now);
-    if gives_layout(t, con, at) {
-        t.set_layout(at, layout);
+    let target = laid(t, con)?;
+    let layout = asked_split(arg, target.layouts.now);
+    if gives_layout(t, target) {
+        t.set_layout(target.at, layout);
         return Ok(());
     }
     match t.wrap(con, layout) {
@@ -163,12 +182,11 @@ fn asked_split(arg: SplitArg, now: Layout) -> Layout
     }
 }
 
-/// Whether the layout is given to the node around, `at`: to a workspace itself, or to the parent of an only child.
-fn gives_layout(t: &Tree, con: ConId, at: ConId) -> bool
-    requires { at ≡ laid t.now con }
-    ensures { result ≡ gives_layout t.now con }
+/// Whether the layout is given to the target: to a workspace itself, or to the parent of an only child.
+fn gives_layout(t: &Tree, target: Target) -> bool
+    ensures { result ≡ (target.own || (has_no_second t.now target.at && is_plain_split target.layouts.now)) }
 {
-    is_space(t, con) || t.child(at, 1).is_none() && is_plain_split(layouts_of(t, at).now)
+    target.own || t.child(target.at, 1).is_none() && is_plain_split(target.layouts.now)
 }
 
 fn is_plain_split(layout: Layout) -> bool

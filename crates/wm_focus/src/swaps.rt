@@ -2,17 +2,18 @@
 ghost use Rattle.std.specs.Prelude.{◌≡◌, ◌≢◌, ◌&&◌, ◌||◌, Some, None, false, true};
 ghost use Rattle.wm_shared.specs.Does.{DoesExactly, DoesExactlyIfSound};
 ghost use Rattle.wm_shared.specs.Subject.{IsSubject};
-ghost use Rattle.wm_focus.specs.Swaps.{beside_refusal, exchange_refusal, exchanged_with, is_part, is_window_kind, moved_after, move_to_mark_refusal, move_to_mark_tree, partner, partner_text, send_beside_refusal, sent_beside, swap_refusal, swap_tree};
+ghost use Rattle.wm_focus.specs.Swaps.{beside_refusal, exchange_refusal, exchanged_with, is_part, moved_after, move_to_mark_refusal, move_to_mark_tree, partner, partner_text, send_beside_refusal, sent_beside, swap_refusal, swap_tree};
 ghost use Rattle.wm_forest.specs.Look.{con_kind, has, kind_of, only};
 ghost use Rattle.wm_tree.specs.Sound.{IsSound};
+ghost use Rattle.wm_tree.specs.TreeValue.{is_tiled_con};
 
 use crate::marks::marked;
 use crate::within::is_within;
 use wm_base::{ConId, ErrorText, Refusal, Text};
 use wm_language::SwapArg;
-use wm_shared::{is_hidden, is_space, refused};
+use wm_shared::{on_workspace, refused};
 use wm_spaces::send;
-use wm_tree::{ConKind, Place, Tree};
+use wm_tree::{Place, Placed, Tree};
 
 /// The container that the command names.
 fn partner(t: &Tree, arg: &SwapArg) -> Option<ConId>
@@ -22,22 +23,13 @@ fn partner(t: &Tree, arg: &SwapArg) -> Option<ConId>
         SwapArg::Con(id) => t.container(ConId(*id)).map(|_| ConId(*id)),
         SwapArg::Window(id) => {
             let part = t.container(ConId(*id))?;
-            if is_window(&part.kind) {
+            if part.kind.is_window() {
                 Some(ConId(*id))
             } else {
                 None
             }
         }
         SwapArg::Mark(name) => marked(t, name),
-    }
-}
-
-fn is_window(kind: &ConKind) -> bool
-    ensures { result ≡ is_window_kind kind.now }
-{
-    match kind {
-        ConKind::Window { .. } => true,
-        ConKind::Split { .. } | ConKind::Placeholder { .. } => false,
     }
 }
 
@@ -57,27 +49,23 @@ pub fn swap(t: &mut Tree, con: ConId, arg: &SwapArg) -> Result<(), Refusal>
     ensures { DoesExactlyIfSound t.old t.new result (swap_refusal con arg.now)
         (swap_tree con arg.now) }
 {
-    if is_hidden(t, con) {
-        return Err(Refusal::NoTarget(ErrorText::NoWorkspace));
-    }
-    if is_space(t, con) {
-        return Err(Refusal::NoTarget(ErrorText::AtWorkspace));
-    }
+    let Placed { tiled, .. } = on_workspace(t, con)?;
     match partner(t, arg) {
-        Some(other) => exchange(t, con, other),
+        Some(other) => exchange(t, con, tiled, other),
         None => Err(Refusal::NoTarget(partner_text(arg))),
     }
 }
 
-/// Exchanges the places of two containers.
-fn exchange(t: &mut Tree, con: ConId, other: ConId) -> Result<(), Refusal>
+/// Exchanges the places of a container, which is tiled or not, and of another one.
+fn exchange(t: &mut Tree, con: ConId, tiled: bool, other: ConId) -> Result<(), Refusal>
+    requires { is_tiled_con t.old con ≡ tiled }
     ensures { DoesExactlyIfSound t.old t.new result (exchange_refusal con (Some other) ErrorText.NoMark)
         (exchanged_with con (Some other)) }
 {
     if is_within(t, con, other) || is_within(t, other, con) {
         return Err(Refusal::NoTarget(ErrorText::SameContainer));
     }
-    if !t.is_tiled(con) || !t.is_tiled(other) {
+    if !tiled || !t.is_tiled(other) {
         return Err(Refusal::NoTarget(ErrorText::NotTiled));
     }
     match t.exchange(con, other) {
@@ -93,22 +81,18 @@ pub fn move_to_mark(t: &mut Tree, con: ConId, name: &Text) -> Result<(), Refusal
     ensures { DoesExactlyIfSound t.old t.new result (move_to_mark_refusal con name.now)
         (move_to_mark_tree con name.now) }
 {
-    if is_hidden(t, con) {
-        return Err(Refusal::NoTarget(ErrorText::NoWorkspace));
-    }
-    if is_space(t, con) {
-        return Err(Refusal::NoTarget(ErrorText::AtWorkspace));
-    }
+    let Placed { tiled, .. } = on_workspace(t, con)?;
     match marked(t, name) {
-        Some(other) => move_after(t, con, other),
+        Some(other) => move_after(t, con, tiled, other),
         None => Err(Refusal::NoTarget(ErrorText::NoMark)),
     }
 }
 
-/// Puts the container after another one, or sends a floating window to its workspace.
-fn move_after(t: &mut Tree, con: ConId, other: ConId) -> Result<(), Refusal>
+/// Puts the container, which is tiled or not, after another one, or sends a floating window to its workspace.
+fn move_after(t: &mut Tree, con: ConId, tiled: bool, other: ConId) -> Result<(), Refusal>
     requires sound { IsSound t.old }
     requires con { kind_of con_kind con t.old.nodes ≢ None }
+    requires tiled { is_tiled_con t.old con ≡ tiled }
     ensures { DoesExactlyIfSound t.old t.new result (beside_refusal con (Some other))
         (moved_after con (Some other)) }
 {
@@ -118,7 +102,7 @@ fn move_after(t: &mut Tree, con: ConId, other: ConId) -> Result<(), Refusal>
     if !t.is_tiled(other) {
         return Err(Refusal::NoTarget(ErrorText::NotTiled));
     }
-    if !t.is_tiled(con) {
+    if !tiled {
         return send_beside(t, con, other);
     }
     match t.move_to(con, Place::After(other)) {

@@ -76,6 +76,13 @@ abbrev pub is_id : ConId → Option ConId → Bool
 is_id c None = false
 is_id c (Some d) = same c d
 
+-- a container that is a window
+abbrev pub is_window_kind : ConKind → Bool
+is_window_kind (Split layout last) = false
+is_window_kind (Window props owner natural) = true
+is_window_kind (Placeholder props swallows) = false
+
+-- a container that is a split
 abbrev pub is_split : ConKind → Bool
 is_split (Split layout last) = true
 is_split (Window props owner natural) = false

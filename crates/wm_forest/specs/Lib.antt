@@ -15,6 +15,7 @@ pub mod Recency
 pub mod RootId
 pub mod Row
 pub mod Settle
+pub mod Sieve
 pub mod SoundRow
 pub mod Spot
 pub mod Sticky

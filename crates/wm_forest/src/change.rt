@@ -1,6 +1,6 @@
 //! Changing rows: taking out, putting behind, and what raising and settling make of a row.
 ghost use Rattle.std.specs.Prelude.{◌≡◌, false, true, if◌then◌else◌, is_some, MatchOption};
-ghost use Rattle.wm_forest.specs.Change.{append, arriving, hole, in_place, placed, replaced, is_end, is_id, is_split, is_vacant, settled_row, shown_of, to_end, unfull, unfull_kind, without};
+ghost use Rattle.wm_forest.specs.Change.{append, arriving, hole, in_place, placed, replaced, is_end, is_id, is_split, is_vacant, is_window_kind, settled_row, shown_of, to_end, unfull, unfull_kind, without};
 ghost use Rattle.wm_forest.specs.Counts.{but};
 ghost use Rattle.wm_forest.specs.Forest.{end, con};
 ghost use Rattle.wm_forest.specs.Look.{has, only, node_in, first_alone, rest_of};
@@ -88,8 +88,7 @@ impl Cell {
         self.floats.clear_fullscreen(id);
     }
 
-    /// Makes the node ready for its new place. From another workspace (`away`) it loses fullscreen, and so does what
-    /// is below it.
+    /// Makes the node ready for its new place. From another workspace (`away`) it and what is below lose fullscreen.
     pub(crate) fn arrive(&mut self, share: u32, rect: Option<Rect>, away: bool)
         ensures row { row_of self.new ≡ arriving share rect away (row_of self.old) }
         ensures alone { alone self.new ≡ arriving share rect away (alone self.old) }
@@ -121,7 +120,7 @@ impl Cell {
             NodeKind::Space(_) => {
                 self.kids.is_end() && self.floats.is_end() && !is_id(self.part.id, shown)
             }
-            NodeKind::Con(con) => is_split(&con.kind) && self.kids.is_end(),
+            NodeKind::Con(con) => con.kind.is_split() && self.kids.is_end(),
         }
     }
 }
@@ -135,12 +134,25 @@ fn is_id(id: ConId, other: Option<ConId>) -> bool
     }
 }
 
-fn is_split(kind: &ConKind) -> bool
-    ensures { result ≡ is_split kind.now }
-{
-    match kind {
-        ConKind::Split { .. } => true,
-        ConKind::Window { .. } | ConKind::Placeholder { .. } => false,
+impl ConKind {
+    /// Whether this is a split.
+    pub fn is_split(&self) -> bool
+        ensures { result ≡ is_split self.now }
+    {
+        match self {
+            ConKind::Split { .. } => true,
+            ConKind::Window { .. } | ConKind::Placeholder { .. } => false,
+        }
+    }
+
+    /// Whether this is a window.
+    pub fn is_window(&self) -> bool
+        ensures { result ≡ is_window_kind self.now }
+    {
+        match self {
+            ConKind::Window { .. } => true,
+            ConKind::Split { .. } | ConKind::Placeholder { .. } => false,
+        }
     }
 }
 

@@ -18,6 +18,8 @@ mod raise;
 pub mod recency;
 mod root;
 mod row;
+mod sieve;
+mod sieved;
 mod spot;
 mod sticky;
 mod taking;
@@ -31,8 +33,9 @@ pub use marks::{SetMarks, Unmark};
 pub use part::{
     ConKind, ConPart, ConState, NodeKind, OutputPart, Part, SpacePart, Swallow, SwallowKey,
 };
-pub use place::{NewCon, Place, short_text};
+pub use place::{NewCon, Place};
 pub use root::ROOT;
 pub use row::{Cell, Row};
+pub use sieve::Sieve;
 pub use spot::{Spot, TOP};
 pub use taking::TakeIn;

@@ -71,12 +71,4 @@ impl Row {
         *self = row;
         self.hang(done);
     }
-
-    /// Puts the nodes of a row before those of this one.
-    pub(crate) fn prepend(&mut self, mut row: Row)
-        ensures { self.new ≡ append row self.old }
-    {
-        row.append(mem::replace(self, Row::new()));
-        *self = row;
-    }
 }

@@ -12,7 +12,7 @@ use crate::root::ROOT;
 use crate::row::{Cell, Row};
 use std::alloc::{AllocError, Global};
 use std::mem;
-use wm_base::{Border, ConId, Layout, List, NoMemory, Props, Rect, Size, Text, TextRefusal};
+use wm_base::{Border, ConId, Layout, List, NoMemory, Props, Rect, Size, Text, short_text};
 
 /// Where a container is put: behind or before a tiled container, first or last among the children of a split or a
 /// workspace, last among a workspace's floating windows with this outer rectangle, or last in the scratchpad.
@@ -151,18 +151,6 @@ impl NewCon {
         };
         let part = self.part(alloc, id, share, border, rect, title_format);
         Ok(Cell::of(alloc, part)?)
-    }
-}
-
-/// The text with these bytes, of which there are few.
-pub fn short_text(alloc: Global, s: &str) -> Result<Text, NoMemory>
-    requires { length s.now ≤ 1024 }
-    ensures { IfOk result (λ text. text ≡ s.now) }
-{
-    match Text::new(alloc, s) {
-        Ok(text) => Ok(text),
-        Err(TextRefusal::TooLong { .. }) => unreachable!(),
-        Err(TextRefusal::NoMemory) => Err(NoMemory),
     }
 }
 

@@ -4,10 +4,11 @@ ghost use Rattle.wm_forest.specs.Row.{alone};
 ghost use Rattle.wm_forest.specs.Recency.{first_held, outside, place_from, raised, without_id};
 
 use crate::row::{Cell, Row};
+use crate::sieved::Sieved;
 use wm_base::ConId;
 
-/// The place of the id in the list.
-fn place(ids: &[ConId], id: ConId) -> Option<usize>
+/// The place of the id in the list, from 0. `None` exactly where it is not there.
+pub fn place(ids: &[ConId], id: ConId) -> Option<usize>
     ensures place { result ≡ place_from 0 id ids.now }
     ensures within { IfSome result (λ at. at < length ids.now) }
 {
@@ -50,6 +51,9 @@ pub fn remove(ids: &mut Vec<ConId>, gone: ConId)
     ids.retain(|id| *id != gone);
 }
 
+/// How many ids are asked for one by one before a sieve is made.
+const SOON: u32 = 8;
+
 /// The first of the ids that is in the row, at any depth. An empty row is not looked for.
 #[tactic(auto, using(crate::proofs::ForestLemmas::first_held_end))]
 pub fn first_held(ids: &[ConId], row: &Row) -> Option<ConId>
@@ -58,6 +62,25 @@ pub fn first_held(ids: &[ConId], row: &Row) -> Option<ConId>
     if row.is_end() {
         return None;
     }
+    let mut left = SOON;
+    let mut rest = ids;
+    while let [first, after @ ..] = rest {
+        if left == 0 {
+            return first_sieved(rest, &Sieved::over(row));
+        }
+        if row.has(*first) {
+            return Some(*first);
+        }
+        left -= 1;
+        rest = after;
+    }
+    None
+}
+
+/// The first of the ids that is in the row.
+fn first_sieved(ids: &[ConId], row: &Sieved<'_>) -> Option<ConId>
+    ensures { result ≡ first_held row.now.row.now ids.now }
+{
     let mut rest = ids;
     while let [first, after @ ..] = rest {
         if row.has(*first) {
@@ -72,9 +95,30 @@ pub fn first_held(ids: &[ConId], row: &Row) -> Option<ConId>
 pub fn first_below(ids: &[ConId], cell: &Cell) -> Option<ConId>
     ensures { result ≡ first_held (alone cell.now) ids.now }
 {
+    let mut left = SOON;
     let mut rest = ids;
     while let [first, after @ ..] = rest {
+        if left == 0 {
+            return below_sieved(rest, cell);
+        }
         if cell.holds(*first) {
+            return Some(*first);
+        }
+        left -= 1;
+        rest = after;
+    }
+    None
+}
+
+/// The first of the ids that is the cell's node or below it, by a sieve.
+fn below_sieved(ids: &[ConId], cell: &Cell) -> Option<ConId>
+    ensures { result ≡ first_held (alone cell.now) ids.now }
+{
+    let kids = Sieved::over(&cell.kids);
+    let floats = Sieved::over(&cell.floats);
+    let mut rest = ids;
+    while let [first, after @ ..] = rest {
+        if cell.part.id == *first || kids.has(*first) || floats.has(*first) {
             return Some(*first);
         }
         rest = after;

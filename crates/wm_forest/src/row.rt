@@ -92,13 +92,6 @@ impl Cell {
         self.floats = floats;
     }
 
-    /// Puts this row behind the node in place of the one that is there.
-    pub fn set_rest(&mut self, rest: Row)
-        ensures { self.new ≡ record self.old { rest = rest } }
-    {
-        self.rest = rest;
-    }
-
     /// Whether the node is this one, or is below it at any depth.
     pub fn holds(&self, id: ConId) -> bool
         ensures { result ≡ has id (alone self.now) }

@@ -1,6 +1,7 @@
 //! Where a node stands in the tree.
-ghost use Rattle.std.specs.Prelude.{◌≡◌, is_some};
-ghost use Rattle.wm_forest.specs.Look.{has};
+ghost use Rattle.std.specs.Prelude.{◌≡◌, is_some, true, false, None, Some, MatchOption};
+ghost use Rattle.wm_forest.specs.Forest.{end};
+ghost use Rattle.wm_forest.specs.Look.{has, only};
 ghost use Rattle.wm_forest.specs.Row.{alone};
 ghost use Rattle.wm_forest.specs.Spot.{holder_by, spot_below, spot_of, spot_in, space_at, room_below, fits};
 
@@ -90,16 +91,26 @@ impl Row {
         ensures value { result ≡ spot_in row id self.now }
         ensures there { is_some result ≡ has id self.now }
     {
+        let (_, spot) = self.stand(row, id)?;
+        Some(spot)
+    }
+
+    /// The cell of the node, and where it stands; `row` tells it of this row.
+    pub fn stand(&self, row: Spot, id: ConId) -> Option<(&Cell, Spot)>
+        ensures { MatchOption result
+            ((has id self.now ≡ false) × (only id self.now ≡ end) × (spot_in row id self.now ≡ None))
+            (λ found. (has id self.now ≡ true) × (only id self.now ≡ alone found.0.now) × (spot_in row id self.now ≡ Some found.1)) }
+    {
         let mut left = self;
         while let Some(cell) = &left.first {
             if cell.part.id == id {
-                return Some(row.of(&cell.part));
+                return Some((cell, row.of(&cell.part)));
             }
-            if let Some(spot) = cell.kids.spot(row.below(true, &cell.part), id) {
-                return Some(spot);
+            if let Some(found) = cell.kids.stand(row.below(true, &cell.part), id) {
+                return Some(found);
             }
-            if let Some(spot) = cell.floats.spot(row.below(false, &cell.part), id) {
-                return Some(spot);
+            if let Some(found) = cell.floats.stand(row.below(false, &cell.part), id) {
+                return Some(found);
             }
             left = &cell.rest;
         }

@@ -11,7 +11,7 @@ use Rattle.wm_forest.specs.Look.{first_floats, first_kids, first_part, rest_of, 
 use Rattle.wm_tree.specs.Sound.{IsSound}
 use Rattle.wm_forest.specs.SoundRow.{ranked, ranks, tally}
 use Rattle.wm_tree.specs.TreeValue.{TreeValue}
-use Rattle.wm_focus.specs.Swaps.{is_window_kind}
+use Rattle.wm_forest.specs.Change.{is_window_kind}
 use Rattle.wm_opens.specs.Opens.{is_window_of, window_at, windows, windows_at}
 use Rattle.wm_opens.proofs.OpenLemmas.{windows_seen}
 use Rattle.wm_history.specs.Windows.{window_part}
@@ -100,10 +100,6 @@ or_swap false b true false e = by b
 or_swap false true false false e = refl
 or_swap false false false false e = refl
 
-pub no_row : (v : ConId) (row : Forest) → first_part row ≡ None → count (window_at v) row ≡ 0
-no_row v end h = refl
-no_row v (con part kids floats rest) h = cc
-
 -- what holds a row's first node, what is below it and what is behind it holds the row
 pub holds_row : (v : ConId) (row : Forest) (part : Part) (before own kids floats rest : Bool) → first_part row ≡ Some part → own ≡ (ltb 0 (window_at v part) || before)
     → kids ≡ (ltb 0 (count (window_at v) (first_kids row)) || own) → floats ≡ (ltb 0 (count (window_at v) (first_floats row)) || kids) → rest ≡ (ltb 0 (count (window_at v) (rest_of row)) || floats)
@@ -119,6 +115,11 @@ holds_row v row part before own kids floats rest there e f g h =
     ∙ (ap (λ b. ltb 0 r || b) (g ∙ ap (λ b. ltb 0 l || b) (f ∙ ap (λ b. ltb 0 k || b) e))
     ∙ (or_swap (ltb 0 a) (ltb 0 k) (ltb 0 l) (ltb 0 r) before
     ∙ ap (λ b. b || before) (sym (ap (λ n. ltb 0 n) (row_windows v row part there) ∙ parts))))
+
+-- behind the last node nothing more is held
+pub holds_end : (v : ConId) (row : Forest) (held all : Bool) → first_part row ≡ None → (ltb 0 (count (window_at v) row) || held) ≡ all → held ≡ all
+holds_end v end held all there e = e
+holds_end v (con part kids floats rest) held all there e = cc
 
 pub seen_there : (v : ConId) (t : TreeValue) → IsSound t → (ltb 0 (windows_at v t) || false) ≡ is_window_of t v
 seen_there v t s = ap (λ n. ltb 0 n || false) (windows_seen t v s) ∙ by (is_window_of t v)

@@ -5,7 +5,7 @@ use Rattle.std.specs.List.{list_any}
 use Rattle.std.specs.Option.{option_or}
 use Rattle.wm_base.specs.declared.ids.Buffer.{Buffer}
 use Rattle.wm_base.specs.declared.ids.ConId.{ConId}
-use Rattle.wm_focus.specs.Swaps.{is_window_kind}
+use Rattle.wm_forest.specs.Change.{is_window_kind}
 use Rattle.wm_opens.proofs.OwnerLemmas.{owned_found, owned_seen}
 use Rattle.wm_opens.specs.Opens.{is_owned_kind, is_owned_of, is_owned_part, is_window_of, is_window_part, owned_at}
 use Rattle.std.proofs.lemmas.Bool.{false_from_ne_true, false≢true}

@@ -1,6 +1,7 @@
 -- The part of the desktop that a picture of a frame shows.
-use Rattle.std.specs.Prelude.{ℕ, ◌-◌, ◌==◌, ◌||◌, if◌then◌else◌, pos, List, [], ◌∷◌, drop, length, Option, None, Some}
+use Rattle.std.specs.Prelude.{ℕ, ◌-◌, ◌==◌, ◌||◌, if◌then◌else◌, List, [], ◌∷◌, drop, length, Option, None, Some}
 use Rattle.wm_base.specs.declared.geometry.Rect.{Rect}
+pub use Rattle.wm_base.specs.Rect.{nowhere}
 use Rattle.wm_arrange.specs.declared.parts.Placed.{Placed}
 use Rattle.wm_arrange.specs.declared.parts.PlacedPart.{PlacedPart}
 use Rattle.wm_arrange.specs.declared.parts.PlacedPart.TheVariants.{Back, Area, Title, Border, Content}
@@ -14,10 +15,6 @@ use Rattle.wm_history.specs.History.{Entry, Start, first, accepted_of, tree}
 -- the first so many entries of a history, which has the newest first
 abbrev pub beginning : ℕ → List Entry → List Entry
 beginning n history = drop (length history - n) history
-
--- no pixels at all
-abbrev pub nowhere : Rect
-nowhere = record { x = pos 0; y = pos 0; w = 0; h = 0 }
 
 -- the rectangle of an output, unless it has no pixels
 abbrev pub rect_or : Option OutputPart → Rect → Rect

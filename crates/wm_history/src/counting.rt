@@ -3,7 +3,6 @@ ghost use Rattle.std.specs.Prelude.{◌≡◌, ◌≤◌, filter, not, IfOk};
 ghost use Rattle.wm_history.specs.Follows.{one_if_some, Follows};
 ghost use Rattle.wm_history.specs.Effect.{closed, fresh_ids};
 ghost use Rattle.wm_history.specs.Windows.{window_count, window_part};
-ghost use Rattle.wm_focus.specs.Swaps.{is_window_kind};
 ghost use Rattle.wm_opens.specs.Opens.{is_window_of, windows};
 ghost use Rattle.wm_forest.specs.Counts.{count};
 ghost use Rattle.wm_tree.specs.Sound.{IsSound};
@@ -11,7 +10,7 @@ ghost use Rattle.wm_tree.specs.Sound.{IsSound};
 use crate::holding::{holds, windows_of};
 use std::alloc::{AllocError, Global};
 use wm_base::{Buffer, ConId};
-use wm_tree::{ConKind, Cursor, NodeKind, Tree};
+use wm_tree::{Cursor, NodeKind, Tree};
 
 /// How many windows the tree has.
 pub fn window_count(tree: &Tree) -> u32
@@ -27,12 +26,15 @@ fn count(row: Cursor<'_>) -> u32
     requires { count window_part row ≤ 4096 }
     ensures { result ≡ count window_part row.entry }
 {
-    let Some(part) = row.part() else {
-        return 0;
-    };
-    let kids = count(row.kids());
-    let floats = count(row.floats());
-    one_if_window(&part.kind) + kids + floats + count(row.rest())
+    let mut n = 0;
+    let mut left = row;
+    while let Some(part) = left.part() {
+        let kids = count(left.kids());
+        let floats = count(left.floats());
+        n += one_if_window(&part.kind) + kids + floats;
+        left = left.rest();
+    }
+    n
 }
 
 /// 1 for a window, 0 for another node.
@@ -41,16 +43,9 @@ pub fn one_if_window(kind: &NodeKind) -> u32
     ensures small { result ≤ 1 }
 {
     match kind {
-        NodeKind::Con(part) if is_window_kind(&part.kind) => 1,
+        NodeKind::Con(part) if part.kind.is_window() => 1,
         _ => 0,
     }
-}
-
-/// Whether a container is a window.
-fn is_window_kind(kind: &ConKind) -> bool
-    ensures { result ≡ is_window_kind kind.now }
-{
-    matches!(kind, ConKind::Window { .. })
 }
 
 /// Whether this is an open window.
@@ -58,7 +53,7 @@ fn is_window_of(tree: &Tree, con: ConId) -> bool
     ensures { result ≡ is_window_of tree.now con }
 {
     match tree.container(con) {
-        Some(part) => is_window_kind(&part.kind),
+        Some(part) => part.kind.is_window(),
         None => false,
     }
 }
@@ -109,11 +104,10 @@ fn missing(
     let after = windows_of(alloc, new)?;
     let mut gone = unless_there(alloc, new, opened)?;
     let mut rest = old.recent_ids();
-    while let [con, behind @ ..] = rest {
-        if holds(&before, *con) && !holds(&after, *con) {
-            gone.push(*con)?;
+    while let Some(con) = rest.next() {
+        if holds(&before, con) && !holds(&after, con) {
+            gone.push(con)?;
         }
-        rest = behind;
     }
     Ok(gone)
 }

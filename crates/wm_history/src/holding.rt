@@ -33,13 +33,13 @@ pub fn holds(ids: &BTreeMap<u32, ()>, con: ConId) -> bool
 fn gather(row: Cursor<'_>, ids: &mut BTreeMap<u32, ()>) -> Result<(), AllocError>
     ensures { (v : ConId) → OnOk result (holds ids.new.entries v ≡ (nat_lt 0 (count (window_at v) row.entry) || holds ids.old.entries v)) }
 {
-    let Some(part) = row.part() else {
-        return Ok(());
-    };
-    add(part, ids)?;
-    gather(row.kids(), ids)?;
-    gather(row.floats(), ids)?;
-    gather(row.rest(), ids)?;
+    let mut left = row;
+    while let Some(part) = left.part() {
+        add(part, ids)?;
+        gather(left.kids(), ids)?;
+        gather(left.floats(), ids)?;
+        left = left.rest();
+    }
     Ok(())
 }
 

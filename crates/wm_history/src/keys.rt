@@ -8,8 +8,7 @@ ghost use Rattle.wm_criteria.specs.Prepared.{is_built};
 
 use crate::step::Choice;
 use std::alloc::Global;
-use wm_base::{List, NoMemory, Str, Text};
-use wm_forest::short_text;
+use wm_base::{List, NoMemory, Str, Text, short_text};
 use wm_json::{EventBody, copy_str};
 
 /// The first choice for the mode.

@@ -1,7 +1,6 @@
 //! What windows say of themselves, and how they go.
 ghost use Rattle.wm_history.specs.Windows.{AreContainers, with_urgent, without_urgent, without_windows};
 ghost use Rattle.wm_forest.specs.Look.{has};
-ghost use Rattle.wm_forest.specs.Recency.{lists};
 ghost use Rattle.wm_tree.specs.Sound as trees;
 ghost use Rattle.std.specs.Prelude.{◌≡◌, true, OnOk, if◌then◌else◌};
 
@@ -32,22 +31,8 @@ pub fn set_urgent(tree: &mut Tree, window: ConId, on: bool) -> Result<(), NoMemo
         tree.remove_urgent(window);
         return Ok(());
     }
-    if lists(window, tree.urgent_ids()) {
+    if tree.is_urgent(window) {
         return Ok(());
     }
     tree.add_urgent(window).map_err(|_| NoMemory)
-}
-
-/// Whether the window is among these.
-fn lists(window: ConId, ids: &[ConId]) -> bool
-    ensures { result ≡ lists window ids.now }
-{
-    let mut rest = ids;
-    while let [id, after @ ..] = rest {
-        if *id == window {
-            return true;
-        }
-        rest = after;
-    }
-    false
 }

@@ -4,7 +4,7 @@ use Rattle.wm_apply.specs.Layouts.{append_tree}
 use Rattle.wm_base.specs.declared.ids.ConId.{ConId}
 use Rattle.wm_base.specs.declared.plan.Border.{Border}
 use Rattle.wm_focus.specs.Marks.{given_mark}
-use Rattle.wm_focus.specs.Swaps.{is_window_kind}
+use Rattle.wm_forest.specs.Change.{is_window_kind}
 use Rattle.wm_opens.proofs.KeptLemmas.{Kept, kept_attached, kept_edited, kept_given, kept_refl, kept_trans}
 use Rattle.wm_saved.specs.declared.saved.SavedKind.{SavedKind, Split', Placeholder, Row_of-SavedNode, end_of-SavedNode, more_of-SavedNode}
 use Rattle.wm_saved.specs.declared.saved.SavedLayout.{SavedLayout}

@@ -4,7 +4,7 @@ use Rattle.wm_base.specs.declared.ids.ConId.{ConId}
 use Rattle.wm_base.specs.declared.plan.Layout.{Layout}
 use Rattle.wm_base.specs.declared.plan.OutputPlan.{OutputPlan}
 use Rattle.wm_focus.specs.Marks.{freed, given_mark, kept_marks, with_mark}
-use Rattle.wm_focus.specs.Swaps.{is_window_kind}
+use Rattle.wm_forest.specs.Change.{is_window_kind}
 use Rattle.wm_opens.proofs.MeasureLemmas.{Fewer, IsMeasure, fewer_same, fewer_trans}
 use Rattle.wm_opens.proofs.WordLemmas.{count-taken_off, fewer_along, fewer_attached, fewer_detached, fewer_edited, fewer_exchanged, fewer_moved, fewer_raised, fewer_settled, fewer_space_moved, fewer_unmarked, fewer_with_marks, fewer_with_output, fewer_with_space, fewer_without_output, fewer_wrapped}
 use Rattle.wm_opens.specs.Opens.{is_fill}

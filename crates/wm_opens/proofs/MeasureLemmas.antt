@@ -4,7 +4,7 @@ use Rattle.std.proofs.lemmas.Bool.Decides.{nat_tests}
 use Rattle.wm_base.specs.declared.geometry.Rect.{Rect}
 use Rattle.wm_base.specs.declared.ids.ConId.{ConId}
 use Rattle.wm_base.specs.declared.plan.Layout.{Layout}
-use Rattle.wm_focus.specs.Swaps.{is_window_kind}
+use Rattle.wm_forest.specs.Change.{is_window_kind}
 use Rattle.wm_opens.specs.Opens.{is_fill, window_at, windows}
 use Rattle.wm_forest.specs.declared.kind.KindEdit.{KindEdit}
 use Rattle.wm_forest.specs.declared.kind.KindEdit.TheVariants as edits

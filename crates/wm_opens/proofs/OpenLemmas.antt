@@ -6,7 +6,7 @@ use Rattle.wm_base.specs.declared.ids.ConId.{ConId}
 use Rattle.wm_base.specs.declared.plan.OutputPlan.{OutputPlan}
 use Rattle.wm_base.specs.declared.properties.Props.{Props}
 use Rattle.wm_criteria.specs.declared.verdict.Verdict.{Verdict}
-use Rattle.wm_focus.specs.Swaps.{is_window_kind}
+use Rattle.wm_forest.specs.Change.{is_window_kind}
 use Rattle.wm_layouts.specs.declared.plan.Env.{Env}
 use Rattle.wm_opens.proofs.CommandLemmas.{kept_outcome}
 use Rattle.wm_opens.proofs.KeptLemmas.{Kept, kept_detached, kept_settled}

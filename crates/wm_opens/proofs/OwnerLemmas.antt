@@ -4,7 +4,7 @@ use Rattle.std.proofs.lemmas.Bool.Decides.{nat_tests}
 use Rattle.wm_base.specs.declared.geometry.Rect.{Rect}
 use Rattle.wm_base.specs.declared.ids.ConId.{ConId}
 use Rattle.wm_base.specs.declared.plan.Layout.{Layout}
-use Rattle.wm_focus.specs.Swaps.{is_window_kind}
+use Rattle.wm_forest.specs.Change.{is_window_kind}
 use Rattle.wm_opens.proofs.KeptLemmas.{Kept}
 use Rattle.wm_opens.proofs.MeasureLemmas.{IsFresh, IsKept, kinds_at, kinds_measured}
 use Rattle.wm_opens.proofs.OpenLemmas.{IsAt, found_at, seen_same}

@@ -17,7 +17,7 @@ use Rattle.wm_opens.proofs.OpenLemmas.{IsAt, found_at, windows_seen, windows_tal
 use Rattle.wm_opens.proofs.SpaceLemmas.{kept_output_removed}
 use Rattle.wm_opens.proofs.WordLemmas.{put_none}
 use Rattle.wm_opens.specs.Opens.{OpensNoOther, is_fill, is_placeholder_kind, is_placeholder_of, is_placeholder_part, is_window_of, is_window_part, may_open, placeholder_at, placeholders, placeholders_at, windows_at}
-use Rattle.wm_focus.specs.Swaps.{is_window_kind}
+use Rattle.wm_forest.specs.Change.{is_window_kind}
 use Rattle.wm_spaces.specs.Coming.{free_name, output_added_tree, output_removed_tree}
 use Rattle.wm_forest.proofs.ChangeLemmas.{by_change}
 use Rattle.wm_forest.proofs.CountLemmas.{count-without, found_counted, tally-absent}

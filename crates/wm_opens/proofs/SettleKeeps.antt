@@ -1,7 +1,7 @@
 -- Settling keeps each window where no container has floating windows.
 use Rattle.std.proofs.Common.{◌≡◌, ℕ, Bool, true, false, cond, ◌&&◌, not, Option, None, refl, arith}
 use Rattle.wm_base.specs.declared.ids.ConId.{ConId}
-use Rattle.wm_focus.specs.Swaps.{is_window_kind}
+use Rattle.wm_forest.specs.Change.{is_window_kind}
 use Rattle.wm_opens.specs.Opens.{HoldsNone, IsTidy, window_at, windows, windows_at}
 use Rattle.wm_forest.specs.Change.{is_end, is_id, is_split, is_vacant, settled_row, shown_of}
 use Rattle.wm_forest.specs.Counts.{count}

@@ -4,7 +4,7 @@ use Rattle.wm_base.specs.declared.geometry.Edges.{Edges}
 use Rattle.wm_base.specs.declared.geometry.Size.{Size}
 use Rattle.wm_base.specs.declared.ids.ConId.{ConId}
 use Rattle.wm_base.specs.declared.properties.Props.{Props}
-use Rattle.wm_focus.specs.Swaps.{is_window_kind}
+use Rattle.wm_forest.specs.Change.{is_window_kind}
 use Rattle.wm_opens.proofs.OpenLemmas.{IsAt, closing_takes, found_at}
 use Rattle.wm_opens.proofs.SureLemmas.{sure_edited, sure_raised}
 use Rattle.wm_opens.proofs.SureSpaces.{fits_all}

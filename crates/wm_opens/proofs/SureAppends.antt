@@ -8,7 +8,7 @@ use Rattle.wm_base.specs.declared.errors.ErrorText.TheVariants as texts
 use Rattle.wm_base.specs.declared.ids.ConId.{ConId}
 use Rattle.wm_base.specs.declared.plan.Border.{Border}
 use Rattle.wm_focus.specs.Marks.{give_refusal, given_mark, is_mark}
-use Rattle.wm_focus.specs.Swaps.{is_window_kind}
+use Rattle.wm_forest.specs.Change.{is_window_kind}
 use Rattle.wm_opens.proofs.AppendLemmas.{HasNoWindow, no_window}
 use Rattle.wm_opens.proofs.KeptLemmas.{kept_attached}
 use Rattle.wm_opens.proofs.SureCommands.{unless}

@@ -11,7 +11,7 @@ use Rattle.wm_opens.proofs.TidyLemmas.{IsFreeAt, tidy_arriving, tidy_edited, tid
 use Rattle.wm_opens.proofs.WordLemmas.{count-loosened}
 use Rattle.wm_opens.specs.Opens.{IsTidy, is_fill, window_at, windows, windows_at}
 use Rattle.wm_shared.specs.Refusing.{full_error}
-use Rattle.wm_focus.specs.Swaps.{is_window_kind}
+use Rattle.wm_forest.specs.Change.{is_window_kind}
 use Rattle.wm_forest.proofs.CountLemmas.{count-without, found_counted, tally-absent}
 use Rattle.wm_forest.proofs.ForestLemmas.{only_absent}
 use Rattle.wm_tree.proofs.MoveLemmas.{sound-moved}

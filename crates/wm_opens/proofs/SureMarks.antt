@@ -6,8 +6,9 @@ use Rattle.wm_base.specs.declared.errors.Limit.TheVariants as limits
 use Rattle.wm_base.specs.declared.errors.Refusal.TheVariants.{Full}
 use Rattle.wm_base.specs.declared.ids.ConId.{ConId}
 use Rattle.wm_focus.proofs.AllLemmas.{all_bare}
-use Rattle.wm_focus.proofs.BearerLemmas.{bearer_marks, bearer_other, fewer_marks, off_none, off_unmarked}
-use Rattle.wm_focus.proofs.GiveLemmas.{cleared_is, in_place, ready_kind}
+use Rattle.wm_tree.proofs.BearerLemmas.{bearer_marks, bearer_other, fewer_marks, off_none, off_unmarked}
+use Rattle.wm_focus.proofs.GiveLemmas.{in_place, ready_kind}
+use Rattle.wm_tree.proofs.GivingLemmas.{cleared_is}
 use Rattle.wm_focus.specs.Marks.{bare, bearer, bears, cleared, freed, full_of_marks, give_refusal, given_mark, is_marked, kept_marks, mark_tree, taken_off, that_mark, unmark_tree, with_mark}
 use Rattle.wm_focus.specs.Stripped.{all_marks, all_off, all_or_none}
 use Rattle.wm_opens.proofs.KeptLemmas.{kept_count, kept_unmarked, kept_with_marks}

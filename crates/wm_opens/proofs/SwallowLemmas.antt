@@ -3,7 +3,7 @@ use Rattle.std.proofs.Common.{◌≡◌, ℕ, ◌+◌, ◌≤◌, ◌<◌, Bool,
 use Rattle.wm_base.specs.declared.geometry.Size.{Size}
 use Rattle.wm_base.specs.declared.ids.ConId.{ConId}
 use Rattle.wm_base.specs.declared.properties.Props.{Props}
-use Rattle.wm_focus.specs.Swaps.{is_window_kind}
+use Rattle.wm_forest.specs.Change.{is_window_kind}
 use Rattle.wm_opens.proofs.MeasureLemmas.{kinds_at}
 use Rattle.wm_opens.proofs.OpenLemmas.{IsAt, found_at, seen_same, windows_tallied}
 use Rattle.wm_opens.proofs.OwnerLemmas.{owned_found, owned_told}

@@ -5,7 +5,7 @@ use Rattle.wm_base.specs.declared.ids.ConId.{ConId}
 use Rattle.wm_base.specs.declared.plan.Layout.{Layout}
 use Rattle.wm_base.specs.declared.plan.OutputPlan.{OutputPlan}
 use Rattle.wm_focus.specs.Marks.{bare, part_off, taken_off}
-use Rattle.wm_focus.specs.Swaps.{is_window_kind}
+use Rattle.wm_forest.specs.Change.{is_window_kind}
 use Rattle.wm_opens.proofs.MeasureLemmas.{Fewer, IsFresh, IsMeasure, fewer_refl, fewer_same, fewer_trans}
 use Rattle.wm_opens.specs.Opens.{is_fill}
 use Rattle.wm_forest.proofs.ChangeLemmas.{by_change}

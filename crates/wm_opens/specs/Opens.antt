@@ -1,7 +1,7 @@
 -- Which ids stand in a tree as windows, and which may still open as windows.
 use Rattle.std.specs.Prelude.{◌≡◌, ℕ, ◌+◌, ◌≤◌, ◌<◌, ◌==◌, Bool, true, false, ◌||◌, ◌&&◌, nat_le, if◌then◌else◌, Option, None, Some}
 use Rattle.wm_base.specs.declared.ids.ConId.{ConId}
-use Rattle.wm_focus.specs.Swaps.{is_window_kind}
+use Rattle.wm_forest.specs.Change.{is_window_kind}
 use Rattle.wm_forest.specs.declared.kind.KindEdit.{KindEdit}
 use Rattle.wm_forest.specs.declared.kind.KindEdit.TheVariants as edits
 use Rattle.wm_forest.specs.declared.part.ConKind.{ConKind}

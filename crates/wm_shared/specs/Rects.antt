@@ -1,5 +1,5 @@
 -- The outer rectangles of windows that float, and the numbers that a place may have.
-use Rattle.std.specs.Prelude.{ℤ, pos, negsuc, int_lt, if◌then◌else◌, Option, None, Some, option_and_then}
+use Rattle.std.specs.Prelude.{ℤ, pos, negsuc, int_le, int_lt, Bool, ◌&&◌, if◌then◌else◌, Option, None, Some, option_and_then}
 use Rattle.wm_base.specs.declared.geometry.Rect.{Rect}
 use Rattle.wm_base.specs.declared.ids.ConId.{ConId}
 use Rattle.wm_shared.specs.Outputs.{output_of}
@@ -8,6 +8,10 @@ use Rattle.wm_forest.specs.declared.part.OutputPart.{OutputPart}
 use Rattle.wm_tree.specs.Along.{nowhere}
 use Rattle.wm_forest.specs.Look.{con_kind, kind_of, output_kind}
 use Rattle.wm_tree.specs.TreeValue.{TreeValue}
+
+-- a place may have this number
+abbrev pub is_in_range : ℤ → Bool
+is_in_range z = int_le (negsuc 131071) z && int_le z (pos 131071)
 
 -- the nearest number that a place may have
 abbrev pub held : ℤ → ℤ

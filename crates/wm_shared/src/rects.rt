@@ -1,10 +1,10 @@
 //! The outer rectangles of windows that float, and the numbers that a place may have.
 ghost use Rattle.std.specs.Prelude.{◌≡◌};
 ghost use Rattle.std.specs.Option.{option_copied};
-ghost use Rattle.wm_shared.specs.Rects.{held, output_part_of, rect_of};
+ghost use Rattle.wm_shared.specs.Rects.{held, is_in_range, output_part_of, rect_of};
 
 use crate::outputs::output_of;
-use wm_base::{ConId, Rect};
+use wm_base::{ConId, NOWHERE, Rect};
 use wm_tree::{OutputPart, Tree};
 
 /// The least and the greatest number of a place.
@@ -12,13 +12,12 @@ const LEAST: i64 = -131_072;
 
 const GREATEST: i64 = 131_071;
 
-/// Where no window is.
-const NOWHERE: Rect = Rect {
-    x: 0,
-    y: 0,
-    w: 0,
-    h: 0,
-};
+/// Whether a place may have this number.
+pub fn is_in_range(n: i64) -> bool
+    ensures { result ≡ is_in_range n }
+{
+    LEAST <= n && n <= GREATEST
+}
 
 /// The nearest number that a place may have.
 pub fn held(n: i64) -> i32

@@ -7,6 +7,8 @@ use Rattle.wm_sizes.specs.declared.gaps.Change.{Change}
 use Rattle.wm_sizes.specs.Gaps.{each_gapped, regapped, space_gapped}
 use Rattle.wm_forest.specs.declared.part.SpacePart.{SpacePart}
 use Rattle.wm_forest.specs.Look.{kind_of, space_kind}
+use Rattle.wm_sizes.proofs.LengthLemmas.{recency_short}
+use Rattle.wm_tree.specs.Sound.{IsSound}
 use Rattle.wm_tree.specs.TreeValue.{TreeValue}
 
 get_some : {A : Type 0} (n : ℕ) (l : List A) (x : A) → slice_get l n ≡ Some x → (n < length l) × (drop n l ≡ x ∷ drop (suc n) l)
@@ -19,6 +21,10 @@ get_none zero [] h = refl
 get_none (suc n) [] h = refl
 get_none zero (y ∷ l) h = cc
 get_none (suc n) (y ∷ l) h = get_none n l h
+
+-- each place in the order of recency has a small number
+pub few : (i : ℕ) (w : ConId) (t : TreeValue) → IsSound t → slice_get t.recency i ≡ Some w → i < 4000000001
+few i w t s h = omega (arith, (get_some i t.recency w h).0, recency_short t s)
 
 -- behind the last id all are changed
 pub all_done : (ch : Change) (i : ℕ) (first t : TreeValue) → t.recency ≡ first.recency → slice_get t.recency i ≡ None → each_gapped ch (drop i first.recency) t ≡ each_gapped ch first.recency first

@@ -1,73 +1,41 @@
--- Going along the siblings by number.
-use Rattle.std.proofs.Common.{◌≡◌, ℕ, zero, suc, add-one, ◌+◌, ◌-◌, ◌≤◌, ◌<◌, Bool, true, false, cond, ◌&&◌, List, [], ◌∷◌, None, Some, length, refl, ap, sym, ◌∙◌, arith}
+-- Going along the siblings.
+use Rattle.std.proofs.Common.{◌≡◌, ℕ, ◌+◌, ◌≤◌, ◌<◌, Bool, true, false, ◌&&◌, List, [], ◌∷◌, ◌++◌, length, take, get_or, refl, ap, sym, ◌∙◌, arith}
+use Rattle.std.proofs.lemmas.List.{take_more}
 use Rattle.std.proofs.lemmas.Bool.Decides.{nat_tests}
-use Rattle.std.specs.Prelude.{drop, nat_le, not, ◌==◌, ◌||◌}
+use Rattle.std.specs.Prelude.{nat_le, not, ◌==◌, ◌||◌}
 use Rattle.wm_base.specs.declared.ids.ConId.{ConId}
 use Rattle.wm_sizes.proofs.BoolLemmas.{both}
 use Rattle.wm_sizes.specs.declared.deals.Deal.{Deal}
 use Rattle.wm_sizes.specs.declared.deals.Sibling.{Sibling}
-use Rattle.wm_sizes.specs.Deals.{fits, fits_all, gives, is_partner, share_after, siblings, turn_after}
+use Rattle.wm_sizes.specs.Deals.{fits, fits_all, gives, share_after, siblings}
 use Rattle.wm_sizes.specs.declared.tiled.Growth.{Growth}
-use Rattle.wm_sizes.specs.Tiled.{IsReady, cannot, nth_sibling}
+use Rattle.wm_sizes.specs.Tiled.{IsReady, cannot, shares_set}
+use Rattle.wm_forest.specs.declared.kind.KindEdit.TheVariants as edits
 use Rattle.wm_forest.specs.Counts.{row_length}
 use Rattle.wm_forest.proofs.ForestLemmas.{only_absent}
 use Rattle.wm_forest.specs.Forest.{Forest, end, con}
 use Rattle.wm_forest.specs.Look.{first_kids, has, only}
+use Rattle.wm_tree.specs.TreeValue.{TreeValue}
+use Rattle.wm_tree.specs.Words.{edited}
 
 -- a node that is not there has no children
-pub no_child : (n : ℕ) (p : ConId) (f : Forest) → has p f ≡ false → nth_sibling n (siblings (first_kids (only p f))) ≡ None
-no_child n p f h = ap (λ g. nth_sibling n (siblings (first_kids g))) (only_absent p f h)
+pub no_children : (p : ConId) (f : Forest) → has p f ≡ false → siblings (first_kids (only p f)) ≡ []
+no_children p f h = ap (λ g. siblings (first_kids g)) (only_absent p f h)
 
-nth_suc : (n : ℕ) (s : Sibling) (l : List Sibling) → nth_sibling (suc n) (s ∷ l) ≡ nth_sibling n l
-nth_suc n s l =
-    let some : (suc n == 0) ≡ false = grind (arith, nat_tests) in
-    let less : suc n - 1 ≡ n = omega arith in
-    rw (some, less) refl
+set_after : (xs ys : List Sibling) (t : TreeValue) → shares_set (xs ++ ys) t ≡ shares_set xs (shares_set ys t)
+set_after [] ys t = refl
+set_after (x ∷ xs) ys t = ap (edited x.id (edits.Share x.share)) (set_after xs ys t)
 
-pub nth_none : (n : ℕ) (l : List Sibling) → nth_sibling n l ≡ None → drop n l ≡ []
-nth_none zero [] h = refl
-nth_none (suc n) [] h = refl
-nth_none zero (s ∷ l) h = cc
-nth_none (suc n) (s ∷ l) h = nth_none n l (sym (nth_suc n s l) ∙ h)
-
--- the sibling with a number begins the list from there on
-pub nth_some : (n : ℕ) (l : List Sibling) (s : Sibling) → nth_sibling n l ≡ Some s → (n < length l) × (drop n l ≡ s ∷ drop (suc n) l)
-nth_some n [] s h = cc
-nth_some zero (x ∷ l) s h = let one : x ≡ s = cc in (omega arith, ap (λ y. y ∷ l) one)
-nth_some (suc n) (x ∷ l) s h = let k = nth_some n l s (sym (nth_suc n x l) ∙ h) in (omega (arith, k.0), k.1)
-
-turns : (d : Deal) (id : ConId) (turn n : ℕ) → turn ≤ n → turn_after d id turn ≤ n + 1
-turns d id turn n h = by (is_partner d id) where
-  by : (b : Bool) → cond b (turn + 1) turn ≤ n + 1
-  by true = omega (arith, h)
-  by false = omega (arith, h)
-
--- what is known of a sibling, and of those behind it
-pub record Next (d : Deal) (turn n : ℕ) (l : List Sibling) (s : Sibling) : Type 0 where
-  pub here : drop n l ≡ s ∷ drop (n + 1) l
-  pub inside : n < length l
-  pub fits_here : fits d s turn ≡ true
-  pub ready : IsReady d (turn_after d s.id turn) (n + 1) l
-
-pub next_ready : (d : Deal) (turn n : ℕ) (l : List Sibling) (s : Sibling) → IsReady d turn n l → nth_sibling n l ≡ Some s → Next d turn n l s
-next_ready d turn n l s r h =
-    let k = nth_some n l s h in
-    let same_drop : drop n l ≡ s ∷ drop (n + 1) l = rw add-one k.1 in
-    let all : (fits d s turn && fits_all d (turn_after d s.id turn) (drop (n + 1) l)) ≡ true = ap (fits_all d turn) (sym same_drop) ∙ r.fit in
-    let b = both (fits d s turn) (fits_all d (turn_after d s.id turn) (drop (n + 1) l)) all in
-    record {
-      here = same_drop;
-      inside = k.0;
-      fits_here = b.0;
-      ready = record { small = r.small; few = r.few; within = omega (arith, k.0); turns = turns d s.id turn n r.turns; fit = b.1 };
-    }
+-- the last of some siblings has its share, and then the others
+pub last_set : (n : ℕ) (hand : List Sibling) (d : Sibling) (t new : TreeValue) → n < length hand → new ≡ edited (get_or hand n d).id (edits.Share (get_or hand n d).share) t → shares_set (take n hand) new ≡ shares_set (take (n + 1) hand) t
+last_set n hand d t new within e = ap (shares_set (take n hand)) e ∙ sym (ap (λ l. shares_set l t) (take_more hand n d within) ∙ set_after (take n hand) (get_or hand n d ∷ []) t)
 
 at_least : (m n : ℕ) → nat_le m n ≡ true → m ≤ n
 at_least m n h = grind (arith, nat_tests)
 
 -- ---- at the first sibling
 
-siblings_length : (row : Forest) → length (siblings row) ≡ row_length row
+pub siblings_length : (row : Forest) → length (siblings row) ≡ row_length row
 siblings_length end = refl
 siblings_length (con part kids floats rest) = let e = siblings_length rest in omega (arith, e)
 
@@ -76,12 +44,10 @@ or_none true b h = cc
 or_none false true h = refl
 or_none false false h = cc
 
-pub first_ready : (g : Growth) (n : ℕ) (d : Deal) (row : Forest) → cannot g n d row ≡ false → d.amount ≤ 2305843009213693952 → row_length row ≤ 256 → IsReady d 0 0 (siblings row)
+pub first_ready : (g : Growth) (n : ℕ) (d : Deal) (row : Forest) → cannot g n d row ≡ false → d.amount ≤ 2305843009213693952 → row_length row ≤ 256 → IsReady d (siblings row)
 first_ready g n d row h small few = record {
   small = small;
   few = omega (arith, siblings_length row, few);
-  within = omega arith;
-  turns = omega arith;
   fit = or_none (g.ppt == 0 && n == 0) (fits_all d 0 (siblings row)) h;
 }
 

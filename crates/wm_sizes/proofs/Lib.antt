@@ -1,9 +1,11 @@
 pub mod AllGapLemmas
 pub mod AnewLemmas
 pub mod BoolLemmas
+pub mod ChangeLemmas
 pub mod FamilyLemmas
 pub mod GapLemmas
 pub mod HandLemmas
+pub mod LengthLemmas
 pub mod RiseLemmas
 pub mod SetLemmas
 pub mod ShareLaws

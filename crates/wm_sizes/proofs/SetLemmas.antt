@@ -1,6 +1,5 @@
 -- Other shares of tiled containers keep a tree sound.
-use Rattle.std.proofs.Common.{◌≡◌, ℕ, ◌+◌, ◌≤◌, Bool, true, false, cond, ◌||◌, List, [], ◌∷◌, refl, ap, sym, ◌∙◌, subst}
-use Rattle.std.specs.Prelude.{drop}
+use Rattle.std.proofs.Common.{◌≡◌, ℕ, ◌≤◌, Bool, true, false, cond, ◌||◌, List, [], ◌∷◌, refl, ap, sym, ◌∙◌, subst}
 use Rattle.wm_base.specs.declared.ids.ConId.{ConId}
 use Rattle.wm_shared.proofs.KidLemmas.{kid_of, spot_tiled, tiled_in}
 use Rattle.wm_sizes.proofs.BoolLemmas.{both}
@@ -23,7 +22,6 @@ use Rattle.wm_tree.specs.Sound.{IsSound}
 use Rattle.wm_forest.specs.SoundRow.{roots}
 use Rattle.wm_forest.specs.Spot.{spot_in, top}
 use Rattle.wm_tree.specs.TreeValue.{TreeValue}
-use Rattle.wm_tree.specs.Words.{edited}
 
 -- ---- where nodes stand
 
@@ -82,12 +80,5 @@ pub family_tiled : (r : Rung) (t : TreeValue) → IsSound t → HasFamily r t.no
 family_tiled r t s h = row_tiled t.nodes (children_of r.parent t) (λ i k. (kid_of r.parent i roots false 0 t.nodes s.shaped s.once (ap (in_row i) h.tiled ∙ k)).1)
 
 -- the tree after a deal of the children of the rung's parent
-pub anew_sound : (d : Deal) (r : Rung) (t new : TreeValue) → IsSound t → HasFamily r t.nodes → IsReady d 0 0 (siblings (children_of r.parent t)) → new ≡ shares_set (dealt d 0 (siblings (children_of r.parent t))) t → IsSound new
+pub anew_sound : (d : Deal) (r : Rung) (t new : TreeValue) → IsSound t → HasFamily r t.nodes → IsReady d (siblings (children_of r.parent t)) → new ≡ shares_set (dealt d 0 (siblings (children_of r.parent t))) t → IsSound new
 anew_sound d r t new s h ready e = subst IsSound (sym e) (set_sound d 0 (siblings (children_of r.parent t)) t ready.fit (family_tiled r t s h) s)
-
--- one more child has its share
-pub hand_step : (d : Deal) (turn n : ℕ) (l : List Sibling) (s : Sibling) (old mid new : TreeValue) (share next : ℕ) → drop n l ≡ s ∷ drop (n + 1) l → share ≡ share_after d s turn → next ≡ turn_after d s.id turn
-    → mid ≡ shares_set (dealt d next (drop (n + 1) l)) old → new ≡ edited s.id (edits.Share share) mid → new ≡ shares_set (dealt d turn (drop n l)) old
-hand_step d turn n l s old mid new share next cut e h m k =
-    k ∙ (ap (edited s.id (edits.Share share)) m ∙ (ap (λ x. edited s.id (edits.Share x) (shares_set (dealt d next (drop (n + 1) l)) old)) e
-    ∙ (ap (λ x. edited s.id (edits.Share (share_after d s turn)) (shares_set (dealt d x (drop (n + 1) l)) old)) h ∙ ap (λ x. shares_set (dealt d turn x) old) (sym cut))))

@@ -1,5 +1,5 @@
 -- What the children of a container give to one of them, and what it gives to them, as plain numbers.
-use Rattle.std.specs.Prelude.{ℕ, ◌+◌, ◌-◌, ◌*◌, ◌/◌, ◌%◌, ◌==◌, nat_lt, nat_le, Bool, true, false, ◌&&◌, ◌||◌, not, if◌then◌else◌, List, [], ◌∷◌, Option, None, Some}
+use Rattle.std.specs.Prelude.{ℕ, ◌+◌, ◌-◌, ◌*◌, ◌/◌, ◌%◌, ◌==◌, nat_lt, nat_le, Bool, true, false, ◌&&◌, ◌||◌, not, if◌then◌else◌, List, [], ◌∷◌, ◌++◌, Option, None, Some}
 use Rattle.wm_base.specs.declared.ids.ConId.{ConId}
 use Rattle.wm_sizes.specs.declared.deals.Deal.{Deal}
 use Rattle.wm_sizes.specs.declared.deals.Sibling.{Sibling}
@@ -56,6 +56,15 @@ fits_all d turn (child ∷ children) = fits d child turn && fits_all d (turn_aft
 abbrev pub dealt : Deal → ℕ → List Sibling → List Sibling
 dealt d turn [] = []
 dealt d turn (child ∷ children) = record { id = child.id; share = share_after d child turn } ∷ dealt d (turn_after d child.id turn) children
+
+-- the child with its share after the deal, where that is another one
+abbrev pub change : Deal → ℕ → Sibling → List Sibling
+change d turn child = if share_after d child turn == child.share then [] else record { id = child.id; share = share_after d child turn } ∷ []
+
+-- the children whose shares change
+abbrev pub changes : Deal → ℕ → List Sibling → List Sibling
+changes d turn [] = []
+changes d turn (child ∷ children) = change d turn child ++ changes d (turn_after d child.id turn) children
 
 -- the nodes of a row with their shares
 abbrev pub siblings : Forest → List Sibling

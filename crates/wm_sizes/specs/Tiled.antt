@@ -1,5 +1,5 @@
 -- Sizes of tiled containers: the children of a node give shares to each other.
-use Rattle.std.specs.Prelude.{◌≡◌, ℕ, ◌-◌, ◌/◌, ◌≤◌, ◌==◌, Bool, true, false, ◌&&◌, ◌||◌, not, if◌then◌else◌, List, [], ◌∷◌, drop, length, Option, None, Some, is_none}
+use Rattle.std.specs.Prelude.{◌≡◌, ℕ, ◌-◌, ◌/◌, ◌≤◌, ◌==◌, Bool, true, false, ◌&&◌, ◌||◌, not, List, [], ◌∷◌, length, Option, None, Some, is_none}
 use Rattle.wm_arrange.specs.AreaOf.{area_of}
 use Rattle.wm_arrange.specs.Areas.{side_of}
 use Rattle.wm_base.specs.declared.errors.ErrorText.TheVariants as texts
@@ -113,14 +113,8 @@ pub record HasFamily (r : Rung) (f : Forest) : Type 0 where
   pub node : in_row r.node (first_kids (only r.parent f)) ≡ true
   pub two : has_two (first_kids (only r.parent f)) ≡ true
 
-abbrev pub nth_sibling : ℕ → List Sibling → Option Sibling
-nth_sibling n [] = None
-nth_sibling n (s ∷ siblings) = if n == 0 then Some s else nth_sibling (n - 1) siblings
-
--- the siblings from one on fit, with so many partners before it
-pub record IsReady (deal : Deal) (turn number : ℕ) (siblings : List Sibling) : Type 0 where
+-- at most as many siblings as a node has, all of which have such shares after the deal as they may
+pub record IsReady (deal : Deal) (siblings : List Sibling) : Type 0 where
   pub small : deal.amount ≤ 2305843009213693952
   pub few : length siblings ≤ 256
-  pub within : number ≤ length siblings
-  pub turns : turn ≤ number
-  pub fit : fits_all deal turn (drop number siblings) ≡ true
+  pub fit : fits_all deal 0 siblings ≡ true

@@ -1,5 +1,5 @@
 //! Sizes of floating windows.
-ghost use Rattle.std.specs.Prelude.{◌≡◌, ◌+ℤ◌, ◌-ℤ◌, pos, nat_abs, true};
+ghost use Rattle.std.specs.Prelude.{◌≡◌, ◌+ℤ◌, ◌-ℤ◌, pos, nat_abs, true, None, Some, OnOk, IfErr};
 ghost use Rattle.wm_floats.specs.Places.{is_in_range};
 ghost use Rattle.wm_sizes.specs.Floating.{IsStep, as_rect, fits, grow_refusal, grow_tree, grown, has_place, has_sides, is_side, is_size, resize_set_refusal, resize_set_tree, step};
 ghost use Rattle.wm_shared.specs.Does.{DoesExactly};
@@ -9,16 +9,11 @@ ghost use Rattle.wm_tree.specs.Sound.{IsSound};
 use crate::windows::put_rect;
 use wm_base::{ConId, Dir, ErrorText, Rect, Refusal};
 use wm_language::Side;
-use wm_shared::{is_hidden, is_space, rect_of};
+use wm_shared::{is_in_range, on_workspace, rect_of};
 use wm_tree::Tree;
 
 /// How long a side of a window is at most, in pixels.
 const LONGEST: u32 = 16_384;
-
-/// The least and the greatest number of a place.
-const LEAST: i64 = -131_072;
-
-const GREATEST: i64 = 131_071;
 
 /// A place and sides in pixels, which may be those of no window.
 #[derive(Clone, Copy, Debug, PartialEq, Eq)]
@@ -37,22 +32,18 @@ fn is_size(n: u32) -> bool
 }
 
 /// Why the floating window does not get this outer size.
-fn size_refusal(t: &Tree, con: ConId, w: u32, h: u32) -> Option<Refusal>
-    ensures { result ≡ resize_set_refusal con w h t.now }
+fn size_refusal(t: &Tree, con: ConId, w: u32, h: u32) -> Result<(), Refusal>
+    requires { IsSubject t.now con }
+    ensures fine { OnOk result (resize_set_refusal con w h t.now ≡ None) }
+    ensures cause { IfErr result (λ e. resize_set_refusal con w h t.now ≡ Some e) }
 {
-    if is_hidden(t, con) {
-        return Some(Refusal::NoTarget(ErrorText::NoWorkspace));
-    }
-    if is_space(t, con) {
-        return Some(Refusal::NoTarget(ErrorText::AtWorkspace));
-    }
-    if t.is_tiled(con) {
-        return Some(Refusal::NoTarget(ErrorText::NotFloating));
+    if on_workspace(t, con)?.tiled {
+        return Err(Refusal::NoTarget(ErrorText::NotFloating));
     }
     if !(is_size(w) && is_size(h)) {
-        return Some(Refusal::NoTarget(ErrorText::OutOfRange));
+        return Err(Refusal::NoTarget(ErrorText::OutOfRange));
     }
-    None
+    Ok(())
 }
 
 /// Gives the floating window this outer size, in pixels. Its place stays.
@@ -61,9 +52,7 @@ pub fn resize_set(t: &mut Tree, con: ConId, w: u32, h: u32) -> Result<(), Refusa
     ensures { DoesExactly t.old t.new result (resize_set_refusal con w h)
         (resize_set_tree con w h) }
 {
-    if let Some(error) = size_refusal(t, con, w, h) {
-        return Err(error);
-    }
+    size_refusal(t, con, w, h)?;
     let Rect { x, y, .. } = rect_of(t, con);
     put_rect(t, con, Rect { x, y, w, h });
     Ok(())
@@ -125,13 +114,6 @@ fn is_side(n: i64) -> bool
     ensures { result ≡ is_side n }
 {
     1 <= n && n <= i64::from(LONGEST)
-}
-
-/// Whether a place may have this number.
-fn is_in_range(n: i64) -> bool
-    ensures { result ≡ is_in_range n }
-{
-    LEAST <= n && n <= GREATEST
 }
 
 fn has_sides(frame: Frame) -> bool

@@ -1,5 +1,5 @@
 //! Gaps of workspaces.
-ghost use Rattle.std.specs.Prelude.{◌≡◌, ◌<◌, true, slice_get, length, OnSome, OnOk};
+ghost use Rattle.std.specs.Prelude.{◌≡◌, true, OnOk};
 ghost use Rattle.wm_language.specs.declared.arguments.GapOp.{GapOp};
 ghost use Rattle.wm_shared.specs.Does.{DoesExactly};
 ghost use Rattle.wm_shared.specs.Subject.{IsSubject};
@@ -56,21 +56,14 @@ fn change_space(t: &mut Tree, w: ConId, change: Change)
     }
 }
 
-/// The id with this number, from 0, in the order of recency.
-fn recent(t: &Tree, number: usize) -> Option<ConId>
-    ensures value { result ≡ slice_get t.now.recency number }
-    ensures within { OnSome result ((number < length t.now.recency) × (number < usize.MAX)) }
-{
-    t.recent_ids().get(number).copied()
-}
-
 /// Changes the gap of each workspace.
 fn change_each(t: &mut Tree, change: Change)
+    requires { IsSound t.old }
     ensures tree { t.new ≡ each_gapped change t.old.recency t.old }
-    ensures sound { IsSound t.old → IsSound t.new }
+    ensures sound { IsSound t.new }
 {
     let mut i = 0;
-    while let Some(w) = recent(t, i) {
+    while let Some(w) = t.recent(i) {
         change_space(t, w, change);
         i += 1;
     }
@@ -88,9 +81,10 @@ fn change_default(t: &mut Tree, change: Change)
 
 /// Changes the gap of all workspaces and of new ones.
 fn change_all(t: &mut Tree, change: Change)
+    requires { IsSound t.old }
     ensures tree { t.new ≡ all_gapped change t.old }
-    ensures sound { IsSound t.old → IsSound t.new }
-    ensures each { IsSound t.old → AllGapped change t.old t.new }
+    ensures sound { IsSound t.new }
+    ensures each { AllGapped change t.old t.new }
 {
     change_each(t, change);
     change_default(t, change);

@@ -6,6 +6,7 @@ mod climbing;
 mod deals;
 mod floating;
 mod gaps;
+mod handing;
 mod resizing;
 mod tiled;
 mod titles;

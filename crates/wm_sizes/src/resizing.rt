@@ -9,9 +9,9 @@ ghost use Rattle.wm_tree.specs.TreeValue.{is_tiled_con};
 
 use crate::floating::grow_floating;
 use crate::tiled::{Growth, grow_tiled};
-use wm_base::{ConId, ErrorText, Refusal};
+use wm_base::{ConId, Refusal};
 use wm_language::Side;
-use wm_shared::{is_hidden, is_space};
+use wm_shared::on_workspace;
 use wm_tree::Tree;
 
 /// Lets a container grow or shrink at a side. A floating window does so by `px` pixels. A tiled one, or the nearest node
@@ -34,13 +34,7 @@ pub fn resize(
     ensures shares { is_tiled_con t.old con ≡ true →
         OnOk result (IsSharedAnew (record { grow = grow; side = side; px = px; ppt = ppt }) (rung_of (side_axis side) con t.old) t.old t.new) }
 {
-    if is_hidden(t, con) {
-        return Err(Refusal::NoTarget(ErrorText::NoWorkspace));
-    }
-    if is_space(t, con) {
-        return Err(Refusal::NoTarget(ErrorText::AtWorkspace));
-    }
-    if t.is_tiled(con) {
+    if on_workspace(t, con)?.tiled {
         let growth = Growth {
             grow,
             side,

@@ -1,17 +1,16 @@
 //! Sizes of tiled containers: the children of a node give shares to each other.
-ghost use Rattle.std.specs.Prelude.{◌≡◌, ◌≤◌, ◌-◌, true, Some, OnOk, MatchOption, drop, length};
+ghost use Rattle.std.specs.Prelude.{◌≡◌, ◌≤◌, Some, OnOk};
 ghost use Rattle.wm_arrange.specs.Areas.{side_of};
-ghost use Rattle.wm_sizes.specs.Deals.{dealt, fits_all, siblings};
 ghost use Rattle.wm_sizes.specs.Climbing.{rung_of, side_axis};
 ghost use Rattle.wm_sizes.specs.Laws.{IsSharedAnew, SharesAnew};
-ghost use Rattle.wm_sizes.specs.Tiled.{IsFamily, IsReady, HasFamily, cannot, children_of, deal_of, lacks, length_of, nth_sibling, partner_of, partners_of, rung_refusal, rung_tree, shares_set, tiled_refusal, tiled_tree};
+ghost use Rattle.wm_sizes.specs.Tiled.{IsFamily, HasFamily, cannot, deal_of, lacks, length_of, partner_of, partners_of, rung_refusal, rung_tree, tiled_refusal, tiled_tree};
 ghost use Rattle.wm_forest.specs.Counts.{row_length};
-ghost use Rattle.wm_forest.specs.Look.{has, first_kids, only};
 ghost use Rattle.wm_shared.specs.Does.{DoesExactly};
 ghost use Rattle.wm_tree.specs.Sound.{IsSound};
 
 use crate::climbing::{Rung, kids_in, rung_of, side_axis};
-use crate::deals::{Deal, Sibling, amount};
+use crate::deals::{Deal, amount};
+use crate::handing::hand_out;
 use wm_arrange::area_of;
 use wm_base::{Axis, ConId, ErrorText, Rect, Refusal};
 use wm_language::Side;
@@ -120,45 +119,6 @@ fn cannot(growth: Growth, length: u32, deal: Deal, row: Cursor<'_>) -> bool
     growth.ppt == 0 && length == 0 || !deal.fits_all(row, 0)
 }
 
-/// The row's node with this number, from 0, and its share.
-fn nth_sibling(mut row: Cursor<'_>, mut number: u32) -> Option<Sibling>
-    ensures { result ≡ nth_sibling number (siblings row.entry) }
-{
-    while let Some(part) = row.part() {
-        if number == 0 {
-            return Some(Sibling {
-                id: part.id,
-                share: part.kind.share(),
-            });
-        }
-        number -= 1;
-        row = row.rest();
-    }
-    None
-}
-
-/// The child with this number, from 0, and its share.
-fn child_at(t: &Tree, parent: ConId, number: u32) -> Option<Sibling>
-    ensures { result ≡ nth_sibling number (siblings (children_of parent t.now)) }
-{
-    nth_sibling(kids_in(t.nodes(), parent)?, number)
-}
-
-/// Gives the children, from the one with this number on, their shares after the deal. All shares are read before the
-/// first one is set.
-fn hand_out(t: &mut Tree, parent: ConId, deal: Deal, number: u32, turn: u64)
-    requires { IsReady deal turn number (siblings (children_of parent t.old)) }
-    ensures { t.new ≡ shares_set (dealt deal turn (drop number (siblings (children_of parent t.old)))) t.old }
-{
-    let Some(child) = child_at(t, parent, number) else {
-        return;
-    };
-    let share = deal.share_after(child, turn);
-    let next = deal.turn_after(child.id, turn);
-    hand_out(t, parent, deal, number + 1, next);
-    t.set_share(child.id, share as u32);
-}
-
 /// Lets the children of the rung's parent share anew.
 fn share_anew(t: &mut Tree, rung: Rung, growth: Growth) -> Result<(), Refusal>
     requires sound { IsSound t.old }
@@ -178,7 +138,7 @@ fn share_anew(t: &mut Tree, rung: Rung, growth: Growth) -> Result<(), Refusal>
     if cannot(growth, length, deal, row) {
         return Err(Refusal::NoTarget(ErrorText::CannotResize));
     }
-    hand_out(t, rung.parent, deal, 0, 0);
+    hand_out(t, rung.parent, deal);
     Ok(())
 }
 

@@ -1,12 +1,11 @@
 //! Windows as subjects of commands on their looks: their state, and who is none.
 ghost use Rattle.std.specs.Prelude.{◌≡◌};
-ghost use Rattle.wm_floats.specs.Windows.{natural_by, natural_of, rect_set, state_of};
+ghost use Rattle.wm_floats.specs.Windows.{natural_by, rect_set, state_of};
 ghost use Rattle.wm_sizes.specs.Windows.{border_set, look_refusal};
 ghost use Rattle.wm_tree.specs.Sound.{IsSound};
 
 use wm_base::{Border, ConId, ErrorText, Rect, Refusal, Size};
-use wm_shared::is_space;
-use wm_tree::{ConKind, ConState, Tree};
+use wm_tree::{ConKind, ConState, Placed, Standing, Tree};
 
 /// The natural size of a window. `None` exactly where it is a split or a placeholder.
 fn natural_by(kind: &ConKind) -> Option<Size>
@@ -18,23 +17,19 @@ fn natural_by(kind: &ConKind) -> Option<Size>
     }
 }
 
-fn natural_of(t: &Tree, con: ConId) -> Option<Size>
-    ensures { result ≡ natural_of con t.now }
-{
-    natural_by(&t.container(con)?.kind)
-}
-
 /// Why a command on the look of windows is not done to this one, which may be in the scratchpad.
 pub(crate) fn look_refusal(t: &Tree, con: ConId) -> Option<Refusal>
     ensures { result ≡ look_refusal con t.now }
 {
-    if is_space(t, con) {
-        return Some(Refusal::NoTarget(ErrorText::AtWorkspace));
+    let part = match t.standing(con) {
+        Some(Standing::Placed(Placed { part, .. }) | Standing::Away(part, _)) => part,
+        Some(Standing::Space(_)) => return Some(Refusal::NoTarget(ErrorText::AtWorkspace)),
+        Some(Standing::Above) | None => return Some(Refusal::NoTarget(ErrorText::NotWindow)),
+    };
+    match natural_by(&part.kind) {
+        Some(_) => None,
+        None => Some(Refusal::NoTarget(ErrorText::NotWindow)),
     }
-    if natural_of(t, con).is_none() {
-        return Some(Refusal::NoTarget(ErrorText::NotWindow));
-    }
-    None
 }
 
 /// The state of a container.

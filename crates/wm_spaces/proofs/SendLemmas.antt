@@ -13,7 +13,7 @@ use Rattle.wm_shared.proofs.StandingLemmas.{stands_space}
 use Rattle.wm_spaces.specs.Sending.{sent_place, sent_refusal, shifted}
 use Rattle.wm_shared.specs.Rects.{output_part_of, rect_of}
 use Rattle.wm_tree.proofs.AlongLemmas.{space_there}
-use Rattle.wm_forest.proofs.ForestLemmas.{first_held_end, only_absent}
+use Rattle.wm_forest.proofs.ForestLemmas.{first_held_end}
 use Rattle.wm_tree.proofs.LeafLaws.{first_there}
 use Rattle.wm_forest.proofs.OnceLemmas.{in_kids, in_rest}
 use Rattle.wm_tree.proofs.PlaceLemmas.{after_fits}

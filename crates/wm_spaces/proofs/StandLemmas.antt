@@ -1,16 +1,15 @@
 -- What stands on an output is a workspace, and so is what a command names.
-use Rattle.std.proofs.Common.{◌≡◌, ◌≢◌, ℕ, ◌≤◌, Bool, true, false, cond, ◌||◌, ◌⊎◌, inl, inr, ⊎_elim, List, Option, None, Some, refl, ap, sym, ◌∙◌, subst, arith}
-use Rattle.std.specs.Prelude.{Err, IfOk, Ok, Result, is_some, not, option_and_then}
+use Rattle.std.proofs.Common.{◌≡◌, ℕ, ◌≤◌, Bool, true, false, cond, ◌||◌, ◌⊎◌, inl, inr, ⊎_elim, List, Option, None, Some, refl, ap, sym, ◌∙◌, subst, arith}
+use Rattle.std.specs.Prelude.{Err, IfOk, Ok, Result, not, option_and_then}
 use Rattle.std.specs.Option.{option_or}
 use Rattle.wm_base.specs.declared.errors.ErrorText.TheVariants as texts
 use Rattle.wm_base.specs.declared.ids.ConId.{ConId}
 use Rattle.wm_language.specs.declared.arguments.Target.{Target}
 use Rattle.wm_language.specs.declared.arguments.Target.TheVariants as targets
 use Rattle.wm_shared.specs.declared.keys.Key.{Key}
-use Rattle.wm_shared.proofs.StandingLemmas.{either, of_output, shown_stands, stands_has, stands_on, stands_space}
+use Rattle.wm_shared.proofs.StandingLemmas.{either, of_output, shown_stands, stands_on, stands_space}
 use Rattle.wm_shared.specs.Keys.{comes_before}
 use Rattle.wm_shared.specs.Showing.{shown_on}
-use Rattle.wm_shared.specs.Subject.{is_space}
 use Rattle.wm_spaces.specs.declared.order.Pick.{Pick}
 use Rattle.wm_spaces.specs.declared.order.Pick.TheVariants as picking
 use Rattle.wm_spaces.specs.declared.targets.Goal.{Goal}
@@ -22,7 +21,7 @@ use Rattle.wm_spaces.proofs.ComingLemmas.{named_output}
 use Rattle.wm_spaces.proofs.OrderLemmas.{best_step}
 use Rattle.wm_tree.proofs.AttachLemmas.{has_row}
 use Rattle.wm_tree.proofs.FocusLemmas.{current_there, outputs_of}
-use Rattle.wm_forest.proofs.OnceLemmas.{at_kids, in_kids, in_rest, only_kids, only_rest}
+use Rattle.wm_forest.proofs.OnceLemmas.{at_kids, only_kids}
 use Rattle.wm_tree.proofs.OutputRows.{by_row, in_row-last}
 use Rattle.wm_forest.proofs.RecencyLemmas.{same_self}
 use Rattle.wm_forest.specs.declared.part.NodeKind.{NodeKind}
@@ -32,12 +31,11 @@ use Rattle.wm_forest.specs.declared.part.SpacePart.{SpacePart}
 use Rattle.wm_forest.specs.declared.place.Place.TheVariants.{Last}
 use Rattle.wm_forest.specs.Change.{at, shown_of}
 use Rattle.wm_forest.specs.Forest.{Forest, end, con}
-use Rattle.wm_forest.specs.Look.{first_kids, first_part, has, in_row, kind_by, node_in, only, same, space_kind}
+use Rattle.wm_forest.specs.Look.{first_kids, first_part, in_row, kind_by, only, same, space_kind}
 use Rattle.wm_tree.specs.Outputs.{IsOutput, new_space, with_space}
 use Rattle.wm_forest.specs.Place.{put, put_word}
-use Rattle.wm_forest.specs.SoundRow.{IsNode, IsSoundRow, outputs, roots, spaces, tally}
+use Rattle.wm_forest.specs.SoundRow.{IsNode, IsSoundRow, outputs, roots, tally}
 use Rattle.wm_tree.specs.Sound.{IsSound}
-use Rattle.wm_forest.specs.Spot.{room_below}
 use Rattle.wm_tree.specs.TreeValue.{TreeValue, current, or_id, shown}
 use Rattle.wm_forest.specs.RootId.{id}
 

@@ -32,14 +32,19 @@ fn is_digit(b: u8) -> bool
 fn number_on(n: u64, bytes: &[u8]) -> Option<u64>
     ensures { result ≡ small (number_on n bytes.now) }
 {
-    if n > MAX_NUM {
-        return None;
+    let mut number = n;
+    let mut rest = bytes;
+    while let [first, after @ ..] = rest
+        && is_digit(*first)
+        && number <= MAX_NUM
+    {
+        number = number * 10 + u64::from(*first - b'0');
+        rest = after;
     }
-    match bytes {
-        [first, rest @ ..] if is_digit(*first) => {
-            number_on(n * 10 + u64::from(*first - b'0'), rest)
-        }
-        _ => Some(n),
+    if number <= MAX_NUM {
+        Some(number)
+    } else {
+        None
     }
 }
 

@@ -1,9 +1,9 @@
 //! Sending containers to other workspaces.
-ghost use Rattle.std.specs.Prelude.{◌≡◌, ◌≢◌, ◌+ℤ◌, ◌-ℤ◌, None, true};
+ghost use Rattle.std.specs.Prelude.{◌≡◌, ◌≢◌, ◌+ℤ◌, ◌-ℤ◌, None, false, true};
 ghost use Rattle.std.specs.Option.{option_copied};
 ghost use Rattle.wm_shared.specs.Does.{Does, DoesExactly};
 ghost use Rattle.wm_shared.specs.Showing.{shown_on};
-ghost use Rattle.wm_shared.specs.Subject.{IsSubject, is_space};
+ghost use Rattle.wm_shared.specs.Subject.{IsSubject, is_hidden, is_space};
 ghost use Rattle.wm_spaces.specs.Sending.{send_to_output_refusal, send_to_output_tree, send_to_refusal, send_to_tree, sent, sent_new, sent_new_refusal, sent_place, sent_refusal, shifted};
 ghost use Rattle.wm_shared.specs.Rects.{held, output_part_of, rect_of};
 ghost use Rattle.wm_forest.specs.Look.{con_kind, kind_of};
@@ -15,7 +15,7 @@ use crate::targets::{Goal, find_goal, home};
 use std::mem;
 use wm_base::{ConId, ErrorText, Rect, Refusal, Text};
 use wm_language::Target;
-use wm_shared::{held, is_hidden, is_space, output_part_of, rect_of, refused, shown_on};
+use wm_shared::{held, is_space, on_workspace, output_part_of, rect_of, refused, shown_on};
 use wm_tree::{OutputPart, Place, Tree};
 
 /// How far it is from one number to another.
@@ -103,12 +103,19 @@ pub fn send_to_output(t: &mut Tree, con: ConId, output: ConId) -> Result<(), Ref
     ensures { DoesExactly t.old t.new result (send_to_output_refusal con output)
         (send_to_output_tree con output) }
 {
-    if is_hidden(t, con) {
-        return Err(Refusal::NoTarget(ErrorText::NoWorkspace));
-    }
-    if is_space(t, con) {
-        return Err(Refusal::NoTarget(ErrorText::AtWorkspace));
-    }
+    on_workspace(t, con)?;
+    send_shown(t, con, output)
+}
+
+/// Sends a container on a workspace to the workspace that the output shows.
+pub fn send_shown(t: &mut Tree, con: ConId, output: ConId) -> Result<(), Refusal>
+    requires subject { IsSubject t.old con }
+    requires seen { is_hidden t.old con ≡ false }
+    requires other { is_space t.old con ≡ false }
+    requires output { IsOutput output t.old.nodes }
+    ensures { DoesExactly t.old t.new result (send_to_output_refusal con output)
+        (send_to_output_tree con output) }
+{
     match shown_on(t, output) {
         Some(w) => send(t, con, w),
         None => Ok(()),

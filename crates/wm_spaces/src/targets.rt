@@ -26,16 +26,14 @@ pub enum Goal {
 fn home_name<'a>(homes: &'a [(Text, Text)], name: &str) -> Option<&'a Text>
     ensures { option_copied result ≡ home_name name.now homes.now }
 {
-    match homes {
-        [first, rest @ ..] => {
-            if first.0.as_str() == name {
-                Some(&first.1)
-            } else {
-                home_name(rest, name)
-            }
+    let mut rest = homes;
+    while let [first, after @ ..] = rest {
+        if first.0.as_str() == name {
+            return Some(&first.1);
         }
-        [] => None,
+        rest = after;
     }
+    None
 }
 
 /// The output that the homes give a name, if it is there, else the current one.

@@ -3,7 +3,7 @@ use Rattle.std.proofs.Common.{◌≡◌, ℕ, ◌+◌, ◌≤◌, Bool, true, fa
 use Rattle.std.proofs.lemmas.Bool.Decides.{nat_tests}
 use Rattle.wm_base.specs.declared.ids.ConId.{ConId}
 use Rattle.wm_focus.specs.Marks.{bears, cleared, give_refusal, given_mark, is_marked, taken_off, with_mark}
-use Rattle.wm_focus.proofs.MarkForests.{marks_off, marks_same, marks_set, off_marks, has_off, has_marks}
+use Rattle.wm_tree.proofs.MarkForests.{marks_off, marks_same, marks_set, off_marks, has_off, has_marks}
 use Rattle.wm_forest.specs.Change.{at}
 use Rattle.wm_forest.specs.Counts.{mark_count}
 use Rattle.wm_forest.specs.Forest.{Forest}

@@ -15,9 +15,8 @@ ghost use Rattle.wm_saved.specs.Limits.{is_fit};
 
 use crate::limits::check;
 use std::alloc::Global;
-use wm_base::{Border, ConId, NoMemory, Props, Refusal, Text};
+use wm_base::{Border, ConId, NoMemory, Props, Refusal, Text, short_text};
 use wm_focus::mark;
-use wm_forest::short_text;
 use wm_saved::{SavedKind, SavedLayout, SavedNode};
 use wm_tree::{ConState, NewCon, Place, Tree, TreeRefusal};
 
@@ -34,12 +33,13 @@ fn attach_all(
     ensures tree { OnOk result (tree.new ≡ appended parent (rows nodes.now) tree.old) }
     ensures sound { IsSound tree.new }
 {
-    let [node, rest @ ..] = nodes else {
-        return Ok(());
-    };
-    let con = attach_one(alloc, tree, parent, node)?;
-    attach_below(alloc, tree, con, &node.kind)?;
-    attach_all(alloc, tree, parent, rest)
+    let mut rest = nodes;
+    while let [node, after @ ..] = rest {
+        let con = attach_one(alloc, tree, parent, node)?;
+        attach_below(alloc, tree, con, &node.kind)?;
+        rest = after;
+    }
+    Ok(())
 }
 
 /// Puts what is below a saved container into the one that came for it.

@@ -35,14 +35,12 @@ impl<'a> Behind<'a> {
 fn has_mark(nodes: &[SavedNode], mark: &Text) -> bool
     ensures { result ≡ bears mark.now (all_marks (rows nodes.now)) }
 {
-    match nodes {
-        [] => false,
-        [node, rest @ ..] => {
-            bears(node.marks.items(), mark)
-                || has_mark_below(&node.kind, mark)
-                || has_mark(rest, mark)
+    for node in nodes {
+        if bears(node.marks.items(), mark) || has_mark_below(&node.kind, mark) {
+            return true;
         }
     }
+    false
 }
 
 /// Whether a container below one of this kind has the mark.
@@ -67,31 +65,22 @@ pub(crate) fn room_after_marks(
 ) -> Option<usize>
     ensures { IsRoomLeft (is_held tree.now.nodes) (all_marks (rows nodes.now)) (behind_marks behind.now) room result }
 {
-    match nodes {
-        [] => Some(room),
-        [node, rest @ ..] => room_after_first(tree, node, rest, &*behind, room),
+    let mut left = room;
+    let mut rest = nodes;
+    while let [node, after @ ..] = rest {
+        left = room_after_node(tree, node, &Behind::Row(after, &*behind), left)?;
+        rest = after;
     }
+    Some(left)
 }
 
-/// The same of a container and those behind it.
+/// The same of one container and those below it.
 #[cycle(fill)]
-fn room_after_first(
-    tree: &Tree,
-    node: &SavedNode,
-    rest: &[SavedNode],
-    behind: &Behind<'_>,
-    room: usize,
-) -> Option<usize>
-    ensures { IsRoomLeft (is_held tree.now.nodes) (node.now.marks ++ (all_marks (row_below node.now.kind) ++ all_marks (rows rest.now))) (behind_marks behind.now) room result }
+fn room_after_node(tree: &Tree, node: &SavedNode, behind: &Behind<'_>, room: usize) -> Option<usize>
+    ensures { IsRoomLeft (is_held tree.now.nodes) (node.now.marks ++ all_marks (row_below node.now.kind)) (behind_marks behind.now) room result }
 {
-    let after = Behind::Row(rest, &*behind);
-    let Some(room) = room_after_own(tree, node.marks.items(), &node.kind, &after, room) else {
-        return None;
-    };
-    let Some(room) = room_after_below(tree, &node.kind, &after, room) else {
-        return None;
-    };
-    room_after_marks(tree, rest, &*behind, room)
+    let left = room_after_own(tree, node.marks.items(), &node.kind, &*behind, room)?;
+    room_after_below(tree, &node.kind, &*behind, left)
 }
 
 /// The same of the containers below one of this kind.

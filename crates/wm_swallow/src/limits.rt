@@ -112,12 +112,11 @@ fn room_beside_one(kind: &NodeKind, room: usize) -> Option<usize>
 fn room_after(nodes: &[SavedNode], room: usize) -> Option<usize>
     ensures { MatchOption result (room < size (rows nodes.now)) (λ left. left + size (rows nodes.now) ≡ room) }
 {
-    let [node, rest @ ..] = nodes else {
-        return Some(room);
-    };
-    let room = room.checked_sub(1)?;
-    let room = room_after_kind(&node.kind, room)?;
-    room_after(rest, room)
+    let mut left = room;
+    for node in nodes {
+        left = room_after_kind(&node.kind, left.checked_sub(1)?)?;
+    }
+    Some(left)
 }
 
 /// How much of the room is left after the containers below one of this kind.

@@ -18,10 +18,12 @@ const MAX_MARKS_OF_ONE: usize = 32;
 pub(crate) fn is_wide(nodes: &[SavedNode]) -> bool
     ensures { result ≡ is_wide (rows nodes.now) }
 {
-    match nodes {
-        [] => false,
-        [node, rest @ ..] => is_wide_kind(&node.kind) || is_wide(rest),
+    for node in nodes {
+        if is_wide_kind(&node.kind) {
+            return true;
+        }
     }
+    false
 }
 
 /// Whether one of this kind, or a container below it, has more children than it may have.
@@ -49,12 +51,12 @@ fn is_wide_row(nodes: &[SavedNode]) -> bool
 pub(crate) fn fits(levels: usize, nodes: &[SavedNode]) -> bool
     ensures { result ≡ fits levels (rows nodes.now) }
 {
-    match nodes {
-        [] => true,
-        [node, rest @ ..] => {
-            levels > 0 && fits_kind(levels - 1, &node.kind) && fits(levels, rest)
+    for node in nodes {
+        if levels == 0 || !fits_kind(levels - 1, &node.kind) {
+            return false;
         }
     }
+    true
 }
 
 /// Whether what is below one of this kind has at most so many levels.
@@ -73,14 +75,12 @@ fn fits_kind(levels: usize, kind: &SavedKind) -> bool
 pub(crate) fn is_overmarked(nodes: &[SavedNode]) -> bool
     ensures { result ≡ is_overmarked (rows nodes.now) }
 {
-    match nodes {
-        [] => false,
-        [node, rest @ ..] => {
-            are_too_many(node.marks.items())
-                || is_overmarked_kind(&node.kind)
-                || is_overmarked(rest)
+    for node in nodes {
+        if are_too_many(node.marks.items()) || is_overmarked_kind(&node.kind) {
+            return true;
         }
     }
+    false
 }
 
 /// Whether a container below one of this kind has more different marks than it may have.

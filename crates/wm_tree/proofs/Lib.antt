@@ -1,11 +1,14 @@
 pub mod AlongLemmas
 pub mod AttachLemmas
+pub mod BearerLemmas
 pub mod ExchangeLaws
 pub mod ExchangeSound
 pub mod FocusLemmas
+pub mod GivingLemmas
 pub mod HoldLaws
 pub mod IdLemmas
 pub mod LeafLaws
+pub mod MarkForests
 pub mod MarkLemmas
 pub mod MoveLemmas
 pub mod OutputLemmas
@@ -17,5 +20,6 @@ pub mod SettledLaws
 pub mod SoundLemmas
 pub mod SpaceLemmas
 pub mod SpaceRows
+pub mod StandingLemmas
 pub mod StartLemmas
 pub mod WrapLemmas

@@ -1,7 +1,6 @@
 -- Other marks of a container keep what holds of every tree.
-use Rattle.std.proofs.Common.{◌≡◌, ℕ, suc, ◌+◌, ◌≤◌, ◌<◌, Bool, true, false, cond, leb, ◌||◌, not, inl, List, [], ◌∷◌, ◌++◌, length, refl, ap, sym, ◌∙◌, subst, arith}
+use Rattle.std.proofs.Common.{◌≡◌, ℕ, ◌+◌, ◌≤◌, ◌<◌, Bool, true, false, leb, ◌||◌, inl, List, [], ◌∷◌, ◌++◌, length, refl, ap, sym, ◌∙◌, subst, arith}
 use Rattle.std.proofs.lemmas.Bool.Decides.{nat_tests}
-use Rattle.std.specs.Str.{bytes_eq}
 use Rattle.wm_base.specs.declared.ids.ConId.{ConId}
 use Rattle.wm_forest.specs.declared.part.Part.{Part}
 use Rattle.wm_forest.specs.declared.part.NodeKind.{NodeKind}
@@ -11,7 +10,7 @@ use Rattle.wm_forest.specs.Forest.{Forest, end, con}
 use Rattle.wm_forest.specs.Change.{at, nobody}
 use Rattle.wm_forest.specs.Counts.{con_of, mark_count, row_with, space_of}
 use Rattle.wm_forest.specs.Look.{first_marks, only}
-use Rattle.wm_tree.specs.Move.{is_full_of_marks, marked, marks_in, unmarked}
+use Rattle.wm_tree.specs.Move.{is_full_of_marks, marked, marks_in, unmarked, with_marks}
 use Rattle.wm_forest.specs.Marks.{marks_word, other_marks, unmark_word}
 use Rattle.wm_forest.specs.SoundRow.{Level, roots, outputs, spaces, containers, IsNode, IsSoundRow, one_of, rank_of}
 use Rattle.wm_tree.specs.Sound.{IsSound}
@@ -19,17 +18,10 @@ use Rattle.wm_forest.specs.Spot.{top}
 use Rattle.wm_tree.specs.TreeValue.{TreeValue}
 use Rattle.wm_forest.specs.RootId.{root}
 use Rattle.wm_forest.proofs.ChangeLemmas.{by_change}
+use Rattle.wm_tree.proofs.BearerLemmas.{other_most}
 use Rattle.wm_forest.proofs.CountLemmas.{count-same}
 use Rattle.wm_forest.proofs.PutLemmas.{Here, IsConFirst, con_level}
 use Rattle.wm_forest.proofs.RowLemmas.{same_row, behind_row, Grows, keeps_by, node_keeps}
-
-other_shorter : (n : List ℕ) (marks : List (List ℕ)) → length (other_marks n marks) ≤ length marks
-other_shorter n [] = omega arith
-other_shorter n (m ∷ ms) = step (not (bytes_eq m n)) (other_shorter n ms)
-  where
-    step : (b : Bool) → length (other_marks n ms) ≤ length ms → length (cond b (m ∷ other_marks n ms) (other_marks n ms)) ≤ suc (length ms)
-    step true h = omega (arith, h)
-    step false h = omega (arith, h)
 
 con_marks : (tiled : Bool) (room : ℕ) (id : ConId) (kind : NodeKind) (old new : List (List ℕ)) (kids : Forest) → length new ≤ 32 → IsNode containers tiled room id kind old kids → IsNode containers tiled room id kind new kids
 con_marks tiled room id (Root c) old new kids few h = absurd h
@@ -53,7 +45,7 @@ unmarked_node n spaces tiled room id (Con c) marks kids h = absurd h
 unmarked_node n containers tiled room id (Root c) marks kids h = absurd h
 unmarked_node n containers tiled room id (Output o) marks kids h = absurd h
 unmarked_node n containers tiled room id (Space w) marks kids h = absurd h
-unmarked_node n containers tiled room id (Con c) marks kids h = (h.0, h.1, omega (arith, other_shorter n marks, h.2), h.3)
+unmarked_node n containers tiled room id (Con c) marks kids h = (h.0, h.1, omega (arith, other_most n marks, h.2), h.3)
 
 shaped-marks : (c : ConId) (marks : List (List ℕ)) (l : Level) (s : Spot) (forest : Forest) → IsConFirst (only c forest) → length marks ≤ 32 → IsSoundRow l s.tiled s.room forest
     → Grows 0 l s.tiled s.room forest forest (at c marks_word marks forest) (row_with c forest forest)
@@ -74,12 +66,12 @@ shaped-unmarked c n l s forest p = keeps_by IsNode node_keeps c unmark_word n 0 
         ((unmarked_node n l s.tiled s.room part.id part.kind part.marks kids p.0, p.1, p.2, p.3, p.4), behind_row l part (record part { marks = other_marks n part.marks }) kids floats rest kids floats rest refl (same_row l rest), omega arith)
 
 -- the marks that a node is given, where it is there
-abbrev given : ℕ → Forest → ℕ
+abbrev pub given : ℕ → Forest → ℕ
 given n end = 0
 given n (con part kids floats rest) = n
 
 -- other marks in the place of those that the node had
-count_marks : (c : ConId) (marks : List (List ℕ)) (f : Forest) → mark_count (at c marks_word marks f) + length (first_marks (only c f)) ≡ mark_count f + given (length marks) (only c f)
+pub count_marks : (c : ConId) (marks : List (List ℕ)) (f : Forest) → mark_count (at c marks_word marks f) + length (first_marks (only c f)) ≡ mark_count f + given (length marks) (only c f)
 count_marks c marks =
     by_change c marks_word marks (λ old new found. mark_count new + length (first_marks found) ≡ mark_count old + given (length marks) found) refl
     (λ part kids floats rest. omega arith)
@@ -87,19 +79,19 @@ count_marks c marks =
     (λ part kids floats rest new found h. omega (arith, h))
     (λ part kids floats rest new found h. omega (arith, h))
 
-given_most : (n : ℕ) (found : Forest) → given n found ≤ n
+pub given_most : (n : ℕ) (found : Forest) → given n found ≤ n
 given_most n end = omega arith
 given_most n (con part kids floats rest) = omega arith
 
 count_unmarked : (c : ConId) (n : List ℕ) (f : Forest) → mark_count (at c unmark_word n f) ≤ mark_count f
 count_unmarked c n =
     by_change c unmark_word n (λ old new found. mark_count new ≤ mark_count old) (omega arith)
-    (λ part kids floats rest. omega (arith, other_shorter n part.marks))
+    (λ part kids floats rest. omega (arith, other_most n part.marks))
     (λ part kids floats rest new found h. omega (arith, h))
     (λ part kids floats rest new found h. omega (arith, h))
     (λ part kids floats rest new found h. omega (arith, h))
 
-room_for_mark : (all own : ℕ) → (leb 1024 all || leb 32 own) ≡ false → (all < 1024) × (own < 32)
+pub room_for_mark : (all own : ℕ) → (leb 1024 all || leb 32 own) ≡ false → (all < 1024) × (own < 32)
 room_for_mark all own h = by_tests (leb 1024 all) (leb 32 own) refl refl h
   where
     by_tests : (a b : Bool) → leb 1024 all ≡ a → leb 32 own ≡ b → (a || b) ≡ false → (all < 1024) × (own < 32)
@@ -107,16 +99,14 @@ room_for_mark all own h = by_tests (leb 1024 all) (leb 32 own) refl refl h
     by_tests false true ea eb h = cc
     by_tests false false ea eb h = (grind (arith, nat_tests), grind (arith, nat_tests))
 
-length_last : (xs : List (List ℕ)) (n : List ℕ) → length (xs ++ n ∷ []) ≡ length xs + 1
+pub length_last : (xs : List (List ℕ)) (n : List ℕ) → length (xs ++ n ∷ []) ≡ length xs + 1
 length_last [] n = omega arith
 length_last (x ∷ xs) n = omega (arith, length_last xs n)
 
-pub sound-marked : (c : ConId) (n : List ℕ) (t : TreeValue) → IsConFirst (only c t.nodes) → is_full_of_marks c t.nodes ≡ false → IsSound t → IsSound (marked c n t)
-sound-marked c n t ok none s =
-    let marks : List (List ℕ) = marks_in c t.nodes ++ n ∷ [] in
-    let room = room_for_mark (mark_count t.nodes) (length (marks_in c t.nodes)) none in
-    let long = length_last (marks_in c t.nodes) n in
-    let g = shaped-marks c marks roots top t.nodes ok (omega (arith, long, room.1)) s.shaped in
+-- a container with other marks, within the limits
+pub sound-with_marks : (c : ConId) (marks : List (List ℕ)) (t : TreeValue) → IsConFirst (only c t.nodes) → length marks ≤ 32 → mark_count (at c marks_word marks t.nodes) ≤ 1024 → IsSound t → IsSound (with_marks c marks t)
+sound-with_marks c marks t ok short few s =
+    let g = shaped-marks c marks roots top t.nodes ok short s.shaped in
     record {
       shaped = g.sound;
       rooted = g.keeps root s.rooted;
@@ -127,9 +117,16 @@ sound-marked c n t ok none s =
       known = λ i. s.known i ∙ sym (count-same (rank_of i) c marks_word marks (λ part kids floats rest. refl) t.nodes);
       few = omega (arith, count-same con_of c marks_word marks (λ part kids floats rest. refl) t.nodes, s.few);
       few_spaces = omega (arith, count-same space_of c marks_word marks (λ part kids floats rest. refl) t.nodes, s.few_spaces);
-      few_marks = omega (arith, count_marks c marks t.nodes, given_most (length marks) (only c t.nodes), long, room.0);
+      few_marks = few;
       ids = s.ids;
     }
+
+pub sound-marked : (c : ConId) (n : List ℕ) (t : TreeValue) → IsConFirst (only c t.nodes) → is_full_of_marks c t.nodes ≡ false → IsSound t → IsSound (marked c n t)
+sound-marked c n t ok none s =
+    let marks : List (List ℕ) = marks_in c t.nodes ++ n ∷ [] in
+    let room = room_for_mark (mark_count t.nodes) (length (marks_in c t.nodes)) none in
+    let long = length_last (marks_in c t.nodes) n in
+    sound-with_marks c marks t ok (omega (arith, long, room.1)) (omega (arith, count_marks c marks t.nodes, given_most (length marks) (only c t.nodes), long, room.0)) s
 
 pub sound-unmarked : (c : ConId) (n : List ℕ) (t : TreeValue) → IsSound t → IsSound (unmarked c n t)
 sound-unmarked c n t s =

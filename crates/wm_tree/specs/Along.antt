@@ -1,7 +1,7 @@
 -- Sticky floating windows go along with what their output shows.
-use Rattle.std.specs.Prelude.{◌≡◌, ◌≢◌, false, None, pos}
-use Rattle.wm_base.specs.declared.geometry.Rect.{Rect}
+use Rattle.std.specs.Prelude.{◌≡◌, ◌≢◌, false, None}
 use Rattle.wm_base.specs.declared.ids.ConId.{ConId}
+pub use Rattle.wm_base.specs.Rect.{nowhere}
 use Rattle.wm_forest.specs.declared.place.Place.TheVariants.{Float}
 use Rattle.wm_forest.specs.Change.{at, nobody, unfull}
 use Rattle.wm_forest.specs.Forest.{Forest, end}
@@ -9,10 +9,6 @@ use Rattle.wm_forest.specs.Look.{first_floats, kind_of, only, same, space_kind}
 use Rattle.wm_forest.specs.Place.{put}
 use Rattle.wm_forest.specs.Sticky.{loosened, sticky}
 use Rattle.wm_tree.specs.TreeValue.{TreeValue}
-
--- among the floating windows of w, wherever they lie
-abbrev pub nowhere : Rect
-nowhere = record { x = pos 0; y = pos 0; w = 0; h = 0 }
 
 -- the sticky floating windows of v come last among those of w, and lose fullscreen
 abbrev pub gone_along : ConId → ConId → TreeValue → TreeValue

@@ -1,8 +1,10 @@
 pub mod Along
 pub mod Ids
+pub mod Marks
 pub mod Move
 pub mod Outputs
 pub mod Sets
 pub mod Sound
+pub mod Standing
 pub mod TreeValue
 pub mod Words

@@ -6,16 +6,8 @@ ghost use Rattle.wm_tree.specs.Sound.{IsSound};
 ghost use Rattle.wm_forest.specs.SoundRow.{tally};
 
 use crate::tree::Tree;
-use wm_base::{ConId, Rect};
+use wm_base::{ConId, NOWHERE};
 use wm_forest::{NOBODY, Place, Row};
-
-/// A rectangle that no window has from it: one that comes along keeps its own.
-const NOWHERE: Rect = Rect {
-    x: 0,
-    y: 0,
-    w: 0,
-    h: 0,
-};
 
 impl Tree {
     /// Puts the sticky floating windows of a workspace last among those of another one, in their order. They keep

@@ -3,23 +3,29 @@
 
 mod along;
 mod attach;
+mod bearers;
 mod copy;
 mod filling;
+mod giving;
 mod lists;
 mod marks;
 mod moving;
 mod newcomer;
 mod outputs;
+mod recent;
 mod refusal;
 mod sets;
 mod spaces;
+mod standing;
 mod start;
 mod tree;
 mod words;
 
+pub use recent::Recent;
 pub use refusal::TreeRefusal;
+pub use standing::{Placed, Standing};
 pub use tree::Tree;
 pub use wm_forest::{
-    ConKind, ConPart, ConState, Cursor, NewCon, NodeKind, OutputPart, Part, Place, SpacePart,
-    Swallow, SwallowKey, copy_props,
+    ConKind, ConPart, ConState, Cursor, NewCon, NodeKind, OutputPart, Part, Place, Sieve,
+    SpacePart, Swallow, SwallowKey, copy_props,
 };

@@ -1,9 +1,12 @@
 //! The lists of a tree, whole.
 ghost use Rattle.std.specs.Prelude.{◌≡◌};
 ghost use Rattle.wm_forest.specs.Look.{first_marks, only};
+ghost use Rattle.wm_forest.specs.Recency.{lists, place_from};
 
+use crate::recent::Recent;
 use crate::tree::Tree;
 use wm_base::{ConId, Text};
+use wm_forest::recency;
 
 impl Tree {
     /// The urgent windows in the order they became so.
@@ -13,11 +16,25 @@ impl Tree {
         &self.urgent
     }
 
-    /// The ids of all workspaces and containers, the most recent first.
-    pub fn recent_ids(&self) -> &[ConId]
-        ensures { result.now ≡ self.now.recency }
+    /// Whether the window is among the urgent ones.
+    pub fn is_urgent(&self, con: ConId) -> bool
+        ensures { result ≡ lists con self.now.urgent }
     {
-        &self.recency
+        lists(con, &self.urgent)
+    }
+
+    /// The ids of all workspaces and containers, the most recent first.
+    pub fn recent_ids(&self) -> Recent<'_>
+        ensures { result ≡ self.now.recency }
+    {
+        Recent::along(&self.recency)
+    }
+
+    /// The place of the id among them, from 0. `None` exactly where it is not there.
+    pub fn recent_place(&self, con: ConId) -> Option<usize>
+        ensures { result ≡ place_from 0 con self.now.recency }
+    {
+        recency::place(&self.recency, con)
     }
 
     /// The node's marks in the order they were added. There are none where the id is not in the tree.
@@ -29,4 +46,18 @@ impl Tree {
             None => &[],
         }
     }
+}
+
+/// Whether the id is among these.
+fn lists(con: ConId, ids: &[ConId]) -> bool
+    ensures { result ≡ lists con ids.now }
+{
+    let mut rest = ids;
+    while let [id, after @ ..] = rest {
+        if *id == con {
+            return true;
+        }
+        rest = after;
+    }
+    false
 }

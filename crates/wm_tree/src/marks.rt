@@ -1,9 +1,10 @@
 //! Marks of containers, and urgent windows.
 ghost use Rattle.std.specs.Prelude.{None, ◌≢◌, ◌≡◌, ◌++◌, ◌∷◌, ◌≤◌, [], false, true, Err, IfOk, IfErr, OnOk, OnErr};
 ghost use Rattle.wm_forest.specs.Look.{con_kind, has, kind_of};
+ghost use Rattle.wm_tree.specs.Marks.{bearer};
 ghost use Rattle.wm_tree.specs.Sound.{IsSound};
 ghost use Rattle.wm_tree.specs.Move.{is_full_of_marks, marked, marks_in, unmarked, IsMarkCause};
-ghost use Rattle.wm_forest.specs.Recency.{without_id};
+ghost use Rattle.wm_forest.specs.Recency.{lists, without_id};
 ghost use Rattle.wm_tree.specs.declared.refusal.TreeRefusal.TheVariants.{Full, Missing};
 ghost use Rattle.wm_tree.specs.declared.refusal.TreeRefusal.TheVariants as refusals;
 ghost use Rattle.wm_base.specs.declared.errors.Limit.TheVariants as limits;
@@ -14,14 +15,15 @@ use wm_base::{ConId, Limit, List, Text};
 use wm_forest::{SetMarks, Unmark, copy_texts_and, recency};
 
 /// How many marks a tree has at most.
-const MAX_MARKS: usize = 1_024;
+pub(crate) const MAX_MARKS: usize = 1_024;
 
 /// How many marks a container has at most.
-const MAX_MARKS_OF_ONE: usize = 32;
+pub(crate) const MAX_MARKS_OF_ONE: usize = 32;
 
 impl Tree {
-    /// Puts the mark last among the container's. No container has it yet, and it has 1 to 256 bytes.
+    /// Puts the mark, of 1 to 256 bytes, last among the container's.
     pub fn add_mark(&mut self, con: ConId, n: &Text) -> Result<(), TreeRefusal>
+        requires { bearer None n.now self.old.nodes ≡ None }
         ensures ok { OnOk result (self.new ≡ marked con n.now self.old) }
         ensures sound { (has con self.old.nodes ≡ true → kind_of con_kind con self.old.nodes ≢ None) →
             IsSound self.old → IsSound self.new }
@@ -64,8 +66,9 @@ impl Tree {
         drop(self.nodes.change(con, Unmark { alloc, name: n }));
     }
 
-    /// Puts the window last among the urgent ones. It is not urgent yet.
+    /// Puts the window, which is not urgent, last among the urgent ones.
     pub fn add_urgent(&mut self, con: ConId) -> Result<(), TreeRefusal>
+        requires { lists con self.old.urgent ≡ false }
         ensures ok { OnOk result (self.new ≡ record self.old { urgent = self.old.urgent ++ con ∷ [] }) }
         ensures sound { IsSound self.old → IsSound self.new }
         ensures err { OnErr result (self.new ≡ self.old) }

@@ -3,11 +3,10 @@ ghost use Rattle.std.specs.Prelude.{◌≡◌, true};
 ghost use Rattle.wm_forest.specs.Look.{has};
 ghost use Rattle.wm_forest.specs.Place.{IsPlace, named};
 ghost use Rattle.wm_tree.specs.Sound.{IsSound};
-ghost use Rattle.wm_tree.specs.TreeValue.{is_con_kind, is_tiled_con, newcomer_place};
+ghost use Rattle.wm_tree.specs.TreeValue.{newcomer_place};
 
 use crate::tree::Tree;
-use wm_base::ConId;
-use wm_forest::{NodeKind, Place};
+use wm_forest::Place;
 
 impl Tree {
     /// Where a new window goes: last into a focused workspace, after the focused container where that is tiled, and
@@ -37,24 +36,5 @@ impl Tree {
         } else {
             Place::Last(shown)
         }
-    }
-
-    /// Whether this is a tiled container.
-    pub fn is_tiled(&self, con: ConId) -> bool
-        ensures { result ≡ is_tiled_con self.now con }
-    {
-        match (self.nodes.find(con), self.spot(con)) {
-            (Some(cell), Some(spot)) => is_con(&cell.part.kind) && spot.tiled,
-            _ => false,
-        }
-    }
-}
-
-fn is_con(kind: &NodeKind) -> bool
-    ensures { result ≡ is_con_kind kind.now }
-{
-    match kind {
-        NodeKind::Con(_) => true,
-        NodeKind::Root { .. } | NodeKind::Output(_) | NodeKind::Space(_) => false,
     }
 }

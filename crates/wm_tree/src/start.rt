@@ -8,8 +8,8 @@ ghost use Rattle.wm_forest.specs.RootId.{id};
 
 use crate::tree::Tree;
 use std::alloc::{AllocError, Global};
-use wm_base::{Border, ConId, Layout, List, NoMemory, OutputPlan, Text};
-use wm_forest::{Cell, NodeKind, OutputPart, Part, ROOT, Row, SpacePart, short_text};
+use wm_base::{Border, ConId, Layout, List, NoMemory, OutputPlan, Text, short_text};
+use wm_forest::{Cell, NodeKind, OutputPart, Part, ROOT, Row, SpacePart};
 
 impl Tree {
     /// The opening tree of these outputs: root 1, then an id for each output, then one for each workspace. Output k

@@ -2,5 +2,6 @@ pub mod FocusLemmas
 pub mod MapLemmas
 pub mod NodeLemmas
 pub mod OrderLemmas
+pub mod PlaceLemmas
 pub mod RowLemmas
 pub mod SpaceLemmas

@@ -1,57 +1,18 @@
--- What a map has after a value was put in, and what maps of lists have.
-use Rattle.std.proofs.Common.{◌≡◌, ℕ, ◌+◌, Bool, true, false, cond, ◌||◌, List, [], ◌∷◌, Option, Some, None, is_some, refl, ap, sym, ◌∙◌}
+-- What maps keep of the parts of a node, and whether they have an id.
+use Rattle.std.proofs.Common.{◌≡◌, ℕ, Bool, true, false, cond, ◌||◌, List, Option, Some, None, is_some, refl, ap, sym, ◌∙◌}
 use Rattle.std.proofs.lemmas.Bool.{eqb-true}
-use Rattle.std.proofs.lemmas.Bool.Decides.{nat_tests}
-use Rattle.std.proofs.Common.{arith}
 use Rattle.std.specs.BTreeMap.{insert_entry, is_at}
 use Rattle.std.specs.Map.{lookup}
 use Rattle.std.specs.Option.{option_or}
-use Rattle.std.specs.Ordering.{nat_cmp, is_eq, match_ordering}
-use Rattle.std.specs.declared.cmp.Ordering.{Ordering}
-use Rattle.std.specs.declared.cmp.Ordering.TheVariants.{Less, Equal, Greater}
+use Rattle.std.specs.Ordering.{nat_cmp}
 use Rattle.wm_arrange.specs.declared.parts.Placed.{Placed}
+pub use Rattle.wm_arrange.proofs.MapLemmas.{find_insert}
 use Rattle.wm_base.specs.declared.ids.ConId.{ConId}
-use Rattle.wm_ids.proofs.EntryLemmas.{test_same}
 use Rattle.wm_forest.specs.Look.{same}
-use Rattle.wm_forest.specs.Recency.{place_from}
 use Rattle.wm_views.specs.declared.maps.NodeRects.{NodeRects}
 use Rattle.wm_views.specs.declared.maps.Wanted.{Wanted}
 use Rattle.wm_views.specs.declared.maps.Wanted.TheVariants.{Areas, Contents, Titles}
 use Rattle.wm_views.specs.Maps.{holds, of_node, or_unplaced, rect_in, rect_kept, rect_of, value_at}
-
-both : {X : Type 0} (s : Bool) (w x : X) (y : Option X) → cond s (Some w) y ≡ cond s (Some w) (cond s (Some x) y)
-both true w x y = refl
-both false w x y = refl
-
-swap : {X : Type 0} (t s : Bool) (x w : X) (y : Option X) → (t ≡ true → s ≡ true → t ≡ false) → cond t (Some x) (cond s (Some w) y) ≡ cond s (Some w) (cond t (Some x) y)
-swap true true x w y h = let bad : true ≡ false = h refl refl in cc
-swap true false x w y h = refl
-swap false true x w y h = refl
-swap false false x w y h = refl
-
--- a key that is not a's is not v's where v is a
-apart : (a v : ConId) (key : ℕ) → is_at (nat_cmp a.0) key ≡ false → is_at (nat_cmp v.0) key ≡ true → same a v ≡ true → is_at (nat_cmp v.0) key ≡ false
-apart a v key at at_v one =
-    let same_key : v.0 ≡ key = eqb-true v.0 key (sym (test_same v.0 key) ∙ at_v) in
-    let same_id : a.0 ≡ v.0 = eqb-true a.0 v.0 one in
-    let bad : is_at (nat_cmp a.0) key ≡ true = test_same a.0 key ∙ grind (arith, nat_tests) in
-    let wrong : true ≡ false = sym bad ∙ at in cc
-
-insert_step : {X : Type 0} (a v : ConId) (w : X) (e : ℕ × X) (windows inserted : List (ℕ × X)) (r : Ordering) → nat_cmp a.0 e.0 ≡ r → value_at inserted v ≡ cond (same a v) (Some w) (value_at windows v)
-    → value_at (match_ordering r ((a.0, w) ∷ e ∷ windows) ((e.0, w) ∷ windows) (e ∷ inserted)) v ≡ cond (same a v) (Some w) (value_at (e ∷ windows) v)
-insert_step a v w e windows inserted Less at rest =
-    let t : is_at (nat_cmp v.0) a.0 ≡ same a v = test_same v.0 a.0 ∙ grind (arith, nat_tests) in
-    ap (λ b. cond b (Some w) (value_at (e ∷ windows) v)) t
-insert_step a v w e windows inserted Equal at rest =
-    let key : a.0 ≡ e.0 = eqb-true a.0 e.0 (sym (test_same a.0 e.0) ∙ ap is_eq at) in
-    let t : is_at (nat_cmp v.0) e.0 ≡ same a v = test_same v.0 e.0 ∙ grind (arith, nat_tests) in
-    rw t (both (same a v) w e.1 (value_at windows v))
-insert_step a v w e windows inserted Greater at rest =
-    ap (cond (is_at (nat_cmp v.0) e.0) (Some e.1)) rest ∙ swap (is_at (nat_cmp v.0) e.0) (same a v) e.1 w (value_at windows v) (apart a v e.0 (ap is_eq at))
-
-pub find_insert : {X : Type 0} (a v : ConId) (w : X) (windows : List (ℕ × X)) → value_at (insert_entry nat_cmp windows a.0 w) v ≡ cond (same a v) (Some w) (value_at windows v)
-find_insert a v w [] = let t : is_at (nat_cmp v.0) a.0 ≡ same a v = test_same v.0 a.0 ∙ grind (arith, nat_tests) in ap (λ b. cond b (Some w) None) t
-find_insert a v w (e ∷ windows) = insert_step a v w e windows (insert_entry nat_cmp windows a.0 w) (nat_cmp a.0 e.0) refl (find_insert a v w windows)
 
 -- the first of three is the first of the first two, or else the third
 pub or_assoc : {X : Type 0} (a b c : Option X) → option_or (option_or a b) c ≡ option_or a (option_or b c)
@@ -76,29 +37,6 @@ any_assoc false b c = refl
 pub or_none : {X : Type 0} (a : Option X) → a ≡ option_or a None
 or_none None = refl
 or_none (Some x) = refl
-
-there_step : {X : Type 0} (s : Bool) (w : X) (o : Option X) → (s ≡ true → is_some o ≡ true) → o ≡ option_or o (cond s (Some w) None)
-there_step true w None h = let bad : false ≡ true = h refl in cc
-there_step false w None h = refl
-there_step s w (Some y) h = refl
-
-same_value : {X : Type 0} (a c : ConId) (x : X) (map : List (ℕ × X)) → value_at map a ≡ Some x → same a c ≡ true → is_some (value_at map c) ≡ true
-same_value a c x map there one = let alike : a.0 ≡ c.0 = eqb-true a.0 c.0 one in ap (λ n. is_some (lookup (is_at (nat_cmp n)) map)) (sym alike) ∙ ap is_some there
-
-pub or_there : {X : Type 0} (a c : ConId) (w x : X) (map : List (ℕ × X)) → value_at map a ≡ Some x → value_at map c ≡ option_or (value_at map c) (cond (same a c) (Some w) None)
-or_there a c w x map there = there_step (same a c) w (value_at map c) (λ one. same_value a c x map there one)
-
-none_step : {X : Type 0} (s : Bool) (w : X) (o : Option X) → (s ≡ true → is_some o ≡ false) → cond s (Some w) o ≡ option_or o (cond s (Some w) None)
-none_step true w None h = refl
-none_step true w (Some y) h = let bad : true ≡ false = h refl in cc
-none_step false w None h = refl
-none_step false w (Some y) h = refl
-
-no_value : {X : Type 0} (a c : ConId) (map : List (ℕ × X)) → value_at map a ≡ None → same a c ≡ true → is_some (value_at map c) ≡ false
-no_value a c map none one = let alike : a.0 ≡ c.0 = eqb-true a.0 c.0 one in ap (λ n. is_some (lookup (is_at (nat_cmp n)) map)) (sym alike) ∙ ap is_some none
-
-pub or_new : {X : Type 0} (a c : ConId) (w : X) (map : List (ℕ × X)) → value_at map a ≡ None → cond (same a c) (Some w) (value_at map c) ≡ option_or (value_at map c) (cond (same a c) (Some w) None)
-or_new a c w map none = none_step (same a c) w (value_at map c) (λ one. no_value a c map none one)
 
 -- ---- what a map keeps of the parts of a node
 
@@ -134,12 +72,3 @@ kept_more w p c r map area title content = by_same (same p.con c) refl
         let there : rect_in w (or_unplaced (value_at map p.con)) ≡ rect_kept w (value_at map c) = kept_in w (value_at map p.con) ∙ ap (λ n. rect_kept w (lookup (is_at (nat_cmp n)) map)) alike in
         with_rect w r (or_unplaced (value_at map p.con)) p area title content ∙ ap (λ o. option_or o (rect_of w p)) there ∙ ap (option_or (rect_kept w (value_at map c))) (node_own c p.con (rect_of w p) one)
     by_same false other = or_none (rect_kept w (value_at map c)) ∙ ap (option_or (rect_kept w (value_at map c))) (node_other c p.con (rect_of w p) other)
-
--- a place that is kept, or else a later one, is the first from there on
-pub place_step : (c id : ConId) (at : ℕ) (old : Option ℕ) (rest : List ConId) → option_or (option_or old (cond (same id c) (Some at) None)) (place_from (at + 1) c rest) ≡ option_or old (cond (same id c) (Some at) (place_from (at + 1) c rest))
-place_step c id at (Some x) rest = refl
-place_step c id at None rest = by_same (same id c)
-  where
-    by_same : (s : Bool) → option_or (cond s (Some at) None) (place_from (at + 1) c rest) ≡ cond s (Some at) (place_from (at + 1) c rest)
-    by_same true = refl
-    by_same false = refl

@@ -1,10 +1,8 @@
 -- What is looked up by id: the rectangles of parts, and whether an id is listed.
 use Rattle.std.specs.Prelude.{ℕ, Bool, true, false, if◌then◌else◌, List, [], ◌∷◌, Option, None, Some, is_some}
-use Rattle.std.specs.BTreeMap.{is_at}
-use Rattle.std.specs.Map.{lookup}
 use Rattle.std.specs.Option.{option_or}
-use Rattle.std.specs.Ordering.{nat_cmp}
 use Rattle.wm_arrange.specs.AreaOf.{or_nowhere}
+pub use Rattle.wm_arrange.specs.Choices.{value_at}
 use Rattle.wm_arrange.specs.declared.parts.Placed.{Placed}
 use Rattle.wm_arrange.specs.declared.parts.PlacedPart.{PlacedPart}
 use Rattle.wm_arrange.specs.declared.parts.PlacedPart.TheVariants.{Area, Title, Content}
@@ -57,10 +55,6 @@ or_unplaced (Some r) = r
 abbrev pub rect_kept : Wanted → Option NodeRects → Option Rect
 rect_kept w None = None
 rect_kept w (Some r) = rect_in w r
-
--- what a map has for c
-abbrev pub value_at : {A : Type 0} → List (ℕ × A) → ConId → Option A
-value_at map c = lookup (is_at (nat_cmp c.0)) map
 
 -- whether a map has c
 abbrev pub holds : {A : Type 0} → List (ℕ × A) → ConId → Bool

@@ -9,7 +9,6 @@ mod nodes;
 mod numbers;
 mod order;
 mod outputs;
-mod places;
 mod root;
 mod rows;
 mod scratchpad;

@@ -5,15 +5,8 @@ ghost use Rattle.wm_views.specs.Nodes.{border_word, border_width, laid, layout_w
 
 use crate::setting::{set_layout, set_outline};
 use std::alloc::Global;
-use wm_base::{Border, Layout, List, NoMemory, Rect, Str, Text};
+use wm_base::{Border, Layout, List, NOWHERE, NoMemory, Str, Text};
 use wm_json::NodeView;
-
-const NOWHERE: Rect = Rect {
-    x: 0,
-    y: 0,
-    w: 0,
-    h: 0,
-};
 
 /// A copy of a text.
 pub fn word(alloc: Global, text: &str) -> Result<Str, NoMemory>

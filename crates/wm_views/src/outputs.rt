@@ -1,6 +1,6 @@
 //! The outputs of a tree as the list of outputs shows them.
-ghost use Rattle.std.specs.Prelude.{◌≡◌, ◌++◌, [], IfOk, OnOk};
-ghost use Rattle.wm_forest.specs.Look.{output_kind, space_kind};
+ghost use Rattle.std.specs.Prelude.{◌≡◌, ◌++◌, [], true, IfOk, OnOk};
+ghost use Rattle.wm_forest.specs.Look.{first_kids, output_kind, space_kind};
 ghost use Rattle.wm_views.specs.Outputs.{name_in, output_view, output_views, outputs_from, outputs_view, space_name};
 
 use std::alloc::Global;
@@ -13,40 +13,38 @@ pub fn outputs_view(alloc: Global, t: &Tree) -> Result<Vec<OutputView>, NoMemory
     ensures { IfOk result (λ views. views.items ≡ outputs_view t.now) }
 {
     let mut views = Vec::new(alloc);
-    push_outputs(&mut views, alloc, true, &t.nodes().kids())?;
+    push_outputs(&mut views, alloc, t.nodes().kids())?;
     Ok(views)
 }
 
-/// Adds the outputs of a row, the first of which is the primary one or not.
-fn push_outputs(
-    views: &mut Vec<OutputView>,
-    alloc: Global,
-    first: bool,
-    row: &Cursor<'_>,
-) -> Result<(), NoMemory>
-    ensures { OnOk result (views.new.items ≡ views.old.items ++ outputs_from first row.now) }
+/// Adds the outputs of a row, the first of which is the primary one.
+fn push_outputs(views: &mut Vec<OutputView>, alloc: Global, row: Cursor<'_>) -> Result<(), NoMemory>
+    ensures { OnOk result (views.new.items ≡ views.old.items ++ outputs_from true row.entry) }
 {
-    let Some(part) = row.part() else {
-        return Ok(());
-    };
-    push_output(views, alloc, first, &part.kind, &row.kids())?;
-    push_outputs(views, alloc, false, &row.rest())
+    let mut first = true;
+    let mut left = row;
+    while let Some(part) = left.part() {
+        push_output(views, alloc, first, &part.kind, &left)?;
+        first = false;
+        left = left.rest();
+    }
+    Ok(())
 }
 
-/// Adds the view of a node, where it is an output.
+/// Adds the view of the row's first node, where it is an output.
 fn push_output(
     views: &mut Vec<OutputView>,
     alloc: Global,
     first: bool,
     kind: &NodeKind,
-    spaces: &Cursor<'_>,
+    row: &Cursor<'_>,
 ) -> Result<(), NoMemory>
-    ensures { OnOk result (views.new.items ≡ views.old.items ++ output_views first (output_kind kind.now) spaces.now) }
+    ensures { OnOk result (views.new.items ≡ views.old.items ++ output_views first (output_kind kind.now) (first_kids row.now)) }
 {
     let NodeKind::Output(output) = kind else {
         return Ok(());
     };
-    views.push(output_view(alloc, first, output, spaces)?)?;
+    views.push(output_view(alloc, first, output, row.kids())?)?;
     Ok(())
 }
 
@@ -54,9 +52,9 @@ fn output_view(
     alloc: Global,
     first: bool,
     output: &OutputPart,
-    spaces: &Cursor<'_>,
+    spaces: Cursor<'_>,
 ) -> Result<OutputView, NoMemory>
-    ensures { IfOk result (λ view. view ≡ output_view first output.now spaces.now) }
+    ensures { IfOk result (λ view. view ≡ output_view first output.now spaces.entry) }
 {
     let name = output.name.clone()?;
     Ok(OutputView {
@@ -69,14 +67,17 @@ fn output_view(
 }
 
 /// The name of the workspace in a row of workspaces.
-pub fn name_in(alloc: Global, id: ConId, row: &Cursor<'_>) -> Result<Text, NoMemory>
-    ensures { IfOk result (λ name. name ≡ name_in id row.now) }
+pub fn name_in(alloc: Global, id: ConId, row: Cursor<'_>) -> Result<Text, NoMemory>
+    ensures { IfOk result (λ name. name ≡ name_in id row.entry) }
 {
-    match row.part() {
-        None => no_text(alloc),
-        Some(part) if part.id == id => space_name(alloc, &part.kind),
-        Some(_) => name_in(alloc, id, &row.rest()),
+    let mut left = row;
+    while let Some(part) = left.part() {
+        if part.id == id {
+            return space_name(alloc, &part.kind);
+        }
+        left = left.rest();
     }
+    no_text(alloc)
 }
 
 /// A workspace's name. Other nodes have none.

@@ -1,5 +1,6 @@
 //! The view of a whole tree: the root over the scratchpad and the outputs.
 ghost use Rattle.std.specs.Prelude.{◌≡◌, ◌∷◌, [], codes, IfOk, OnOk, true};
+ghost use Rattle.wm_forest.specs.Look.{first_floats, first_kids};
 ghost use Rattle.wm_forest.specs.SoundRow.{containers, outputs};
 ghost use Rattle.wm_json.specs.declared.views.NodeView.TheViews.{roll-NodeView};
 ghost use Rattle.wm_tree.specs.Sound.{IsSound};
@@ -17,17 +18,9 @@ use crate::sight::Sight;
 use crate::spaces::has_urgent;
 use std::alloc::Global;
 use wm_arrange::Arrangement;
-use wm_base::{NoMemory, Rect};
-use wm_forest::short_text;
+use wm_base::{NOWHERE, NoMemory, short_text};
 use wm_json::NodeView;
 use wm_tree::{Cursor, Part, Tree};
-
-const NOWHERE: Rect = Rect {
-    x: 0,
-    y: 0,
-    w: 0,
-    h: 0,
-};
 
 /// The tree with its arrangement: the root over the scratchpad and the outputs, with all that is below them.
 /// Rectangles are in pixels.
@@ -47,49 +40,47 @@ fn whole_view(alloc: Global, sight: &Sight<'_>) -> Result<NodeView, NoMemory>
 {
     let nodes = sight.tree.nodes();
     match nodes.part() {
-        Some(part) => root_view(alloc, sight, part, &nodes.kids(), &nodes.floats()),
+        Some(part) => root_view(alloc, sight, part, &nodes),
         None => plain(alloc, 1, short_text(alloc, "root")?, "root"),
     }
 }
 
-/// The root over this row of outputs and the scratchpad.
+/// The row's first node, the root, over its outputs and the scratchpad.
 fn root_view(
     alloc: Global,
     sight: &Sight<'_>,
     part: &Part,
     row: &Cursor<'_>,
-    windows: &Cursor<'_>,
 ) -> Result<NodeView, NoMemory>
     requires sight { IsSight sight.now }
-    requires row { IsRowAt outputs row.now }
-    requires windows { IsRowAt containers windows.now }
-    ensures { IfOk result (λ view. view ≡ roll-NodeView (root_node sight.now.tree.now sight.now.arrangement.now.parts part.now row.now windows.now)) }
+    requires kids { IsRowAt outputs (first_kids row.now) }
+    requires windows { IsRowAt containers (first_floats row.now) }
+    ensures { IfOk result (λ view. view ≡ roll-NodeView (root_node sight.now.tree.now sight.now.arrangement.now.parts part.now (first_kids row.now) (first_floats row.now))) }
 {
     let mut below = Below::new(alloc);
-    fill_root(&mut below, alloc, sight, row, windows)?;
-    root_over(alloc, sight, part, row, windows, below)
+    fill_root(&mut below, alloc, sight, row)?;
+    root_over(alloc, sight, part, &row.kids(), &row.floats(), below)
 }
 
-/// Adds the scratchpad's output and the outputs.
+/// Adds the scratchpad's output and the outputs, where the row's first node is the root.
 fn fill_root(
     below: &mut Below,
     alloc: Global,
     sight: &Sight<'_>,
     row: &Cursor<'_>,
-    windows: &Cursor<'_>,
 ) -> Result<(), NoMemory>
     requires sight { IsSight sight.now }
-    requires row { IsRowAt outputs row.now }
-    requires windows { IsRowAt containers windows.now }
+    requires kids { IsRowAt outputs (first_kids row.now) }
+    requires windows { IsRowAt containers (first_floats row.now) }
     requires no_kids { below.old.kids.items ≡ [] }
     requires no_floats { below.old.floats.items ≡ [] }
     requires none_placed { below.old.placed.items ≡ [] }
-    ensures kids { OnOk result (below.new.kids.items ≡ roll-NodeView (scratch_output sight.now.tree.now sight.now.arrangement.now.parts windows.now) ∷ outputs_under sight.now.tree.now sight.now.arrangement.now.parts true row.now) }
+    ensures kids { OnOk result (below.new.kids.items ≡ roll-NodeView (scratch_output sight.now.tree.now sight.now.arrangement.now.parts (first_floats row.now)) ∷ outputs_under sight.now.tree.now sight.now.arrangement.now.parts true (first_kids row.now)) }
     ensures floats { OnOk result (below.new.floats.items ≡ []) }
-    ensures placed { OnOk result (below.new.placed.items ≡ put_nodes ((least_place sight.now.tree.now.recency windows.now, 4294967294) ∷ placed_row sight.now.tree.now.recency row.now) []) }
+    ensures placed { OnOk result (below.new.placed.items ≡ put_nodes ((least_place sight.now.tree.now.recency (first_floats row.now), 4294967294) ∷ placed_row sight.now.tree.now.recency (first_kids row.now)) []) }
 {
-    let least = push_scratchpad(&mut below.kids, alloc, sight, windows)?;
-    push_outputs(&mut below.kids, &mut below.placed, alloc, sight, true, row)?;
+    let least = push_scratchpad(&mut below.kids, alloc, sight, row)?;
+    push_outputs(&mut below.kids, &mut below.placed, alloc, sight, row.kids())?;
     place_node(&mut below.placed, (least, SCRATCH_OUTPUT))
 }
 

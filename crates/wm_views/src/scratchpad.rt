@@ -2,6 +2,7 @@
 ghost use Rattle.std.specs.Prelude.{◌≡◌, ◌++◌, ◌∷◌, [], IfOk, OnOk};
 ghost use Rattle.wm_arrange.specs.AreaOf.{nowhere};
 ghost use Rattle.wm_forest.specs.Forest.{end};
+ghost use Rattle.wm_forest.specs.Look.{first_floats};
 ghost use Rattle.wm_forest.specs.SoundRow.{containers};
 ghost use Rattle.wm_json.specs.declared.views.NodeView.TheViews.{roll-NodeView};
 ghost use Rattle.wm_views.specs.Nodes.{cons, over_floats, scratch_output, scratch_space, scratch_view};
@@ -16,8 +17,7 @@ use crate::sight::Sight;
 use crate::spaces::has_urgent;
 use crate::walk::{over_floats, push_cons};
 use std::alloc::Global;
-use wm_base::{Layout, List, NoMemory, Rect};
-use wm_forest::short_text;
+use wm_base::{Layout, List, NOWHERE, NoMemory, short_text};
 use wm_json::NodeView;
 use wm_tree::Cursor;
 
@@ -27,24 +27,17 @@ pub const SCRATCH_OUTPUT: u32 = 4_294_967_294;
 /// The id of the workspace that has the scratchpad's windows.
 const SCRATCH_SPACE: u32 = 4_294_967_295;
 
-const NOWHERE: Rect = Rect {
-    x: 0,
-    y: 0,
-    w: 0,
-    h: 0,
-};
-
-/// Adds the scratchpad's output, and tells the least place of an id in the scratchpad.
+/// Adds the scratchpad's output, and tells the least place of an id in the scratchpad. The row's first node is the root.
 pub fn push_scratchpad(
     views: &mut Vec<NodeView>,
     alloc: Global,
     sight: &Sight<'_>,
-    windows: &Cursor<'_>,
+    row: &Cursor<'_>,
 ) -> Result<usize, NoMemory>
     requires sight { IsSight sight.now }
-    requires sound { IsRowAt containers windows.now }
-    ensures views { OnOk result (views.new.items ≡ views.old.items ++ roll-NodeView (scratch_output sight.now.tree.now sight.now.arrangement.now.parts windows.now) ∷ []) }
-    ensures least { IfOk result (λ least. least ≡ least_place sight.now.tree.now.recency windows.now) }
+    requires sound { IsRowAt containers (first_floats row.now) }
+    ensures views { OnOk result (views.new.items ≡ views.old.items ++ roll-NodeView (scratch_output sight.now.tree.now sight.now.arrangement.now.parts (first_floats row.now)) ∷ []) }
+    ensures least { IfOk result (λ least. least ≡ least_place sight.now.tree.now.recency (first_floats row.now)) }
 {
     let mut below = Below::new(alloc);
     let least = push_cons(
@@ -53,11 +46,12 @@ pub fn push_scratchpad(
         alloc,
         sight,
         &over_floats(NOWHERE),
-        windows,
+        row.floats(),
     )?;
+    let windows = row.floats();
     let mut spaces = Vec::new(alloc);
-    push_space(&mut spaces, alloc, sight, windows, below)?;
-    push_output(views, alloc, sight, windows, List::of(spaces))?;
+    push_space(&mut spaces, alloc, sight, &windows, below)?;
+    push_output(views, alloc, sight, &windows, List::of(spaces))?;
     Ok(least)
 }
 

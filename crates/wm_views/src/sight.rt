@@ -10,9 +10,8 @@ ghost use Rattle.wm_views.specs.Recency.{place_of};
 ghost use Rattle.wm_views.specs.Sight.{IsSight};
 
 use crate::maps::{NodeRects, Wanted, ids, rect_at, rects};
-use crate::places::{place_in, places};
 use std::alloc::Global;
-use wm_arrange::Arrangement;
+use wm_arrange::{Arrangement, places_of};
 use wm_base::{ConId, NoMemory, Rect};
 use wm_ids::IdMap;
 use wm_tree::Tree;
@@ -84,7 +83,7 @@ impl<'a> Sight<'a> {
         ensures parts { IfOk result (λ sight. sight.arrangement.now ≡ arrangement.now) }
     {
         let rects = rects(alloc, arrangement.parts.items())?;
-        let places = places(alloc, tree.recent_ids())?;
+        let places = places_of(alloc, tree.recent_ids())?;
         let mut sight = Sight::plain(alloc, tree, arrangement)?;
         sight.maps = Some(SightMaps { rects, places });
         Ok(sight)
@@ -140,14 +139,13 @@ impl<'a> Sight<'a> {
         requires { IsSight self.now }
         ensures { result ≡ place_of id self.now.tree.now.recency }
     {
-        let ids = self.tree.recent_ids();
         let found = match &self.maps {
             Some(maps) => maps.places.get(id.0).copied(),
-            None => place_in(id, ids),
+            None => self.tree.recent_place(id),
         };
         match found {
             Some(place) => place,
-            None => ids.len(),
+            None => self.tree.recent_ids().len(),
         }
     }
 

@@ -1,6 +1,6 @@
 //! The views of rows of containers, each with what is below it.
 ghost use Rattle.std.specs.Prelude.{◌≡◌, ◌++◌, IfOk, OnOk};
-ghost use Rattle.wm_forest.specs.Look.{con_kind};
+ghost use Rattle.wm_forest.specs.Look.{con_kind, first_kids};
 ghost use Rattle.wm_forest.specs.SoundRow.{containers};
 ghost use Rattle.wm_views.specs.Nodes.{con_views, cons, over_floats, over_kids};
 ghost use Rattle.wm_views.specs.Recency.{least_place, placed_row, put_nodes};
@@ -9,7 +9,7 @@ ghost use Rattle.wm_views.specs.Sight.{IsSight};
 
 use crate::cons::{Above, con_view};
 use crate::order::least_place;
-use crate::rows::{Below, Least, place_with, push_over};
+use crate::rows::{Below, list_node, place_nodes, push_over};
 use crate::sight::Sight;
 use std::alloc::Global;
 use wm_base::{ConId, NoMemory, Rect};
@@ -43,31 +43,36 @@ pub fn over_floats(rect: Rect) -> Above
 /// Adds the containers of a row, puts their ids in at their places, and tells the least place of an id in the row or
 /// below it.
 #[cycle(cons)]
-#[tactic(auto, using(crate::proofs::RowLemmas::con_kids, crate::proofs::RowLemmas::con_rest))]
+#[tactic(auto, using(crate::proofs::RowLemmas::con_kids, crate::proofs::RowLemmas::con_rest, crate::proofs::PlaceLemmas::least_start))]
 pub fn push_cons(
     views: &mut Vec<NodeView>,
     placed: &mut Vec<(usize, u32)>,
     alloc: Global,
     sight: &Sight<'_>,
     above: &Above,
-    row: &Cursor<'_>,
+    row: Cursor<'_>,
 ) -> Result<usize, NoMemory>
     requires sight { IsSight sight.now }
-    requires sound { IsRowAt containers row.now }
-    ensures views { OnOk result (views.new.items ≡ views.old.items ++ cons sight.now.tree.now sight.now.arrangement.now.parts above.now row.now) }
-    ensures placed { OnOk result (placed.new.items ≡ put_nodes (placed_row sight.now.tree.now.recency row.now) placed.old.items) }
-    ensures least { IfOk result (λ least. least ≡ least_place sight.now.tree.now.recency row.now) }
+    requires sound { IsRowAt containers row }
+    ensures views { OnOk result (views.new.items ≡ views.old.items ++ cons sight.now.tree.now sight.now.arrangement.now.parts above.now row.entry) }
+    ensures placed { OnOk result (placed.new.items ≡ put_nodes (placed_row sight.now.tree.now.recency row.entry) placed.old.items) }
+    ensures least { IfOk result (λ least. least ≡ least_place sight.now.tree.now.recency row.entry) }
 {
-    let Some(part) = row.part() else {
-        return Ok(sight.tree.recent_ids().len());
-    };
-    let kids = push_con(views, alloc, sight, above, part, &row.kids())?;
-    let rest = push_cons(views, placed, alloc, sight, above, &row.rest())?;
-    let floats = least_place(sight, &row.floats());
-    place_with(placed, sight, part.id, Least { kids, floats, rest })
+    let mut nodes = Vec::new(alloc);
+    let mut least = sight.tree.recent_ids().len();
+    let mut left = row;
+    while let Some(part) = left.part() {
+        let kids = push_con(views, alloc, sight, above, part, &left)?;
+        let floats = least_place(sight, left.floats());
+        least = least.min(list_node(&mut nodes, sight, part.id, kids, floats)?);
+        left = left.rest();
+    }
+    place_nodes(placed, nodes)?;
+    Ok(least)
 }
 
-/// Adds a node over its children, where it is a container, and tells the least place of an id among these.
+/// Adds the row's first node over its children, where it is a container, and tells the least place of an id among
+/// these.
 #[cycle(cons)]
 #[tactic(auto, using(crate::proofs::RowLemmas::kids_row))]
 fn push_con(
@@ -76,18 +81,19 @@ fn push_con(
     sight: &Sight<'_>,
     above: &Above,
     part: &Part,
-    kids: &Cursor<'_>,
+    row: &Cursor<'_>,
 ) -> Result<usize, NoMemory>
     requires sight { IsSight sight.now }
-    requires sound { IsKids kids.now }
-    ensures views { OnOk result (views.new.items ≡ views.old.items ++ con_views sight.now.tree.now sight.now.arrangement.now.parts above.now part.now (con_kind part.now.kind) kids.now
-        (cons sight.now.tree.now sight.now.arrangement.now.parts (over_kids sight.now.arrangement.now.parts part.now.id kids.now) kids.now)) }
-    ensures least { IfOk result (λ least. least ≡ least_place sight.now.tree.now.recency kids.now) }
+    requires sound { IsKids (first_kids row.now) }
+    ensures views { OnOk result (views.new.items ≡ views.old.items ++ con_views sight.now.tree.now sight.now.arrangement.now.parts above.now part.now (con_kind part.now.kind) (first_kids row.now)
+        (cons sight.now.tree.now sight.now.arrangement.now.parts (over_kids sight.now.arrangement.now.parts part.now.id (first_kids row.now)) (first_kids row.now))) }
+    ensures least { IfOk result (λ least. least ≡ least_place sight.now.tree.now.recency (first_kids row.now)) }
 {
     let NodeKind::Con(con) = &part.kind else {
-        return Ok(least_place(sight, kids));
+        return Ok(least_place(sight, row.kids()));
     };
-    let over = over_kids(sight, part.id, kids);
+    let kids = row.kids();
+    let over = over_kids(sight, part.id, &kids);
     let mut below = Below::new(alloc);
     let least = push_cons(
         &mut below.kids,
@@ -95,9 +101,9 @@ fn push_con(
         alloc,
         sight,
         &over,
-        kids,
+        row.kids(),
     )?;
-    match con_view(alloc, sight, above, part, con, kids) {
+    match con_view(alloc, sight, above, part, con, &kids) {
         Ok(view) => {
             push_over(views, alloc, view, below)?;
             Ok(least)

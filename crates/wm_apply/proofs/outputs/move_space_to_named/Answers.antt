@@ -5,4 +5,4 @@ use Rattle.wm_apply.proofs.outputs.move_space_to_named.Goals as goal
 
 pub move_workspace-requires-clause-space : goal.move_workspace-requires-clause-space
 move_workspace-requires-clause-space c =
-    workspace_is c.args.con c.in-Some-workspace_of.w c.args.t.now c.requires.sound (first_of (search rules, grind (arith, common_steps)))
+    workspace_is c.args.con _ c.args.t.now c.requires.sound (first_of (search rules, grind (arith, common_steps)))

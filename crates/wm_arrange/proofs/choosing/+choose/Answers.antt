@@ -10,14 +10,14 @@ use Rattle.wm_arrange.proofs.RowLemmas.{rest_fewer}
 use Rattle.wm_arrange.proofs.choosing.+choose.Goals as goal
 
 pub returns-clause-near : goal.returns-clause-near
-returns-clause-near t c = nearest_end c.args.recency.now.ids.now c.loop-part.left _ _ (sym c.part.ensures ∙ ap option_copied c.in_default.is) c.loop-part.invariant.nearest
+returns-clause-near t c = nearest_end c.args.recency.now.ids c.loop-part.left _ _ (sym c.part.ensures ∙ ap option_copied c.in_default.is) c.loop-part.invariant.nearest
 
 pub returns-clause-chosen : goal.returns-clause-chosen
-returns-clause-chosen t c = λ v once. chosen_end c.args.recency.now.ids.now v c.loop-part.left _ _ (sym c.part.ensures ∙ ap option_copied c.in_default.is) (c.loop-part.invariant.kept v once)
+returns-clause-chosen t c = λ v once. chosen_end c.args.recency.now.ids v c.loop-part.left _ _ (sym c.part.ensures ∙ ap option_copied c.in_default.is) (c.loop-part.invariant.kept v once)
 
 pub loop-part-preserved : goal.loop-part-preserved
 loop-part-preserved t c =
-    let ids = c.args.recency.now.ids.now in
+    let ids = c.args.recency.now.ids in
     let row = c.loop-part.left in
     let kept = c.loop-part.invariant in
     let first = sym c.part.ensures ∙ ap option_copied c.in-Some.is in

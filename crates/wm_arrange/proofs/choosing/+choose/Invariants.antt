@@ -14,8 +14,8 @@ abbrev pub invariant-loop-part : goal.invariant-loop-part
 invariant-loop-part l = record {
   left : node_count l.left ≤ node_count l.fn.row;
   fewer : (c : ConId) → tally c l.left ≤ tally c l.fn.row;
-  nearest : sooner l.near (nearest l.recency.ids.now l.left) ≡ nearest l.recency.ids.now l.fn.row;
-  kept : (c : ConId) → tally c l.fn.row ≤ 1 → option_or (choice_in l.recency.ids.now c l.left) (value_at l.chosen c) ≡ option_or (choice_in l.recency.ids.now c l.fn.row) (value_at l.initial.chosen c);
+  nearest : sooner l.near (nearest l.recency.ids l.left) ≡ nearest l.recency.ids l.fn.row;
+  kept : (c : ConId) → tally c l.fn.row ≤ 1 → option_or (choice_in l.recency.ids c l.left) (value_at l.chosen c) ≡ option_or (choice_in l.recency.ids c l.fn.row) (value_at l.initial.chosen c);
 }
 
 abbrev pub decreases-loop-part : goal.decreases-loop-part

@@ -1,5 +1,5 @@
 use Rattle.std.proofs.Common.{◌≡◌, ◌≤◌}
-use Rattle.wm_focus.specs.Walks.{held}
+use Rattle.wm_focus.specs.Walks.{climbed}
 use Rattle.wm_forest.specs.Forest.{node_count}
 use Rattle.wm_focus.proofs.rungs.+climb.Given as goal
 
@@ -13,5 +13,5 @@ decreases-loop-part l = node_count l.row
 abbrev pub invariant-loop-part : goal.invariant-loop-part
 invariant-loop-part l = record {
   left : node_count l.row ≤ node_count l.fn.row;
-  found : held l.aim l.d l.con l.row ≡ held l.aim l.d l.con l.fn.row;
+  found : climbed l.d l.con l.row ≡ climbed l.d l.con l.fn.row;
 }

@@ -1,6 +1,7 @@
-use Rattle.std.proofs.Common.{sym, rules}
+use Rattle.std.proofs.Common.{◌≡◌, false, rules}
 use Rattle.wm_focus.proofs.SplitLemmas.{split_cause}
 use Rattle.wm_focus.proofs.SubjectLemmas.{subject_there}
+use Rattle.wm_focus.specs.Splits.{gives_layout}
 use Rattle.wm_focus.proofs.splits.split.Goals as goal
 
 pub returns-in-Err : goal.returns-in-Err
@@ -9,7 +10,9 @@ returns-in-Err c = record {
   fine = search rules;
   err = search rules;
   cause =
+      let target = c.in_ok-target.ensures.laid in
+      let alone : gives_layout c.args.t.now c.args.con ≡ false = cc (c.if-gives_layout.ensures, target.at, target.layouts, target.own) in
       rw c.refused.ensures
-      (split_cause c.args.t.now c.args.con c.args.arg c.in-Err.error (subject_there c.args.t.now c.args.con c.requires) c.in_ok-layout_refusal.ensures.fine (sym c.if-gives_layout.ensures) c.in-Err.ensures.cause);
+      (split_cause c.args.t.now c.args.con c.args.arg c.in-Err.error (subject_there c.args.t.now c.args.con c.requires) c.in_ok-target.ensures.fine alone c.in-Err.ensures.cause);
   sound = search rules;
 }

@@ -8,7 +8,7 @@ use Rattle.wm_sizes.proofs.gaps.change_each.Given as goal
 
 -- what is left to be changed makes of this tree what all of it makes of the first, and the ids are those of the first
 pub record State (i : ℕ) (change : Change) (first t : TreeValue) : Type 0 where
-  pub sound : IsSound first → IsSound t
+  pub sound : IsSound t
   pub ids : t.recency ≡ first.recency
   pub within : i ≤ length first.recency
   pub left : each_gapped change (drop i first.recency) t ≡ each_gapped change first.recency first

@@ -6,8 +6,8 @@ use Rattle.wm_sizes.proofs.SetLemmas.{anew_sound}
 use Rattle.wm_sizes.specs.Tiled.{cannot, children_of, lacks, rung_deal}
 use Rattle.wm_sizes.proofs.tiled.share_anew.Goals as goal
 
-pub hand_out-requires : goal.hand_out-requires
-hand_out-requires c =
+pub hand_out-requires-clause-ready : goal.hand_out-requires-clause-ready
+hand_out-requires-clause-ready c =
     let no : cannot c.args.growth c.length_of-length.result c.deal_of-deal.result (children_of c.args.rung.parent c.args.t.now) ≡ false = first_of (search rules, grind (arith, common_steps)) in
     first_ready c.args.growth c.length_of-length.result c.deal_of-deal.result (children_of c.args.rung.parent c.args.t.now) no c.deal_of-deal.ensures.small c.requires.family.family.few
 

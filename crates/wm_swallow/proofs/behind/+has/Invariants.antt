@@ -1,9 +1,8 @@
-use Rattle.std.proofs.Common.{◌+◌, ◌*◌}
-use Rattle.wm_swallow.specs.SavedRows.{row_below, rows, size}
+use Rattle.std.proofs.Common.{◌≡◌, drop}
+use Rattle.wm_focus.specs.Marks.{bears}
+use Rattle.wm_swallow.specs.SavedRows.{all_marks, rows}
 use Rattle.wm_swallow.proofs.behind.+has.Given as goal
 
-abbrev pub decreases-has_mark : goal.decreases-has_mark
-decreases-has_mark l = 2 * size (rows l.nodes.now)
-
-abbrev pub decreases-has_mark_below : goal.decreases-has_mark_below
-decreases-has_mark_below l = 2 * size (row_below l.kind.now) + 1
+-- one with the mark is one of those that are left
+abbrev pub invariant-has_mark-loop-node : goal.invariant-has_mark-loop-node
+invariant-has_mark-loop-node l = bears l.mark (all_marks (rows l.nodes)) ≡ bears l.mark (all_marks (rows (drop l.node-index l.nodes)))

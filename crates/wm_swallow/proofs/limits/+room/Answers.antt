@@ -1,13 +1,8 @@
-use Rattle.std.proofs.Common.{◌≡◌, sym, subst, ap, arith, ◌+◌, ◌<◌}
+use Rattle.std.proofs.Common.{◌≡◌, sym, subst, ◌+◌, ◌<◌}
 use Rattle.std.specs.Prelude.{MatchOption}
 use Rattle.wm_swallow.specs.SavedRows.{Saved, row_below, rows, size}
 use Rattle.wm_swallow.proofs.SavedLemmas.{below_is}
 use Rattle.wm_swallow.proofs.limits.+room.Goals as goal
-
-pub room_after_kind-room_after-requires : goal.room_after_kind-room_after-requires
-room_after_kind-room_after-requires t c =
-    let e : row_below c.args.kind.now ≡ rows c.items.result.now = below_is _ _ _ _ c.in-Split.is c.items.ensures in
-    (omega (arith, ap size e), tt)
 
 pub room_after_kind-returns-in-Split : goal.room_after_kind-returns-in-Split
 room_after_kind-returns-in-Split t c =

@@ -1,9 +1,7 @@
-use Rattle.std.proofs.Common.{◌+◌, ◌*◌}
-use Rattle.wm_swallow.specs.SavedRows.{row_below, rows, size}
+use Rattle.std.proofs.Common.{◌≡◌, ◌+◌, drop}
+use Rattle.wm_swallow.specs.SavedRows.{rows, size}
 use Rattle.wm_swallow.proofs.limits.+room.Given as goal
 
-abbrev pub decreases-room_after : goal.decreases-room_after
-decreases-room_after l = 2 * size (rows l.nodes.now)
-
-abbrev pub decreases-room_after_kind : goal.decreases-room_after_kind
-decreases-room_after_kind l = 2 * size (row_below l.kind.now) + 1
+-- there is as much room for those that are left as there was for all
+abbrev pub invariant-room_after-loop-node : goal.invariant-room_after-loop-node
+invariant-room_after-loop-node l = l.left + size (rows l.nodes) ≡ l.fn.room + size (rows (drop l.node-index l.nodes))

@@ -1,12 +1,7 @@
-use Rattle.std.proofs.Common.{◌≡◌, sym, subst, ap, arith}
-use Rattle.wm_swallow.specs.SavedRows.{Saved, row_below, rows, size, fits}
+use Rattle.std.proofs.Common.{◌≡◌, sym, subst}
+use Rattle.wm_swallow.specs.SavedRows.{Saved, row_below, rows, fits}
 use Rattle.wm_swallow.proofs.SavedLemmas.{below_is}
 use Rattle.wm_swallow.proofs.shapes.+depth.Goals as goal
-
-pub fits_kind-fits-requires : goal.fits_kind-fits-requires
-fits_kind-fits-requires t c =
-    let e : row_below c.args.kind.now ≡ rows c.items.result.now = below_is _ _ _ _ c.in-Split.is c.items.ensures in
-    (omega (arith, ap size e), tt)
 
 pub fits_kind-returns-in-Split : goal.fits_kind-returns-in-Split
 fits_kind-returns-in-Split t c =

@@ -1,9 +1,7 @@
-use Rattle.std.proofs.Common.{◌+◌, ◌*◌}
-use Rattle.wm_swallow.specs.SavedRows.{row_below, rows, size}
+use Rattle.std.proofs.Common.{◌≡◌, drop}
+use Rattle.wm_swallow.specs.SavedRows.{fits, rows}
 use Rattle.wm_swallow.proofs.shapes.+depth.Given as goal
 
-abbrev pub decreases-fits : goal.decreases-fits
-decreases-fits l = 2 * size (rows l.nodes.now)
-
-abbrev pub decreases-fits_kind : goal.decreases-fits_kind
-decreases-fits_kind l = 2 * size (row_below l.kind.now) + 1
+-- all fit where those that are left do
+abbrev pub invariant-fits-loop-node : goal.invariant-fits-loop-node
+invariant-fits-loop-node l = fits l.levels (rows l.nodes) ≡ fits l.levels (rows (drop l.node-index l.nodes))

@@ -1,13 +1,8 @@
-use Rattle.std.proofs.Common.{◌≡◌, sym, subst, ap, arith}
+use Rattle.std.proofs.Common.{◌≡◌, sym, subst}
 use Rattle.wm_swallow.specs.Limits.{is_overmarked}
-use Rattle.wm_swallow.specs.SavedRows.{Saved, row_below, rows, size}
+use Rattle.wm_swallow.specs.SavedRows.{Saved, row_below, rows}
 use Rattle.wm_swallow.proofs.SavedLemmas.{below_is}
 use Rattle.wm_swallow.proofs.shapes.+marks.Goals as goal
-
-pub is_overmarked_kind-is_overmarked-requires : goal.is_overmarked_kind-is_overmarked-requires
-is_overmarked_kind-is_overmarked-requires t c =
-    let e : row_below c.args.kind.now ≡ rows c.items.result.now = below_is _ _ _ _ c.in-Split.is c.items.ensures in
-    (omega (arith, ap size e), tt)
 
 pub is_overmarked_kind-returns-in-Split : goal.is_overmarked_kind-returns-in-Split
 is_overmarked_kind-returns-in-Split t c =

@@ -1,9 +1,8 @@
-use Rattle.std.proofs.Common.{◌+◌, ◌*◌}
-use Rattle.wm_swallow.specs.SavedRows.{row_below, rows, size}
+use Rattle.std.proofs.Common.{◌≡◌, drop}
+use Rattle.wm_swallow.specs.Limits.{is_overmarked}
+use Rattle.wm_swallow.specs.SavedRows.{rows}
 use Rattle.wm_swallow.proofs.shapes.+marks.Given as goal
 
-abbrev pub decreases-is_overmarked : goal.decreases-is_overmarked
-decreases-is_overmarked l = 2 * size (rows l.nodes.now)
-
-abbrev pub decreases-is_overmarked_kind : goal.decreases-is_overmarked_kind
-decreases-is_overmarked_kind l = 2 * size (row_below l.kind.now) + 1
+-- one with too many is one of those that are left
+abbrev pub invariant-is_overmarked-loop-node : goal.invariant-is_overmarked-loop-node
+invariant-is_overmarked-loop-node l = is_overmarked (rows l.nodes) ≡ is_overmarked (rows (drop l.node-index l.nodes))

@@ -1,13 +1,8 @@
-use Rattle.std.proofs.Common.{◌≡◌, sym, subst, ap, arith}
+use Rattle.std.proofs.Common.{◌≡◌, sym, subst}
 use Rattle.std.specs.Prelude.{◌||◌, nat_lt}
-use Rattle.wm_swallow.specs.SavedRows.{Saved, row_below, rows, size, is_wide, row_size}
+use Rattle.wm_swallow.specs.SavedRows.{Saved, row_below, rows, is_wide, row_size}
 use Rattle.wm_swallow.proofs.SavedLemmas.{below_is}
 use Rattle.wm_swallow.proofs.shapes.+width.Goals as goal
-
-pub is_wide_kind-is_wide_row-requires : goal.is_wide_kind-is_wide_row-requires
-is_wide_kind-is_wide_row-requires t c =
-    let e : row_below c.args.kind.now ≡ rows c.items.result.now = below_is _ _ _ _ c.in-Split.is c.items.ensures in
-    (omega (arith, ap size e), tt)
 
 pub is_wide_kind-returns-in-Split : goal.is_wide_kind-returns-in-Split
 is_wide_kind-returns-in-Split t c =

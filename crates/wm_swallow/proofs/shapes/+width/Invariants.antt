@@ -1,12 +1,7 @@
-use Rattle.std.proofs.Common.{◌+◌, ◌*◌}
-use Rattle.wm_swallow.specs.SavedRows.{row_below, rows, size}
+use Rattle.std.proofs.Common.{◌≡◌, drop}
+use Rattle.wm_swallow.specs.SavedRows.{is_wide, rows}
 use Rattle.wm_swallow.proofs.shapes.+width.Given as goal
 
-abbrev pub decreases-is_wide : goal.decreases-is_wide
-decreases-is_wide l = 3 * size (rows l.nodes.now)
-
-abbrev pub decreases-is_wide_kind : goal.decreases-is_wide_kind
-decreases-is_wide_kind l = 3 * size (row_below l.kind.now) + 2
-
-abbrev pub decreases-is_wide_row : goal.decreases-is_wide_row
-decreases-is_wide_row l = 3 * size (rows l.nodes.now) + 1
+-- a wide one is one of those that are left
+abbrev pub invariant-is_wide-loop-node : goal.invariant-is_wide-loop-node
+invariant-is_wide-loop-node l = is_wide (rows l.nodes) ≡ is_wide (rows (drop l.node-index l.nodes))

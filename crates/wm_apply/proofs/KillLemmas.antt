@@ -1,0 +1,39 @@
+-- The row from a node on begins with that node.
+use Rattle.std.proofs.Common.{◌≡◌, Bool, true, false, cond, ◌||◌, List, [], Option, None, Some, refl}
+use Rattle.std.specs.Option.{option_or}
+use Rattle.std.specs.Prelude.{is_some}
+use Rattle.wm_base.specs.declared.ids.ConId.{ConId}
+use Rattle.wm_apply.specs.Kills.{asked_of, con_windows, row_at}
+use Rattle.wm_forest.specs.Forest.{Forest, end, con}
+use Rattle.wm_forest.specs.Look.{con_kind, first_part, has, kind_by, only, same}
+use Rattle.wm_tree.specs.TreeValue.{TreeValue}
+
+-- the row is there where the node is, and begins with what was found
+abbrev IsFrom : Option Forest → Bool → Forest → Type 0
+IsFrom None here found = here ≡ false
+IsFrom (Some row) here found = (here ≡ true) × (first_part found ≡ first_part row)
+
+from : (c : ConId) (f : Forest) → IsFrom (row_at c f) (has c f) (only c f)
+from c end = refl
+from c (con part kids floats rest) = step (same part.id c) (row_at c kids) (row_at c floats) (row_at c rest) (has c kids) (has c floats) (has c rest) (only c kids) (only c floats) (only c rest) (from c kids) (from c floats) (from c rest)
+  where
+    step : (s : Bool) (a b c : Option Forest) (k l r : Bool) (f g h : Forest) → IsFrom a k f → IsFrom b l g → IsFrom c r h
+        → IsFrom (cond s (Some (con part kids floats rest)) (option_or a (option_or b c))) (s || k || l || r) (cond s (con part kids floats end) (cond k f (cond l g h)))
+    step true a b c k l r f g h x y z = (refl, refl)
+    step false (Some row) b c k l r f g h x y z = rw x.0 (refl, x.1)
+    step false None (Some row) c k l r f g h x y z = rw (x, y.0) (refl, y.1)
+    step false None None (Some row) k l r f g h x y z = rw (x, y, z.0) (refl, z.1)
+    step false None None None k l r f g h x y z = rw (x, y, z) refl
+
+-- a container's windows are those of the row's first node, if that is a container
+pub asked_at : (c : ConId) (t : TreeValue) (row : Forest) → row_at c t.nodes ≡ Some row → asked_of c t ≡ con_windows row
+asked_at c t row e =
+    let same : first_part (only c t.nodes) ≡ first_part row = (rw e at (from c t.nodes)).1 in
+    rw (e, same) refl
+
+pub none_asked : (c : ConId) (t : TreeValue) → row_at c t.nodes ≡ None → asked_of c t ≡ []
+none_asked c t e = rw e (by (is_some (kind_by con_kind (first_part (only c t.nodes)))))
+  where
+    by : (b : Bool) → ◌≡◌ {A = List ConId} (cond b [] []) []
+    by true = refl
+    by false = refl

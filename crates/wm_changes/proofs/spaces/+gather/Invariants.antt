@@ -1,5 +1,0 @@
-use Rattle.wm_forest.specs.Forest.{node_count}
-use Rattle.wm_changes.proofs.spaces.+gather.Given as goal
-
-abbrev pub decreases-gather : goal.decreases-gather
-decreases-gather l = node_count l.row

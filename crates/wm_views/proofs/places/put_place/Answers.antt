@@ -1,7 +1,0 @@
-use Rattle.std.proofs.Common.{ap, ◌∙◌}
-use Rattle.wm_views.specs.Maps.{value_at}
-use Rattle.wm_views.proofs.MapLemmas.{find_insert}
-use Rattle.wm_views.proofs.places.put_place.Goals as goal
-
-pub returns : goal.returns
-returns c = λ v. ap (λ m. value_at m v) c.in_ok-insert.ensures.ok ∙ find_insert c.args.id v c.args.at c.args.map.now
