@@ -1,6 +1,6 @@
 #!/bin/sh
-# Times 20,000 commands of each kind over 16, 128 and 1,024 windows in splits of a workspace, the time of opening
-# the windows taken off, and prints commands a second and how the cost of one grows with the windows.
+# Times 20,000 commands of each kind over 16, 128 and 1,024 windows in splits of a workspace, and 2,000 over 4,032, the time of
+# opening the windows taken off, and prints commands a second and how the cost of one grows with the windows.
 # usage: bench/commands.sh [PROGRAM]
 set -eu
 . "$(dirname "$0")/program.sh"
@@ -43,13 +43,14 @@ def seconds(lines):
 
 for name, texts in KINDS:
     costs = []
-    for groups, each in [(4, 4), (8, 16), (32, 32)]:
+    for groups, each in [(4, 4), (8, 16), (32, 32), (63, 64)]:
+        count = COMMANDS if groups * each <= 1024 else COMMANDS // 10
         opened = windows(groups, each)
         base, _ = seconds(opened)
-        lines = [("run " + texts[n % len(texts)]) for n in range(COMMANDS)]
+        lines = [("run " + texts[n % len(texts)]) for n in range(count)]
         total, _ = seconds(opened + lines)
-        costs.append((total - base) / COMMANDS)
-    print("%s: %s commands a second over 16, 128 and 1,024 windows; %.1f and %.1f times the cost of 16"
-          % (name, ", ".join("{:,}".format(int(1 / c)) for c in costs), costs[1] / costs[0], costs[2] / costs[0]))
+        costs.append((total - base) / count)
+    print("%s: %s commands a second over 16, 128, 1,024 and 4,032 windows; %s times the cost of 16"
+          % (name, ", ".join("{:,}".format(int(1 / c)) for c in costs), ", ".join("%.1f" % (c / costs[0]) for c in costs[1:])))
 print("i3 is not measured: " + ("it is not here" if shutil.which("i3") is None else "it needs a display"))
 PROGRAM

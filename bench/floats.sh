@@ -1,6 +1,6 @@
 #!/bin/sh
-# Takes the processor's time of 20,000 commands on floating windows over 20 and over 200 of them, the time of opening them taken off, and prints
-# commands a second and how the cost of one grows with the windows.
+# Takes the processor's time of 20,000 commands on floating windows over 20 and over 200 of them, and of 2,000 over 1,024 and over 4,090, the time
+# of opening them taken off, and prints commands a second and how the cost of one grows with the windows.
 # usage: bench/floats.sh [PROGRAM]
 set -eu
 . "$(dirname "$0")/program.sh"
@@ -32,13 +32,14 @@ def opened(windows):
 
 for kind, texts in KINDS.items():
     costs = []
-    for windows in [20, 200]:
+    for windows in [20, 200, 1024, 4090]:
+        count = COMMANDS if windows <= 200 else COMMANDS // 10
         base, _ = measured(program, "replay", folder, opened(windows))
-        lines = opened(windows) + ["run " + texts[n % len(texts)] for n in range(COMMANDS)]
+        lines = opened(windows) + ["run " + texts[n % len(texts)] for n in range(count)]
         total, _ = measured(program, "replay", folder, lines)
         if b"error" in replayed(program, lines):
             sys.exit("a command is refused")
-        costs.append((total - base) / COMMANDS)
-    print("%s: %s commands a second over 20 and 200 floating windows; %.1f times the cost"
-          % (kind, " and ".join("{:,}".format(int(1 / c)) for c in costs), costs[1] / costs[0]))
+        costs.append((total - base) / count)
+    print("%s: %s commands a second over 20, 200, 1,024 and 4,090 floating windows; %s times the cost of 20"
+          % (kind, ", ".join("{:,}".format(int(1 / c)) for c in costs), ", ".join("%.1f" % (c / costs[0]) for c in costs[1:])))
 PROGRAM

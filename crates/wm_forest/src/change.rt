@@ -283,8 +283,7 @@ impl Row {
         self.hang_settled(done, shown, gone);
     }
 
-    /// Puts the nodes of a row, the last one first, before those of this one, or before those of `gone` where they are
-    /// vacant.
+    /// Puts the nodes of a row, the last one first, before those of this one, or the vacant ones before `gone`.
     fn hang_settled(&mut self, mut done: Row, shown: Option<ConId>, gone: &mut Row)
         ensures kept { self.new ≡ kept_onto (vacant_in shown) done self.old }
         ensures taken { gone.new ≡ taken_onto (vacant_in shown) done gone.old }
