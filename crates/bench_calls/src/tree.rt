@@ -64,7 +64,9 @@ fn make(tree: &mut Tree, call: Call, con: ConId) -> Result<(), Fault> {
         }
         Call::Raise => tree.raise(con),
         Call::Move => {
-            if let Some(parent) = tree.parent(con) {
+            if let Some(parent) = tree.parent(con)
+                && !tree.is_within(con, parent)
+            {
                 tree.move_to(con, Place::Last(parent))?;
             }
         }

@@ -1,4 +1,8 @@
 //! The small desktop that criteria are tried on.
+ghost use Rattle.std.specs.Prelude.{IfOk};
+ghost use Rattle.wm_forest.specs.Place.{IsPlace};
+ghost use Rattle.wm_tree.specs.Sound.{IsSound};
+
 use case_data::Fault;
 use std::alloc::Global;
 use wm_base::{Border, ConId, Edges, Layout, OutputPlan, Props, Rect, Size, Text};
@@ -24,7 +28,9 @@ const SPACE: ConId = ConId(3);
 
 /// Workspace 3 with the windows 4 and 5, the split 6 that holds 5, the floating window 7, and 8 in the scratchpad.
 /// Window 4 is the focused one; 7, 5 and 8 are urgent, in this order.
-pub fn desk(alloc: Global) -> Result<Tree, Fault> {
+pub fn desk(alloc: Global) -> Result<Tree, Fault>
+    ensures { IfOk result IsSound }
+{
     let mut tree = one_space(alloc)?;
     match furnish(alloc, &mut tree) {
         Ok(()) => Ok(tree),
@@ -35,20 +41,32 @@ pub fn desk(alloc: Global) -> Result<Tree, Fault> {
     }
 }
 
-fn furnish(alloc: Global, tree: &mut Tree) -> Result<(), Fault> {
+fn furnish(alloc: Global, tree: &mut Tree) -> Result<(), Fault>
+    requires { IsSound tree.old }
+    ensures { IsSound tree.new }
+{
     open_windows(alloc, tree)?;
     mark_some(alloc, tree)?;
-    for con in [ConId(7), ConId(5), ConId(8)] {
-        if tree.is_urgent(con) {
-            return Err(Fault::BadLine);
-        }
-        done(tree.add_urgent(con).err())?;
-    }
+    make_urgent(tree, ConId(7))?;
+    make_urgent(tree, ConId(5))?;
+    make_urgent(tree, ConId(8))?;
     tree.raise(ConId(4));
     Ok(())
 }
 
-fn one_space(alloc: Global) -> Result<Tree, Fault> {
+fn make_urgent(tree: &mut Tree, con: ConId) -> Result<(), Fault>
+    requires { IsSound tree.old }
+    ensures { IsSound tree.new }
+{
+    if tree.is_urgent(con) {
+        return Err(Fault::BadLine);
+    }
+    done(tree.add_urgent(con).err())
+}
+
+fn one_space(alloc: Global) -> Result<Tree, Fault>
+    ensures { IfOk result IsSound }
+{
     let plans = [OutputPlan {
         name: Text::new(alloc, "A")?,
         rect: SCREEN,
@@ -66,23 +84,58 @@ fn done(refusal: Option<TreeRefusal>) -> Result<(), Fault> {
     }
 }
 
-fn open_windows(alloc: Global, tree: &mut Tree) -> Result<(), Fault> {
-    open(alloc, tree, Place::Last(SPACE), "term", "normal")?;
-    open(alloc, tree, Place::Last(SPACE), "web", "normal")?;
-    done(tree.wrap(ConId(5), Layout::Tabbed).err())?;
-    let floating = Place::Float(SPACE, SCREEN);
-    open(alloc, tree, floating, "term", "dialog")?;
+fn open_windows(alloc: Global, tree: &mut Tree) -> Result<(), Fault>
+    requires { IsSound tree.old }
+    ensures { IsSound tree.new }
+{
+    open_tiled(alloc, tree, "term")?;
+    open_tiled(alloc, tree, "web")?;
+    wrap(tree, ConId(5))?;
+    open_floating(alloc, tree)?;
     open(alloc, tree, Place::Scratchpad(SCREEN), "web", "dialog")
 }
 
+/// Opens a window last in the workspace.
+#[tactic(auto, using(crate::proofs::PlaceLemmas::space_takes))]
+fn open_tiled(alloc: Global, tree: &mut Tree, class: &str) -> Result<(), Fault>
+    requires { IsSound tree.old }
+    ensures { IsSound tree.new }
+{
+    if tree.space(SPACE).is_none() {
+        return Err(Fault::BadLine);
+    }
+    open(alloc, tree, Place::Last(SPACE), class, "normal")
+}
+
+/// Opens a floating window in the workspace.
+fn open_floating(alloc: Global, tree: &mut Tree) -> Result<(), Fault>
+    requires { IsSound tree.old }
+    ensures { IsSound tree.new }
+{
+    if tree.space(SPACE).is_none() {
+        return Err(Fault::BadLine);
+    }
+    open(alloc, tree, Place::Float(SPACE, SCREEN), "term", "dialog")
+}
+
+/// Puts a split around the window.
+#[tactic(auto, using(crate::proofs::PlaceLemmas::tiled_is))]
+fn wrap(tree: &mut Tree, con: ConId) -> Result<(), Fault>
+    requires { IsSound tree.old }
+    ensures { IsSound tree.new }
+{
+    if !tree.is_tiled(con) {
+        return Err(Fault::BadLine);
+    }
+    done(tree.wrap(con, Layout::Tabbed).err())
+}
+
 /// Opens a window at a place.
-fn open(
-    alloc: Global,
-    tree: &mut Tree,
-    place: Place,
-    class: &str,
-    kind: &str,
-) -> Result<(), Fault> {
+fn open(alloc: Global, tree: &mut Tree, place: Place, class: &str, kind: &str) -> Result<(), Fault>
+    requires place { IsPlace place tree.old.nodes }
+    requires sound { IsSound tree.old }
+    ensures { IsSound tree.new }
+{
     let new = NewCon::Window {
         props: props(alloc, class, kind)?,
         owner: 9,
@@ -126,13 +179,23 @@ fn ended(alloc: Global, class: &str, end: &str) -> Result<Text, Fault> {
     Ok(Text::new(alloc, whole.as_str())?)
 }
 
-fn mark_some(alloc: Global, tree: &mut Tree) -> Result<(), Fault> {
-    for (con, name) in [(6, "__focused__"), (4, "a"), (4, "b")] {
-        let name = Text::new(alloc, name)?;
-        if tree.bearer(None, &name).is_some() {
-            return Err(Fault::BadLine);
-        }
-        done(tree.add_mark(ConId(con), &name).err())?;
+fn mark_some(alloc: Global, tree: &mut Tree) -> Result<(), Fault>
+    requires { IsSound tree.old }
+    ensures { IsSound tree.new }
+{
+    mark(alloc, tree, ConId(6), "__focused__")?;
+    mark(alloc, tree, ConId(4), "a")?;
+    mark(alloc, tree, ConId(4), "b")
+}
+
+/// Gives the container a mark that nothing has.
+fn mark(alloc: Global, tree: &mut Tree, con: ConId, name: &str) -> Result<(), Fault>
+    requires { IsSound tree.old }
+    ensures { IsSound tree.new }
+{
+    let name = Text::new(alloc, name)?;
+    if tree.bearer(None, &name).is_some() || tree.container(con).is_none() {
+        return Err(Fault::BadLine);
     }
-    Ok(())
+    done(tree.add_mark(con, &name).err())
 }

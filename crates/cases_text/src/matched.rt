@@ -1,6 +1,7 @@
 //! Cases of matching: which containers of the small desktop criteria match, all at once and one by one.
 ghost use Rattle.std.specs.Prelude.{IfOk, IsTrue};
 ghost use Rattle.wm_criteria.specs.Prepared.{is_built};
+ghost use Rattle.wm_tree.specs.Sound.{IsSound};
 
 use crate::desk::desk;
 use case_data::{Fault, Words, string_of};
@@ -41,7 +42,8 @@ fn tell_on_desk(alloc: Global, prepared: &Prepared, out: &mut String) -> Result<
 
 /// The containers that match, found at once.
 fn tell_all(alloc: Global, tree: &Tree, prepared: &Prepared, out: &mut String) -> Result<(), Fault>
-    requires { IsTrue (is_built prepared.now) }
+    requires built { IsTrue (is_built prepared.now) }
+    requires sound { IsSound tree.now }
 {
     out.push_str("  all:")?;
     for con in matching(alloc, tree, prepared, 0)? {

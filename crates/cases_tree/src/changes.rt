@@ -117,13 +117,16 @@ fn add_workspace(desk: &mut Desk, words: &mut Words<'_>, out: &mut String) -> Re
     tell_id(out, answer)
 }
 
-/// `move 6 last 4`: moves a container to a place.
+/// `move 6 last 4`: moves a container to a place outside of it.
 pub fn move_con(desk: &mut Desk, words: &mut Words<'_>, out: &mut String) -> Result<(), Fault>
     requires { Holds desk.old }
     ensures { Holds desk.new }
 {
     let con = words.con()?;
     let at = place(&desk.tree, words)?;
+    if desk.tree.is_within(con, at.named()) {
+        return Err(Fault::BadLine);
+    }
     desk.sound = false;
     let answer = desk.tree.move_to(con, at);
     tell_done(out, answer)

@@ -11,17 +11,13 @@ use Rattle.wm_forest.specs.declared.part.NodeKind.{NodeKind}
 use Rattle.wm_forest.specs.declared.part.NodeKind.TheVariants.{Root, Output, Space, Con}
 use Rattle.wm_forest.specs.declared.part.Part.{Part}
 use Rattle.wm_forest.specs.declared.spot.Spot.{Spot}
+pub use Rattle.wm_forest.specs.Each.{mapped}
 use Rattle.wm_forest.specs.Forest.{Forest, end, con}
 use Rattle.wm_forest.specs.Kinds.{changed, kind_changed}
 use Rattle.wm_forest.specs.Look.{first_part, has, only, same}
 use Rattle.wm_forest.specs.SoundRow.{tally}
 use Rattle.wm_forest.specs.Spot.{space_by, spot_below, spot_in, spot_of}
 use Rattle.wm_tree.specs.TreeValue.{is_con_kind}
-
--- the forest with each part changed
-abbrev pub mapped : (Part → Part) → Forest → Forest
-mapped g end = end
-mapped g (con part kids floats rest) = con (g part) (mapped g kids) (mapped g floats) (mapped g rest)
 
 pub mapped-mapped : (g h : Part → Part) (f : Forest) → mapped g (mapped h f) ≡ mapped (λ p. g (h p)) f
 mapped-mapped g h end = refl

@@ -15,7 +15,7 @@ use Rattle.law_lasting.specs.Lasting.{Lasts}
 use Rattle.wm_sizes.specs.Borders.{cycle_border_tree, next_border, turned}
 use Rattle.wm_sizes.specs.Climbing.{rung_of, side_axis}
 use Rattle.wm_sizes.specs.declared.climbing.Rung.{Rung}
-use Rattle.wm_sizes.specs.declared.deals.Sibling.{Sibling}
+use Rattle.wm_forest.specs.declared.shares.Sibling.{Sibling}
 use Rattle.wm_sizes.specs.declared.gaps.Change.{Change}
 use Rattle.wm_sizes.specs.declared.tiled.Growth.{Growth}
 use Rattle.wm_sizes.specs.Deals.{dealt, siblings}
@@ -30,7 +30,9 @@ use Rattle.wm_shared.specs.Subject.{is_hidden, is_space}
 use Rattle.wm_sizes.specs.Deals.{fits_all}
 use Rattle.wm_sizes.specs.Floating.{as_rect, grow_refusal, grow_tree, grown, step}
 use Rattle.wm_forest.specs.SoundRow.{IsOutputRect}
-use Rattle.wm_sizes.specs.Gaps.{default_gapped, each_gapped, gapped, own_gapped, regapped, set_gaps_tree, space_gapped}
+use Rattle.wm_sizes.proofs.AllGapLemmas.{all as gapped_all}
+use Rattle.wm_sizes.proofs.GapSteps.{gaps_last}
+use Rattle.wm_sizes.specs.Gaps.{default_gapped, gapped, own_gapped, regapped, set_gaps_tree}
 use Rattle.wm_sizes.specs.Resizing.{resize_refusal, resize_tree}
 use Rattle.wm_sizes.specs.Tiled.{cannot, children_of, lacks, length_of, rung_deal, rung_refusal, rung_tree, shares_set, tiled_refusal, tiled_tree}
 use Rattle.wm_sizes.specs.Windows.{border_set}
@@ -98,20 +100,16 @@ module _ {P : TreeValue → Type 0} (k : Lasts P) where
   last_regapped change w None t p = p
   last_regapped change w (Some z) t p = k.editing w (edits.Gaps (gapped change z.inner z.outer).0 (gapped change z.inner z.outer).1) t refl tt p
 
-  last_each_gapped : (change : Change) (ids : List ConId) (t : TreeValue) → P t → P (each_gapped change ids t)
-  last_each_gapped change [] t p = p
-  last_each_gapped change (w ∷ ids) t p = last_each_gapped change ids (space_gapped change w t) (last_regapped change w (kind_of space_kind w t.nodes) t p)
-
   last_own : (change : Change) (w : Option ConId) (t : TreeValue) → P t → P (own_gapped change w t)
   last_own change None t p = p
   last_own change (Some w) t p = last_regapped change w (kind_of space_kind w t.nodes) t p
 
-  pub last_gaps : (c : ConId) (outer all : Bool) (op : GapOp) (px : ℕ) (t : TreeValue) → P t → P (set_gaps_tree c outer all op px t)
-  last_gaps c outer true op px t p =
+  pub last_gaps : (c : ConId) (outer all : Bool) (op : GapOp) (px : ℕ) (t : TreeValue) → IsSound t → P t → P (set_gaps_tree c outer all op px t)
+  last_gaps c outer true op px t s p =
       let change : Change = record { outer = outer; op = op; px = px } in
-      let each : TreeValue = each_gapped change t.recency t in
-      k.alike each (default_gapped change each) refl refl refl refl (last_each_gapped change t.recency t p)
-  last_gaps c outer false op px t p = last_own (record { outer = outer; op = op; px = px }) (workspace_of t c) t p
+      let each : TreeValue = record t { nodes = gapped_all (gapped change) t.nodes } in
+      k.alike each (default_gapped change each) refl refl refl refl (gaps_last P (λ w a b u q. k.editing w (edits.Gaps a b) u refl tt q) (gapped change) t s p)
+  last_gaps c outer false op px t s p = last_own (record { outer = outer; op = op; px = px }) (workspace_of t c) t p
 
   -- ---- sizes
 

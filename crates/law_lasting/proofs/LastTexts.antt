@@ -92,7 +92,7 @@ module _ {P : TreeValue → Type 0} (k : Lasts P) where
   last_row env how (commands.ResizeSet w high) c t sub h p = last_rect k _ c t (λ r. set_fits c w high t h r) p
   last_row env how (commands.SetBorder border) c t sub h p = last_border k border c t p
   last_row env how commands.CycleBorder c t sub h p = last_cycled k c t p
-  last_row env how (commands.Gaps outer all op px) c t sub h p = last_gaps k c outer all op px t p
+  last_row env how (commands.Gaps outer all op px) c t sub h p = last_gaps k c outer all op px t sub.sound p
   last_row env how (commands.TitleFormat format) c t sub h p = last_format k c format t p
   last_row env how other c t sub h p = p
 

@@ -13,7 +13,7 @@ use Rattle.wm_opens.specs.Opens.{is_window_of, is_window_part}
 use Rattle.wm_shared.specs.Rects.{output_part_of, rect_of}
 use Rattle.wm_shared.specs.Subject.{is_hidden}
 use Rattle.wm_sizes.specs.declared.deals.Deal.{Deal}
-use Rattle.wm_sizes.specs.declared.deals.Sibling.{Sibling}
+use Rattle.wm_forest.specs.declared.shares.Sibling.{Sibling}
 use Rattle.wm_sizes.specs.Deals.{dealt, fits_all, share_after, turn_after}
 use Rattle.wm_spaces.specs.Sending.{sent_place, shifted}
 use Rattle.wm_forest.proofs.OnceLemmas.{spot_floats}

@@ -28,7 +28,7 @@ use Rattle.wm_sizes.specs.Deals.{dealt, fits, fits_all, gained, is_named, is_par
 use Rattle.wm_sizes.specs.declared.climbing.Climbed.{Climbed}
 use Rattle.wm_sizes.specs.declared.climbing.Rung.{Rung}
 use Rattle.wm_sizes.specs.declared.deals.Deal.{Deal}
-use Rattle.wm_sizes.specs.declared.deals.Sibling.{Sibling}
+use Rattle.wm_forest.specs.declared.shares.Sibling.{Sibling}
 use Rattle.wm_sizes.specs.declared.tiled.Growth.{Growth}
 use Rattle.wm_sizes.specs.Laws.{SharesAnew, share_among}
 use Rattle.wm_sizes.specs.Resizing.{resize_refusal, resize_tree}

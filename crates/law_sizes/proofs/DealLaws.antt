@@ -19,7 +19,7 @@ use Rattle.wm_sizes.specs.Climbing.{rung_of, side_axis}
 use Rattle.wm_sizes.specs.Deals.{dealt, fits, fits_all, gained, is_named, is_partner, part, share_after, siblings, turn_after}
 use Rattle.wm_sizes.specs.declared.climbing.Rung.{Rung}
 use Rattle.wm_sizes.specs.declared.deals.Deal.{Deal}
-use Rattle.wm_sizes.specs.declared.deals.Sibling.{Sibling}
+use Rattle.wm_forest.specs.declared.shares.Sibling.{Sibling}
 use Rattle.wm_sizes.specs.declared.tiled.Growth.{Growth}
 use Rattle.wm_sizes.specs.Laws.{SharesAnew, share_among}
 use Rattle.wm_sizes.specs.Tiled.{HasFamily, cannot, children_of, lacks, length_of, rung_deal, rung_refusal, rung_tree, tiled_refusal}

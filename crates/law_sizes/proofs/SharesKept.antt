@@ -9,7 +9,7 @@ use Rattle.wm_sizes.specs.Climbing.{rung_of, side_axis}
 use Rattle.wm_sizes.specs.Deals.{dealt, share_after, siblings, turn_after}
 use Rattle.wm_sizes.specs.declared.climbing.Rung.{Rung}
 use Rattle.wm_sizes.specs.declared.deals.Deal.{Deal}
-use Rattle.wm_sizes.specs.declared.deals.Sibling.{Sibling}
+use Rattle.wm_forest.specs.declared.shares.Sibling.{Sibling}
 use Rattle.wm_sizes.specs.declared.tiled.Growth.{Growth}
 use Rattle.wm_sizes.specs.Tiled.{children_of, rung_deal, rung_tree, shares_set}
 use Rattle.wm_forest.proofs.RecencyLemmas.{same_is, same_self}

@@ -4,7 +4,10 @@ use Rattle.std.specs.Option.{option_or}
 use Rattle.std.specs.Prelude.{is_some}
 use Rattle.wm_base.specs.declared.ids.ConId.{ConId}
 use Rattle.wm_apply.specs.Kills.{asked_of, con_windows, row_at}
+use Rattle.wm_forest.specs.declared.part.NodeKind.{NodeKind}
+use Rattle.wm_forest.specs.declared.part.NodeKind.TheVariants.{Root, Output, Space, Con}
 use Rattle.wm_forest.specs.Forest.{Forest, end, con}
+use Rattle.wm_forest.specs.Kinds.{is_con_kind}
 use Rattle.wm_forest.specs.Look.{con_kind, first_part, has, kind_by, only, same}
 use Rattle.wm_tree.specs.TreeValue.{TreeValue}
 
@@ -24,6 +27,12 @@ from c (con part kids floats rest) = step (same part.id c) (row_at c kids) (row_
     step false None (Some row) c k l r f g h x y z = rw (x, y.0) (refl, y.1)
     step false None None (Some row) k l r f g h x y z = rw (x, y, z.0) (refl, z.1)
     step false None None None k l r f g h x y z = rw (x, y, z) refl
+
+pub con_is : (kind : NodeKind) → is_con_kind kind ≡ is_some (con_kind kind)
+con_is (Root c) = refl
+con_is (Output o) = refl
+con_is (Space s) = refl
+con_is (Con c) = refl
 
 -- a container's windows are those of the row's first node, if that is a container
 pub asked_at : (c : ConId) (t : TreeValue) (row : Forest) → row_at c t.nodes ≡ Some row → asked_of c t ≡ con_windows row

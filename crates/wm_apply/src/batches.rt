@@ -92,6 +92,7 @@ impl Running {
     ) -> Result<Targets, NoMemory>
         requires built { IsTrue (is_built p.now) }
         requires keys { group_keys p.now.verdict number ≡ keys_of group.now }
+        requires sound { IsSound self.now.tree }
         ensures { IfOk result (λ x. x ≡ targets group.now.criteria subject self.now.tree) }
     {
         match (&group.criteria, subject) {

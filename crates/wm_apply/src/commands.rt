@@ -2,6 +2,7 @@
 ghost use Rattle.std.specs.Prelude.{◌≡◌, true, ◌++◌, IfOk, OnOk};
 ghost use Rattle.wm_apply.specs.Commands.{command_kills, command_reply, command_tree, is_exit, is_whole, course_reply, course_tree, is_mark, many_there, matched_course, runs_once, subject, targets_course, whole};
 ghost use Rattle.wm_apply.specs.declared.targets.Targets.TheVariants as targets;
+ghost use Rattle.wm_shared.specs.Subject.{IsSubject};
 ghost use Rattle.wm_tree.specs.Sound.{IsSound};
 
 use crate::applied::CommandReply;
@@ -9,7 +10,7 @@ use crate::kills::{ask, ask_each, is_kill};
 use crate::modes::is_unknown_mode;
 use crate::rows::{How, run_whole};
 use crate::runs::{is_whole, runs_once};
-use crate::subjects::{run_each, text_of};
+use crate::subjects::{run_each, run_one, text_of};
 use crate::targets::Targets;
 use std::alloc::{AllocError, Global};
 use wm_base::{ConId, ErrorText, NoMemory};
@@ -49,8 +50,10 @@ fn are_many_there(t: &Tree, cons: &[ConId]) -> bool
 }
 
 /// The subject that was handed in, or the focused container where it is gone.
+#[tactic(auto, using(crate::proofs::ThereLemmas::focus_is))]
 fn subject(t: &Tree, con: ConId) -> ConId
-    ensures { result ≡ subject con t.now }
+    ensures value { result ≡ subject con t.now }
+    ensures there { IsSound t.now → IsSubject t.now result }
 {
     if is_subject(t, con) { con } else { t.focused() }
 }
@@ -142,10 +145,11 @@ fn run_handed(
     ensures sound { IsSound t.new }
 {
     let con = subject(t, con);
-    run_each(alloc, t, env, How::Handed, command, &[con])
+    run_one(alloc, t, env, How::Handed, command, con)
 }
 
 /// Runs a command on the focused container.
+#[tactic(auto, using(crate::proofs::ThereLemmas::focus_is))]
 fn run_focused(
     alloc: Global,
     t: &mut Tree,
@@ -158,7 +162,7 @@ fn run_focused(
     ensures sound { IsSound t.new }
 {
     let con = t.focused();
-    run_each(alloc, t, env, How::Focused, command, &[con])
+    run_one(alloc, t, env, How::Focused, command, con)
 }
 
 /// Adds the windows that the command asks to close.

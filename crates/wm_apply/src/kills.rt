@@ -1,7 +1,6 @@
 //! The windows that a command asks to close.
-ghost use Rattle.std.specs.Prelude.{◌≡◌, ◌++◌, None, OnOk, OnErr, IfErr, is_some};
+ghost use Rattle.std.specs.Prelude.{◌≡◌, ◌++◌, None, OnOk, OnErr, IfErr};
 ghost use Rattle.wm_apply.specs.Kills.{asked_each, asked_of, con_windows, is_kill, is_window_node, kill_refusal, node_window, row_at, windows_in};
-ghost use Rattle.wm_forest.specs.Look.{con_kind};
 ghost use Rattle.wm_shared.specs.Refusing.{IsCause};
 
 use std::alloc::AllocError;
@@ -37,15 +36,6 @@ fn is_window_node(kind: &NodeKind) -> bool
     }
 }
 
-fn is_con(kind: &NodeKind) -> bool
-    ensures { result ≡ is_some (con_kind kind.now) }
-{
-    match kind {
-        NodeKind::Con(_) => true,
-        NodeKind::Root { .. } | NodeKind::Output(_) | NodeKind::Space(_) => false,
-    }
-}
-
 /// Adds a node that is a window.
 fn add(part: &Part, found: &mut Vec<ConId>) -> Result<(), AllocError>
     ensures { OnOk result (found.new.items ≡ found.old.items ++ node_window part.now.id part.now.kind) }
@@ -70,13 +60,14 @@ fn gather(mut row: Cursor<'_>, found: &mut Vec<ConId>) -> Result<(), AllocError>
 }
 
 /// Adds the windows of the row's first node and below it, where that is a container.
+#[tactic(auto, using(crate::proofs::KillLemmas::con_is))]
 fn gather_first(row: Cursor<'_>, found: &mut Vec<ConId>) -> Result<(), AllocError>
     ensures { OnOk result (found.new.items ≡ found.old.items ++ con_windows row.entry) }
 {
     let Some(part) = row.part() else {
         return Ok(());
     };
-    if !is_con(&part.kind) {
+    if !part.kind.is_con() {
         return Ok(());
     }
     add(part, found)?;

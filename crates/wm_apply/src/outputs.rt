@@ -7,7 +7,7 @@ use std::alloc::Global;
 use wm_base::{ConId, ErrorText, Refusal};
 use wm_language::OutArg;
 use wm_shared::{is_hidden, on_workspace};
-use wm_spaces::{focus_output, move_workspace, output_at, send_shown};
+use wm_spaces::{focus_output, move_workspace, output_at, send_to_output};
 use wm_tree::Tree;
 
 /// Makes the output that the command names the current one.
@@ -31,11 +31,11 @@ pub fn send_to_named(t: &mut Tree, con: ConId, arg: &OutArg) -> Result<(), Refus
     ensures { Does t.old t.new result (move_to_output_refusal con arg.now)
         (move_to_output_tree con arg.now) }
 {
-    on_workspace(t, con)?;
     let Some(output) = output_at(t, con, arg) else {
+        on_workspace(t, con)?;
         return Err(Refusal::NoTarget(ErrorText::NoOutput));
     };
-    send_shown(t, con, output)
+    send_to_output(t, con, output)
 }
 
 /// Moves the workspace of the container to the output that the command names.

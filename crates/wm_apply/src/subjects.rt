@@ -41,9 +41,60 @@ pub fn text_of(refusal: Refusal) -> Result<ErrorText, NoMemory>
     }
 }
 
-/// Does a command to one subject, and settles the tree. Gives the error of a subject that refuses; one that is gone is
-/// passed over.
-fn run_one(
+/// Does a command to one subject that is there, and settles the tree. Gives the error where it is refused.
+fn run_there(
+    alloc: Global,
+    t: &mut Tree,
+    env: &Env,
+    how: How,
+    command: &Command,
+    con: ConId,
+) -> Result<Option<ErrorText>, NoMemory>
+    requires { IsSubject t.old con }
+    ensures tree { OnOk result (t.new ≡ one_tree env.now how command.now con t.old) }
+    ensures error { IfOk result (λ e. e ≡ one_error env.now how command.now con t.old) }
+    ensures sound { IsSound t.new }
+{
+    match run_row(alloc, t, env, how, command, con) {
+        Ok(()) => {
+            t.settle();
+            Ok(None)
+        }
+        Err(refusal) => Ok(Some(text_of(refusal)?)),
+    }
+}
+
+/// The reply to a command with this first error.
+fn reply_of(first: Option<ErrorText>) -> CommandReply
+    ensures { result ≡ reply_of first }
+{
+    match first {
+        None => CommandReply::Done,
+        Some(error) => CommandReply::Error(error),
+    }
+}
+
+/// Does a command to one subject that is there.
+#[tactic(auto, using(crate::proofs::ThereLemmas::only_error))]
+pub fn run_one(
+    alloc: Global,
+    t: &mut Tree,
+    env: &Env,
+    how: How,
+    command: &Command,
+    con: ConId,
+) -> Result<CommandReply, NoMemory>
+    requires { IsSubject t.old con }
+    ensures tree { OnOk result (t.new ≡ each_tree env.now how command.now (con ∷ []) t.old) }
+    ensures reply { IfOk result (λ r. r ≡ reply_of (each_error env.now how command.now (con ∷ []) t.old)) }
+    ensures sound { IsSound t.new }
+{
+    let error = run_there(alloc, t, env, how, command, con)?;
+    Ok(reply_of(error))
+}
+
+/// Does a command to one subject where it is still there: gives the error where it is refused.
+fn run_still(
     alloc: Global,
     t: &mut Tree,
     env: &Env,
@@ -59,13 +110,7 @@ fn run_one(
     if !is_subject(t, con) {
         return Ok(None);
     }
-    match run_row(alloc, t, env, how, command, con) {
-        Ok(()) => {
-            t.settle();
-            Ok(None)
-        }
-        Err(refusal) => Ok(Some(text_of(refusal)?)),
-    }
+    run_there(alloc, t, env, how, command, con)
 }
 
 /// Does a command to each of the subjects that is still there. Gives the first error.
@@ -85,11 +130,8 @@ pub fn run_each(
     let mut first = None;
     let mut rest = cons;
     while let [con, after @ ..] = rest {
-        first = first.or(run_one(alloc, t, env, how, command, *con)?);
+        first = first.or(run_still(alloc, t, env, how, command, *con)?);
         rest = after;
     }
-    Ok(match first {
-        None => CommandReply::Done,
-        Some(error) => CommandReply::Error(error),
-    })
+    Ok(reply_of(first))
 }

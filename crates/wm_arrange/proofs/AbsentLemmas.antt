@@ -1,5 +1,6 @@
 -- Where no node is one of a container or below it, no part is an area of one of them.
 use Rattle.std.proofs.Common.{◌≡◌, ℕ, ◌+◌, ◌≤◌, Bool, true, false, cond, ℤ, List, [], ◌∷◌, ◌++◌, Option, None, Some, option_and_then, refl, subst, ◌∙◌, arith}
+use Rattle.std.specs.Option.{option_or}
 use Rattle.wm_base.specs.declared.geometry.Rect.{Rect}
 use Rattle.wm_base.specs.declared.ids.ConId.{ConId}
 use Rattle.wm_base.specs.declared.plan.Layout.{Layout}
@@ -19,7 +20,7 @@ use Rattle.wm_forest.proofs.RecencyLemmas.{same_is}
 use Rattle.wm_arrange.specs.declared.parts.Placed.{Placed}
 use Rattle.wm_arrange.specs.declared.parts.PlacedPart.TheVariants as parts
 use Rattle.wm_arrange.specs.Areas.{near_area, some_area}
-use Rattle.wm_arrange.specs.Arranged.{Standing, con_parts, first_space, floats_parts, fullscreen_in, has_own_title, kids_parts, node_parts, on_space, or_else, output_parts, outputs_parts, rect_of, row_parts, shown_parts, slot, space_parts, standing, tiled_parts}
+use Rattle.wm_arrange.specs.Arranged.{Standing, con_parts, first_space, floats_parts, fullscreen_in, has_own_title, kids_parts, node_parts, on_space, output_parts, outputs_parts, rect_of, row_parts, shown_parts, slot, space_parts, standing, tiled_parts}
 use Rattle.wm_arrange.specs.Borders.{window_parts}
 use Rattle.wm_arrange.specs.Cover.{covered, is_area, leaf_in}
 use Rattle.wm_arrange.specs.CoverTree.{area_in}
@@ -128,7 +129,7 @@ module _ (c : ConId) (target : Forest) (x y : ℤ) (there : 1 ≤ tally c target
       pub space_absent : (w : Option SpacePart) → Absent (space_parts t f output id w kids floats)
       space_absent None = (refl, refl)
       space_absent (Some w) =
-          let full = or_else (fullscreen_in kids) (fullscreen_in floats) in
+          let full = option_or (fullscreen_in kids) (fullscreen_in floats) in
           absent_append (placed id parts.Back output.rect) (on_space (seen_in t f w.inner) output id w kids floats full)
           (bare_absent (placed id parts.Back output.rect) (bare_placed id parts.Back output.rect refl)) (on_absent (seen_in t f w.inner) w full)
 

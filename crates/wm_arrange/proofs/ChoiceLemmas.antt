@@ -11,7 +11,8 @@ use Rattle.wm_forest.specs.Forest.{Forest, end, con}
 use Rattle.wm_forest.specs.Look.{first_floats, first_kids, first_part, node_in, output_kind, rest_of, same}
 use Rattle.wm_forest.specs.SoundRow.{tally}
 use Rattle.wm_arrange.specs.declared.choosing.Near.{Near}
-use Rattle.wm_arrange.specs.Choices.{child_of, choice_in, kept, nearest, row_layout, shows_one, value_at, KnowsFirst, KnowsNode, KnowsOutput, KnowsOutputs, KnowsRow}
+use Rattle.wm_arrange.specs.Choices.{child_of, choice_in, kept, nearest, row_layout, shows_one, KnowsFirst, KnowsNode, KnowsOutput, KnowsOutputs, KnowsRow}
+use Rattle.wm_arrange.specs.Maps.{value_at}
 use Rattle.wm_arrange.proofs.LeafLemmas.{here_once}
 use Rattle.wm_arrange.proofs.NearLemmas.{nearest_child}
 use Rattle.wm_forest.proofs.RecencyLemmas.{same_self}

@@ -1,5 +1,6 @@
 -- In the arrangement of a whole tree the windows and placeholders below splits cover the area around them once.
 use Rattle.std.proofs.Common.{◌≡◌, ℕ, ◌+◌, ◌≤◌, eqb, Bool, true, false, cond, ◌&&◌, ◌||◌, ℤ, List, [], ◌++◌, Option, None, Some, refl, ap, sym, subst, ◌∙◌, arith}
+use Rattle.std.specs.Option.{option_or}
 use Rattle.wm_base.specs.declared.geometry.Rect.{Rect}
 use Rattle.wm_base.specs.declared.ids.ConId.{ConId}
 use Rattle.wm_base.specs.declared.plan.Layout.{Layout}
@@ -21,7 +22,7 @@ use Rattle.wm_tree.specs.TreeValue.{TreeValue, focused}
 use Rattle.wm_arrange.specs.declared.parts.Placed.{Placed}
 use Rattle.wm_arrange.specs.declared.parts.PlacedPart.TheVariants as parts
 use Rattle.wm_arrange.specs.Areas.{some_area}
-use Rattle.wm_arrange.specs.Arranged.{Standing, con_parts, first_space, floats_parts, fullscreen_in, has_own_title, kids_parts, node_parts, on_space, or_else, output_parts, outputs_parts, row_parts, shown_parts, slot, space_parts, standing, tiled_parts}
+use Rattle.wm_arrange.specs.Arranged.{Standing, con_parts, first_space, floats_parts, fullscreen_in, has_own_title, kids_parts, node_parts, on_space, output_parts, outputs_parts, row_parts, shown_parts, slot, space_parts, standing, tiled_parts}
 use Rattle.wm_arrange.specs.Borders.{window_parts}
 use Rattle.wm_arrange.specs.Cover.{AreSplits, SplitsNode, covered, has_pixel, is_leaf, is_split, leaf_in, one_if}
 use Rattle.wm_arrange.specs.CoverTree.{CoversInTree, IsOfSplits, IsOfSplitsNode, LeavesCover, area_in, has_in, inner_at, inner_or, tiled_at}
@@ -174,7 +175,7 @@ module _ (c : ConId) (target : Forest) (x y : ℤ) (there : 1 ≤ tally c target
         space_covered : Covers (space_parts t f output id (Some w) kids floats)
         space_covered =
             let back = placed id parts.Back output.rect in
-            let full = or_else (fullscreen_in kids) (fullscreen_in floats) in
+            let full = option_or (fullscreen_in kids) (fullscreen_in floats) in
             covers_second back (on_space (seen_in t f w.inner) output id w kids floats full) (bare_absent c target x y there back (bare_placed id parts.Back output.rect refl)) (on_covered full)
 
     -- c is the workspace

@@ -1,5 +1,5 @@
--- What a map has after a value was put in, and what a map of places has.
-use Rattle.std.proofs.Common.{◌≡◌, ℕ, ◌+◌, Bool, true, false, cond, List, [], ◌∷◌, Option, Some, None, is_some, refl, ap, sym, ◌∙◌, arith}
+-- What a map has after a value was put in, whether it has an id, and what a map of places has.
+use Rattle.std.proofs.Common.{◌≡◌, ℕ, ◌+◌, Bool, true, false, cond, ◌||◌, List, [], ◌∷◌, Option, Some, None, is_some, refl, ap, sym, ◌∙◌, arith}
 use Rattle.std.proofs.lemmas.Bool.{eqb-true}
 use Rattle.std.proofs.lemmas.Bool.Decides.{nat_tests}
 use Rattle.std.specs.BTreeMap.{insert_entry, is_at}
@@ -12,7 +12,7 @@ use Rattle.wm_base.specs.declared.ids.ConId.{ConId}
 use Rattle.wm_ids.proofs.EntryLemmas.{test_same}
 use Rattle.wm_forest.specs.Look.{same}
 use Rattle.wm_forest.specs.Recency.{place_from}
-use Rattle.wm_arrange.specs.Choices.{value_at}
+use Rattle.wm_arrange.specs.Maps.{holds, value_at}
 
 both : {X : Type 0} (s : Bool) (w x : X) (y : Option X) → cond s (Some w) y ≡ cond s (Some w) (cond s (Some x) y)
 both true w x y = refl
@@ -47,6 +47,19 @@ insert_step a v w e windows inserted Greater at rest =
 pub find_insert : {X : Type 0} (a v : ConId) (w : X) (windows : List (ℕ × X)) → value_at (insert_entry nat_cmp windows a.0 w) v ≡ cond (same a v) (Some w) (value_at windows v)
 find_insert a v w [] = let t : is_at (nat_cmp v.0) a.0 ≡ same a v = test_same v.0 a.0 ∙ grind (arith, nat_tests) in ap (λ b. cond b (Some w) None) t
 find_insert a v w (e ∷ windows) = insert_step a v w e windows (insert_entry nat_cmp windows a.0 w) (nat_cmp a.0 e.0) refl (find_insert a v w windows)
+
+some_cond : {X : Type 0} (b : Bool) (x : X) (o : Option X) → is_some (cond b (Some x) o) ≡ is_some o || b
+some_cond true x None = refl
+some_cond true x (Some y) = refl
+some_cond false x None = refl
+some_cond false x (Some y) = refl
+
+pub holds_insert : {X : Type 0} (a v : ConId) (w : X) (map : List (ℕ × X)) → holds (insert_entry nat_cmp map a.0 w) v ≡ holds map v || same a v
+holds_insert a v w map = ap is_some (find_insert a v w map) ∙ some_cond (same a v) w (value_at map v)
+
+pub any_assoc : (a b c : Bool) → (a || b) || c ≡ a || (b || c)
+any_assoc true b c = refl
+any_assoc false b c = refl
 
 there_step : {X : Type 0} (s : Bool) (w : X) (o : Option X) → (s ≡ true → is_some o ≡ true) → o ≡ option_or o (cond s (Some w) None)
 there_step true w None h = let bad : false ≡ true = h refl in cc

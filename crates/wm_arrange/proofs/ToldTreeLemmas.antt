@@ -16,7 +16,7 @@ use Rattle.wm_tree.specs.TreeValue.{TreeValue, focused}
 use Rattle.wm_arrange.specs.declared.parts.PlacedPart.TheVariants as parts
 use Rattle.wm_arrange.specs.AreaOf.{area_in_output, area_in_outputs, area_in_space, area_in_spaces, as_area, or_nowhere}
 use Rattle.wm_arrange.specs.Areas.{some_area}
-use Rattle.wm_arrange.specs.Arranged.{first_space, floats_parts, fullscreen_in, kids_parts, on_space, or_else, output_parts, outputs_parts, space_parts, tiled_parts}
+use Rattle.wm_arrange.specs.Arranged.{first_space, floats_parts, fullscreen_in, kids_parts, on_space, output_parts, outputs_parts, space_parts, tiled_parts}
 use Rattle.wm_arrange.specs.CoverTree.{AreasAreTold, area_in, tiled_at}
 use Rattle.wm_arrange.specs.Gaps.{ground}
 use Rattle.wm_arrange.specs.Parts.{placed}
@@ -56,7 +56,7 @@ module _ (c : ConId) (target : Forest) (there : 1 ≤ tally c target) where
         space_told : Told c target there (space_parts t f output id (Some w) kids floats) r → area_in_space c output id (Some w) kids ≡ Some r
         space_told told =
             let back = placed id parts.Back output.rect in
-            let full = or_else (fullscreen_in kids) (fullscreen_in floats) in
+            let full = option_or (fullscreen_in kids) (fullscreen_in floats) in
             on_told full (sym (area_in_second c back (on_space (seen_in t f w.inner) output id w kids floats full) (bare_none c target there back (bare_placed id parts.Back output.rect refl))) ∙ told)
 
     -- c is the workspace

@@ -1,5 +1,6 @@
 -- The arrangement of a tree: where the parts of each output's workspace are placed.
 use Rattle.std.specs.Prelude.{ℕ, ◌+◌, ◌*◌, ◌&&◌, Bool, true, false, if◌then◌else◌, List, [], ◌++◌, Option, None, Some, option_and_then}
+use Rattle.std.specs.Option.{option_or}
 use Rattle.wm_defs.specs.Cut.{cut}
 use Rattle.wm_base.specs.declared.geometry.Axis.{Axis}
 use Rattle.wm_base.specs.declared.geometry.Axis.TheVariants.{Across, Down}
@@ -112,15 +113,11 @@ is_fullscreen (Output o) = false
 is_fullscreen (Space s) = false
 is_fullscreen (Con c) = c.state.fullscreen && is_window_kind c.kind
 
-abbrev pub or_else : Option ConId → Option ConId → Option ConId
-or_else None other = other
-or_else (Some c) other = Some c
-
 -- the first fullscreen window of a row, at any depth
 abbrev pub fullscreen_in : Forest → Option ConId
 fullscreen_in end = None
 fullscreen_in (con part kids floats rest) =
-    if is_fullscreen part.kind then Some part.id else or_else (fullscreen_in kids) (or_else (fullscreen_in floats) (fullscreen_in rest))
+    if is_fullscreen part.kind then Some part.id else option_or (fullscreen_in kids) (option_or (fullscreen_in floats) (fullscreen_in rest))
 
 -- ---- workspaces and outputs
 
@@ -139,7 +136,7 @@ abbrev pub space_parts : TreeValue → ConId → OutputPart → ConId → Option
 space_parts t c output id None kids floats = []
 space_parts t c output id (Some space) kids floats =
     placed id Back output.rect
-    ++ on_space (seen_in t c space.inner) output id space kids floats (or_else (fullscreen_in kids) (fullscreen_in floats))
+    ++ on_space (seen_in t c space.inner) output id space kids floats (option_or (fullscreen_in kids) (fullscreen_in floats))
 
 -- the parts of the workspace that an output shows: the first of the row
 abbrev pub first_space : TreeValue → ConId → OutputPart → Forest → List Placed

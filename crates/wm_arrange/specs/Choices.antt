@@ -1,9 +1,6 @@
 -- The child that each tabbed or stacked container shows, found by the places of ids in the list by recency.
 use Rattle.std.specs.Prelude.{◌≡◌, ℕ, ◌+◌, ◌&&◌, Bool, true, false, nat_le, if◌then◌else◌, List, [], ◌∷◌, Option, None, Some}
-use Rattle.std.specs.BTreeMap.{is_at}
-use Rattle.std.specs.Map.{lookup}
 use Rattle.std.specs.Option.{option_map, option_or}
-use Rattle.std.specs.Ordering.{nat_cmp}
 use Rattle.wm_base.specs.declared.ids.ConId.{ConId}
 use Rattle.wm_base.specs.declared.plan.Layout.{Layout}
 use Rattle.wm_base.specs.declared.plan.Layout.TheVariants.{SplitH, SplitV, Tabbed, Stacked}
@@ -18,12 +15,7 @@ use Rattle.wm_forest.specs.Recency.{place_from}
 use Rattle.wm_arrange.specs.AreaOf.{con_layout}
 use Rattle.wm_arrange.specs.declared.choosing.Near.{Near}
 use Rattle.wm_arrange.specs.declared.places.Recency.{Recency}
-
--- ---- what is looked up
-
--- what a map has for c
-abbrev pub value_at : {A : Type 0} → List (ℕ × A) → ConId → Option A
-value_at map c = lookup (is_at (nat_cmp c.0)) map
+use Rattle.wm_arrange.specs.Maps.{value_at}
 
 -- the places are those in the list
 abbrev pub ArePlaces : Recency → Type 0

@@ -7,6 +7,7 @@ pub mod Cover
 pub mod CoverTree
 pub mod Gaps
 pub mod Lots
+pub mod Maps
 pub mod Parts
 pub mod Same
 pub mod Scene

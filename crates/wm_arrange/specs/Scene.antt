@@ -1,11 +1,12 @@
 -- What the parts of a workspace depend on besides its own nodes.
-use Rattle.std.specs.Prelude.{ℕ, if◌then◌else◌, List}
+use Rattle.std.specs.Prelude.{◌≡◌, ℕ, if◌then◌else◌, List}
 use Rattle.wm_base.specs.declared.ids.ConId.{ConId}
 use Rattle.wm_base.specs.declared.ids.Ink.{Ink}
 use Rattle.wm_forest.specs.Look.{same}
 use Rattle.wm_forest.specs.Recency.{lists}
 use Rattle.wm_tree.specs.TreeValue.{TreeValue}
 use Rattle.wm_arrange.specs.declared.scene.Scene.{Scene}
+use Rattle.wm_arrange.specs.Maps.{holds}
 
 -- the order of recency, the urgent windows, the focused container, and the inner gap
 pub record Seen : Type 0 where
@@ -20,6 +21,10 @@ seen_in t c inner = record { recency = t.recency; urgent = t.urgent; focused = c
 
 abbrev pub seen : Scene → Seen
 seen scene = seen_in scene.tree.now scene.focused scene.inner
+
+-- the urgent windows are the tree's
+abbrev pub IsScene : Scene → Type 0
+IsScene scene = (c : ConId) → holds scene.urgent.now c ≡ lists c scene.tree.now.urgent
 
 abbrev pub color : ℕ → Ink
 color n = record { 0 = n }

@@ -1,14 +1,16 @@
 //! The arrangement: the shares of a tree as rectangles in whole pixels.
 ghost use Rattle.std.specs.Prelude.{◌≡◌, ◌≤◌, ◌++◌, true, IfOk, IfSome, OnOk};
+ghost use Rattle.std.specs.Option.{option_or};
 ghost use Rattle.wm_arrange.specs.Areas.{edges_of, some_area, IsArea, IsFitMargins};
 ghost use Rattle.wm_base.specs.declared.geometry.Rect.{Rect};
 ghost use Rattle.wm_base.specs.declared.ids.ConId.{ConId};
 ghost use Rattle.wm_base.specs.Rect.{inset};
-ghost use Rattle.wm_arrange.specs.Arranged.{arranged, first_space, fullscreen_in, is_fullscreen, on_space, or_else, output_parts, outputs_parts, tiled_parts};
-ghost use Rattle.wm_arrange.specs.Choices.{value_at, KnowsFirst, KnowsNode, KnowsOutputs};
+ghost use Rattle.wm_arrange.specs.Arranged.{arranged, first_space, fullscreen_in, is_fullscreen, on_space, output_parts, outputs_parts, tiled_parts};
+ghost use Rattle.wm_arrange.specs.Choices.{KnowsFirst, KnowsNode, KnowsOutputs};
+ghost use Rattle.wm_arrange.specs.Maps.{value_at};
 ghost use Rattle.wm_arrange.specs.CoverTree.{inner_at, tiled_at, IsOfSplits, LeavesCover};
 ghost use Rattle.wm_arrange.specs.Gaps.{ground};
-ghost use Rattle.wm_arrange.specs.Scene.{seen};
+ghost use Rattle.wm_arrange.specs.Scene.{seen, IsScene};
 ghost use Rattle.wm_arrange.specs.Slots.{IsFloatRow, IsTiledRow};
 ghost use Rattle.wm_forest.specs.Counts.{row_length};
 ghost use Rattle.wm_forest.specs.Look.{first_floats, first_kids, first_part, kind_by, output_kind};
@@ -18,13 +20,13 @@ ghost use Rattle.wm_tree.specs.Sound.{IsSound};
 use crate::areas::{Margins, trim};
 use crate::children::{place_floats, place_kids};
 use crate::choosing::choices;
+use crate::listing::id_set;
 use crate::parts::{Arrangement, Placed, PlacedPart};
 use crate::placing::place;
 use crate::rows::row_from;
 use crate::scene::Scene;
 use std::alloc::Global;
 use wm_base::{ConId, Edges, List, NoMemory, Rect};
-use wm_ids::IdMap;
 use wm_tree::{Cursor, NodeKind, OutputPart, SpacePart, Tree};
 
 /// The arrangement of a tree. With no inner gap, the areas of the windows and placeholders below a tiled container or
@@ -36,11 +38,18 @@ pub fn arrange(alloc: Global, tree: &Tree) -> Result<Arrangement, NoMemory>
     ensures covers { (c : ConId) → inner_at c (first_kids tree.now.nodes) ≡ 0 → IsOfSplits (tiled_at c (first_kids tree.now.nodes)) →
         IfOk result (λ arrangement. LeavesCover (tiled_at c (first_kids tree.now.nodes)) c arrangement.parts) }
 {
-    let focused = tree.focused();
     let chosen = choices(alloc, tree)?;
+    let urgent = id_set(alloc, tree.urgent_ids())?;
+    let scene = Scene {
+        alloc,
+        tree,
+        focused: tree.focused(),
+        chosen: &chosen,
+        urgent: &urgent,
+        inner: 0,
+    };
     let mut parts = Vec::new(alloc);
-    let row = tree.nodes().kids();
-    place_outputs(&mut parts, alloc, tree, focused, &chosen, row)?;
+    place_outputs(&mut parts, &scene, tree.nodes().kids())?;
     Ok(Arrangement {
         parts: List::of(parts),
     })
@@ -49,19 +58,17 @@ pub fn arrange(alloc: Global, tree: &Tree) -> Result<Arrangement, NoMemory>
 /// Places the workspaces that a row of outputs shows, in order.
 fn place_outputs(
     parts: &mut Vec<Placed>,
-    alloc: Global,
-    tree: &Tree,
-    focused: ConId,
-    chosen: &IdMap<ConId>,
+    scene: &Scene<'_>,
     row: Cursor<'_>,
 ) -> Result<(), NoMemory>
+    requires scene { IsScene scene.now }
     requires sound { IsSoundRow outputs true 32 row }
-    requires known { KnowsOutputs (value_at chosen.now) tree.now.recency row }
-    ensures { OnOk result (parts.new.items ≡ parts.old.items ++ outputs_parts tree.now focused row.entry) }
+    requires known { KnowsOutputs (value_at scene.now.chosen.now) scene.now.tree.now.recency row }
+    ensures { OnOk result (parts.new.items ≡ parts.old.items ++ outputs_parts scene.now.tree.now scene.now.focused row.entry) }
 {
     let mut left = row;
     while let Some(_) = left.part() {
-        place_output(parts, alloc, tree, focused, chosen, &left)?;
+        place_output(parts, scene, &left)?;
         left = left.rest();
     }
     Ok(())
@@ -70,15 +77,13 @@ fn place_outputs(
 /// Places the workspace that the first output of the row shows.
 fn place_output(
     parts: &mut Vec<Placed>,
-    alloc: Global,
-    tree: &Tree,
-    focused: ConId,
-    chosen: &IdMap<ConId>,
+    scene: &Scene<'_>,
     row: &Cursor<'_>,
 ) -> Result<(), NoMemory>
+    requires scene { IsScene scene.now }
     requires sound { IsSoundRow outputs true 32 row.now }
-    requires known { KnowsOutputs (value_at chosen.now) tree.now.recency row.now }
-    ensures { OnOk result (parts.new.items ≡ parts.old.items ++ output_parts tree.now focused (kind_by output_kind (first_part row.now)) (first_kids row.now)) }
+    requires known { KnowsOutputs (value_at scene.now.chosen.now) scene.now.tree.now.recency row.now }
+    ensures { OnOk result (parts.new.items ≡ parts.old.items ++ output_parts scene.now.tree.now scene.now.focused (kind_by output_kind (first_part row.now)) (first_kids row.now)) }
 {
     let Some(part) = row.part() else {
         return Ok(());
@@ -87,23 +92,21 @@ fn place_output(
         return Ok(());
     };
     let space = row_from(row.kids(), output.shown);
-    place_space(parts, alloc, tree, focused, chosen, output, &space)
+    place_space(parts, scene, output, &space)
 }
 
 /// Places the first workspace of the row, which the output shows.
 fn place_space(
     parts: &mut Vec<Placed>,
-    alloc: Global,
-    tree: &Tree,
-    focused: ConId,
-    chosen: &IdMap<ConId>,
+    scene: &Scene<'_>,
     output: &OutputPart,
     row: &Cursor<'_>,
 ) -> Result<(), NoMemory>
+    requires scene { IsScene scene.now }
     requires sound { IsSoundRow spaces true 32 row.now }
-    requires known { KnowsFirst (value_at chosen.now) tree.now.recency row.now }
+    requires known { KnowsFirst (value_at scene.now.chosen.now) scene.now.tree.now.recency row.now }
     requires placed { IsOutputRect output.now.rect }
-    ensures { OnOk result (parts.new.items ≡ parts.old.items ++ first_space tree.now focused output.now row.now) }
+    ensures { OnOk result (parts.new.items ≡ parts.old.items ++ first_space scene.now.tree.now scene.now.focused output.now row.now) }
 {
     let Some(part) = row.part() else {
         return Ok(());
@@ -113,11 +116,8 @@ fn place_space(
     };
     place(parts, part.id, PlacedPart::Back, output.rect)?;
     let scene = Scene {
-        alloc,
-        tree,
-        focused,
-        chosen,
         inner: space.inner,
+        ..*scene
     };
     place_on_space(parts, &scene, output, part.id, space, row)
 }
@@ -132,6 +132,7 @@ fn place_on_space(
     space: &SpacePart,
     row: &Cursor<'_>,
 ) -> Result<(), NoMemory>
+    requires scene { IsScene scene.now }
     requires few { row_length (first_kids row.now) ≤ 256 }
     requires sound { IsTiledRow (first_kids row.now) }
     requires known { KnowsNode (value_at scene.now.chosen.now) scene.now.tree.now.recency id space.now.layout (first_kids row.now) }
@@ -139,7 +140,7 @@ fn place_on_space(
     requires placed { IsOutputRect output.now.rect }
     ensures { OnOk result (parts.new.items ≡ parts.old.items ++
         on_space (seen scene.now) output.now id space.now (first_kids row.now) (first_floats row.now)
-        (or_else (fullscreen_in (first_kids row.now)) (fullscreen_in (first_floats row.now)))) }
+        (option_or (fullscreen_in (first_kids row.now)) (fullscreen_in (first_floats row.now)))) }
 {
     if let Some(window) = fullscreen_in(row.kids()).or(fullscreen_in(row.floats())) {
         return place(parts, window, PlacedPart::Content, output.rect);
@@ -158,6 +159,7 @@ fn place_tiled(
     ground: Option<Rect>,
     row: &Cursor<'_>,
 ) -> Result<(), NoMemory>
+    requires scene { IsScene scene.now }
     requires few { row_length (first_kids row.now) ≤ 256 }
     requires sound { IsTiledRow (first_kids row.now) }
     requires known { KnowsNode (value_at scene.now.chosen.now) scene.now.tree.now.recency id space.now.layout (first_kids row.now) }

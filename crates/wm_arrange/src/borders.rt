@@ -2,7 +2,7 @@
 ghost use Rattle.std.specs.Prelude.{◌≡◌, ◌≤◌, ◌++◌, IfSome, OnOk};
 ghost use Rattle.wm_arrange.specs.Areas.{some_area, IsArea, IsFitMargins};
 ghost use Rattle.wm_arrange.specs.Borders.{below_title, border_part, width, window_parts, within_border};
-ghost use Rattle.wm_arrange.specs.Scene.{seen};
+ghost use Rattle.wm_arrange.specs.Scene.{seen, IsScene};
 ghost use Rattle.wm_forest.specs.Counts.{row_length};
 
 use crate::areas::{Margins, below, some_area, trim};
@@ -23,6 +23,7 @@ pub fn place_window(
     border: Border,
     area: Rect,
 ) -> Result<(), NoMemory>
+    requires scene { IsScene scene.now }
     requires area { IsArea area }
     requires few { row_length kids.now ≤ 256 }
     ensures { OnOk result (parts.new.items ≡ parts.old.items ++ window_parts (seen scene.now) own part.now kids.now border area) }
@@ -84,6 +85,7 @@ fn place_border(
     border: Border,
     rect: Rect,
 ) -> Result<(), NoMemory>
+    requires scene { IsScene scene.now }
     ensures { OnOk result (parts.new.items ≡ parts.old.items ++ border_part (seen scene.now) part.now border rect) }
 {
     if width(border) == 0 {

@@ -2,9 +2,10 @@
 ghost use Rattle.std.specs.Prelude.{◌≡◌, ◌+◌, ◌≤◌, ◌++◌, [], true, IfSome, OnOk, option_and_then};
 ghost use Rattle.wm_arrange.specs.Areas.{edges_of, near_area, IsArea, IsFitMargins};
 ghost use Rattle.wm_arrange.specs.Arranged.{floats_parts, kids_parts, rect_of, row_parts, shown_parts, standing};
-ghost use Rattle.wm_arrange.specs.Choices.{row_layout, value_at, KnowsNode, KnowsRow};
-ghost use Rattle.wm_arrange.specs.Gaps.{gap_after, gap_before, gaps, is_last};
-ghost use Rattle.wm_arrange.specs.Scene.{seen};
+ghost use Rattle.wm_arrange.specs.Choices.{row_layout, KnowsNode, KnowsRow};
+ghost use Rattle.wm_arrange.specs.Maps.{value_at};
+ghost use Rattle.wm_arrange.specs.Gaps.{gap_after, gap_before, gaps};
+ghost use Rattle.wm_arrange.specs.Scene.{seen, IsScene};
 ghost use Rattle.wm_arrange.specs.Slots.{own_in, parts_from, slot_between, HasSlots, IsFloatRow, IsTiledRow};
 ghost use Rattle.wm_forest.specs.Change.{is_id};
 ghost use Rattle.wm_forest.specs.Counts.{row_length, share_sum};
@@ -14,7 +15,7 @@ use crate::areas::{Margins, below, cut_between, near_area, trim};
 use crate::borders::place_window;
 use crate::parts::{Placed, PlacedPart};
 use crate::placing::place;
-use crate::rows::count;
+use crate::rows::{count, is_end};
 use crate::scene::Scene;
 use crate::titles::{TITLE_HEIGHT, place_kids_titles, place_own_title};
 use wm_base::{Axis, ConId, Layout, NoMemory, Rect};
@@ -161,6 +162,7 @@ pub fn place_kids(
     area: Rect,
     row: &Cursor<'_>,
 ) -> Result<(), NoMemory>
+    requires scene { IsScene scene.now }
     requires few { row_length (first_kids row.now) ≤ 256 }
     requires sound { IsTiledRow (first_kids row.now) }
     requires known { KnowsNode (value_at scene.now.chosen.now) scene.now.tree.now.recency id layout (first_kids row.now) }
@@ -181,6 +183,7 @@ fn place_row(
     slots: Slots,
     row: Cursor<'_>,
 ) -> Result<(), NoMemory>
+    requires scene { IsScene scene.now }
     requires few { share_sum row ≤ 268435456 }
     requires sound { IsTiledRow row }
     requires known { KnowsRow (value_at scene.now.chosen.now) scene.now.tree.now.recency row }
@@ -208,12 +211,6 @@ fn place_row(
     Ok(())
 }
 
-pub fn is_end(row: &Cursor<'_>) -> bool
-    ensures { result ≡ is_last row.now }
-{
-    row.part().is_none()
-}
-
 /// Places the child that is the row's first node in its area, where it is shown, with what it has there.
 #[cycle(place)]
 fn place_child(
@@ -224,6 +221,7 @@ fn place_child(
     slot: Option<Rect>,
     row: &Cursor<'_>,
 ) -> Result<(), NoMemory>
+    requires scene { IsScene scene.now }
     requires few { row_length (first_kids row.now) ≤ 256 }
     requires sound { IsTiledRow (first_kids row.now) }
     requires known { KnowsNode (value_at scene.now.chosen.now) scene.now.tree.now.recency part.now.id (row_layout part.now.kind) (first_kids row.now) }
@@ -256,7 +254,8 @@ pub fn place_floats(
     scene: &Scene<'_>,
     floats: Cursor<'_>,
 ) -> Result<(), NoMemory>
-    requires { IsFloatRow floats }
+    requires scene { IsScene scene.now }
+    requires sound { IsFloatRow floats }
     ensures { OnOk result (parts.new.items ≡ parts.old.items ++ floats_parts (seen scene.now) floats.entry) }
 {
     let mut row = floats;
@@ -274,7 +273,8 @@ fn place_float(
     part: &Part,
     kids: &Cursor<'_>,
 ) -> Result<(), NoMemory>
-    requires { row_length kids.now ≤ 256 }
+    requires scene { IsScene scene.now }
+    requires few { row_length kids.now ≤ 256 }
     ensures { OnOk result (parts.new.items ≡ parts.old.items ++
         shown_parts (seen scene.now) true part.now kids.now (λ area layout. []) (option_and_then near_area (rect_of part.now.kind))) }
 {

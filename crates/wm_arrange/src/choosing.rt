@@ -2,7 +2,8 @@
 ghost use Rattle.std.specs.Prelude.{◌≡◌, ◌≤◌, List, Option, Some, None, false, if◌then◌else◌, IfOk, OnOk};
 ghost use Rattle.std.specs.Option.{option_or};
 ghost use Rattle.wm_base.specs.declared.ids.ConId.{ConId};
-ghost use Rattle.wm_arrange.specs.Choices.{at_place, choice_in, kept, nearest, row_layout, shows_one, sooner, under, value_at, ArePlaces, KnowsFirst, KnowsOutput, KnowsOutputs, KnowsRow};
+ghost use Rattle.wm_arrange.specs.Choices.{at_place, choice_in, kept, nearest, row_layout, shows_one, sooner, under, ArePlaces, KnowsFirst, KnowsOutput, KnowsOutputs, KnowsRow};
+ghost use Rattle.wm_arrange.specs.Maps.{value_at};
 ghost use Rattle.wm_forest.specs.Look.{first_kids, output_kind, same};
 ghost use Rattle.wm_forest.specs.SoundRow.{tally};
 ghost use Rattle.wm_tree.specs.Sound.{IsSound};

@@ -11,8 +11,9 @@ ghost use Rattle.wm_tree.specs.Sound.{IsSound};
 
 use crate::areas::keep;
 use crate::arranging::ground_margins;
-use crate::children::{Stretch, is_end};
+use crate::children::Stretch;
 use crate::lots::{Lots, layout_of, lots_for};
+use crate::rows::is_end;
 use wm_base::{ConId, Edges, Rect};
 use wm_tree::{Cursor, NodeKind, OutputPart, SpacePart, Tree};
 

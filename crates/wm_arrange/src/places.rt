@@ -4,7 +4,8 @@ ghost use Rattle.std.specs.Option.{option_or};
 ghost use Rattle.wm_base.specs.declared.ids.ConId.{ConId};
 ghost use Rattle.wm_forest.specs.Recency.{place_from};
 ghost use Rattle.wm_forest.specs.Look.{same};
-ghost use Rattle.wm_arrange.specs.Choices.{value_at, ArePlaces};
+ghost use Rattle.wm_arrange.specs.Choices.{ArePlaces};
+ghost use Rattle.wm_arrange.specs.Maps.{value_at};
 
 use std::alloc::Global;
 use wm_base::{ConId, NoMemory};

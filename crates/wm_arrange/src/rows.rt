@@ -2,6 +2,7 @@
 ghost use Rattle.std.specs.Prelude.{◌≡◌, ◌≤◌};
 ghost use Rattle.wm_forest.specs.Counts.{row_length};
 ghost use Rattle.wm_forest.specs.Look.{node_in};
+ghost use Rattle.wm_arrange.specs.Gaps.{is_last};
 
 use wm_base::ConId;
 use wm_tree::Cursor;
@@ -21,6 +22,13 @@ pub fn count(row: &Cursor<'_>) -> u32
         left = left.rest();
     }
     n
+}
+
+/// Whether a row has no node.
+pub fn is_end(row: &Cursor<'_>) -> bool
+    ensures { result ≡ is_last row.now }
+{
+    row.part().is_none()
 }
 
 /// The row from the node on. It is at its end where the node is not in the row.

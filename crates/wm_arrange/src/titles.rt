@@ -3,7 +3,7 @@ ghost use Rattle.std.specs.Prelude.{◌≡◌, ◌+◌, ◌≤◌, ◌++◌, OnO
 ghost use Rattle.wm_forest.specs.Counts.{row_length};
 ghost use Rattle.wm_forest.specs.Look.{first_kids};
 ghost use Rattle.wm_arrange.specs.Areas.{IsArea};
-ghost use Rattle.wm_arrange.specs.Scene.{seen};
+ghost use Rattle.wm_arrange.specs.Scene.{seen, IsScene};
 ghost use Rattle.wm_arrange.specs.Slots.{line_at, FitsLines, IsTiledRow};
 ghost use Rattle.wm_arrange.specs.Titles.{kids_titles, own_title, title_part, titles};
 
@@ -27,7 +27,8 @@ fn place_title(
     kids: &Cursor<'_>,
     rect: Rect,
 ) -> Result<(), NoMemory>
-    requires { row_length kids.now ≤ 256 }
+    requires scene { IsScene scene.now }
+    requires few { row_length kids.now ≤ 256 }
     ensures { OnOk result (parts.new.items ≡ parts.old.items ++ title_part (seen scene.now) part.now kids.now rect) }
 {
     if rect.w == 0 || rect.h == 0 {
@@ -48,7 +49,8 @@ pub fn place_own_title(
     border: Border,
     area: Rect,
 ) -> Result<(), NoMemory>
-    requires { row_length kids.now ≤ 256 }
+    requires scene { IsScene scene.now }
+    requires few { row_length kids.now ≤ 256 }
     ensures { OnOk result (parts.new.items ≡ parts.old.items ++ own_title (seen scene.now) own part.now kids.now border area) }
 {
     match border {
@@ -97,6 +99,7 @@ pub fn place_kids_titles(
     area: Rect,
     row: &Cursor<'_>,
 ) -> Result<(), NoMemory>
+    requires scene { IsScene scene.now }
     requires few { row_length (first_kids row.now) ≤ 256 }
     requires sound { IsTiledRow (first_kids row.now) }
     requires area { IsArea area }
@@ -121,6 +124,7 @@ fn place_titles(
     area: Rect,
     row: Cursor<'_>,
 ) -> Result<(), NoMemory>
+    requires scene { IsScene scene.now }
     requires few { row_length row ≤ 256 }
     requires sound { IsTiledRow row }
     requires fit { FitsLines lines (row_length row) }

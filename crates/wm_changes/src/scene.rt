@@ -1,16 +1,14 @@
 //! A tree, and the windows and workspaces that were found in it.
-ghost use Rattle.std.specs.Prelude.{◌≡◌, ◌||◌, IfOk, OnOk};
-ghost use Rattle.wm_base.specs.declared.ids.ConId.{ConId};
+ghost use Rattle.std.specs.Prelude.{◌≡◌, IfOk};
 ghost use Rattle.wm_changes.specs.Scene.{IsScene};
-ghost use Rattle.wm_forest.specs.Look.{same};
 ghost use Rattle.wm_forest.specs.Recency.{lists};
 ghost use Rattle.wm_tree.specs.Sound.{IsSound};
-ghost use Rattle.wm_views.specs.Maps.{holds};
 
 use crate::spaces::{Site, spaces};
 use crate::windows::{Found, windows};
 use std::alloc::Global;
 use std::collections::BTreeMap;
+use wm_arrange::id_set;
 use wm_base::{ConId, NoMemory};
 use wm_ids::IdMap;
 use wm_tree::Tree;
@@ -31,7 +29,7 @@ impl<'a> Scene<'a> {
         ensures scene { IfOk result (λ scene. IsScene scene) }
         ensures tree { IfOk result (λ scene. scene.tree.now ≡ tree.now) }
     {
-        let urgent = ids(alloc, tree.urgent_ids())?;
+        let urgent = id_set(alloc, tree.urgent_ids())?;
         let windows = windows(alloc, tree)?;
         let spaces = spaces(alloc, tree)?;
         Ok(Scene {
@@ -49,25 +47,4 @@ impl<'a> Scene<'a> {
     {
         self.urgent.get(id.0).is_some()
     }
-}
-
-/// The ids of a list.
-#[tactic(auto, using(wm_views::proofs::MapLemmas::any_assoc))]
-fn ids(alloc: Global, list: &[ConId]) -> Result<IdMap<()>, NoMemory>
-    ensures { IfOk result (λ map. (c : ConId) → holds map c ≡ lists c list.now) }
-{
-    let mut map = IdMap::new(alloc);
-    let mut rest = list;
-    while let [id, after @ ..] = rest {
-        add(&mut map, *id)?;
-        rest = after;
-    }
-    Ok(map)
-}
-
-fn add(map: &mut IdMap<()>, id: ConId) -> Result<(), NoMemory>
-    ensures { (c : ConId) → OnOk result (holds map.new c ≡ (holds map.old c || same id c)) }
-{
-    map.insert(id.0, ())?;
-    Ok(())
 }

@@ -1,6 +1,7 @@
 -- The contents of an arrangement are windows of its tree.
 use Rattle.std.proofs.Common.{◌≡◌, ℕ, ◌+◌, ◌≤◌, eqb, Bool, true, false, cond, ◌&&◌, ◌||◌, List, [], ◌∷◌, ◌++◌, Option, Some, None, is_some, option_and_then, refl, ap, sym, subst, ◌∙◌, arith}
 use Rattle.std.proofs.lemmas.Bool.{and_parts, eq-eqb}
+use Rattle.std.specs.Option.{option_or}
 use Rattle.wm_base.specs.declared.geometry.Rect.{Rect}
 use Rattle.wm_base.specs.declared.ids.ConId.{ConId}
 use Rattle.wm_base.specs.declared.plan.Border.{Border}
@@ -24,7 +25,7 @@ use Rattle.wm_arrange.specs.declared.parts.PlacedPart.{PlacedPart}
 use Rattle.wm_arrange.specs.declared.parts.PlacedPart.TheVariants.{Back, Area, Title, Content}
 use Rattle.wm_arrange.specs.declared.parts.PlacedPart.TheVariants as parts
 use Rattle.wm_arrange.specs.Areas.{near_area, some_area}
-use Rattle.wm_arrange.specs.Arranged.{Standing, standing, has_own_title, slot, con_parts, node_parts, shown_parts, row_parts, kids_parts, rect_of, floats_parts, is_fullscreen, or_else, fullscreen_in, tiled_parts, on_space, space_parts, first_space, output_parts, outputs_parts, arranged}
+use Rattle.wm_arrange.specs.Arranged.{Standing, standing, has_own_title, slot, con_parts, node_parts, shown_parts, row_parts, kids_parts, rect_of, floats_parts, is_fullscreen, fullscreen_in, tiled_parts, on_space, space_parts, first_space, output_parts, outputs_parts, arranged}
 use Rattle.wm_arrange.specs.Borders.{below_title, border_part, bordered, width, within_border}
 use Rattle.wm_arrange.specs.Gaps.{ground}
 use Rattle.wm_arrange.specs.Parts.{placed}
@@ -185,13 +186,13 @@ found_weaker : (P Q : ConId → Type 0) (o : Option ConId) → ((v : ConId) → 
 found_weaker P Q None f p = tt
 found_weaker P Q (Some c) f p = f c p
 
-or_found : (P : ConId → Type 0) (a b : Option ConId) → OfFound P a → OfFound P b → OfFound P (or_else a b)
+or_found : (P : ConId → Type 0) (a b : Option ConId) → OfFound P a → OfFound P b → OfFound P (option_or a b)
 or_found P None b p q = q
 or_found P (Some c) b p q = p
 
-found_by : (P : ConId → Type 0) (b : Bool) (id : ConId) (a c d : Option ConId) → (b ≡ true → P id) → OfFound P a → OfFound P c → OfFound P d → OfFound P (cond b (Some id) (or_else a (or_else c d)))
+found_by : (P : ConId → Type 0) (b : Bool) (id : ConId) (a c d : Option ConId) → (b ≡ true → P id) → OfFound P a → OfFound P c → OfFound P d → OfFound P (cond b (Some id) (option_or a (option_or c d)))
 found_by P true id a c d p q r s = p refl
-found_by P false id a c d p q r s = or_found P a (or_else c d) q (or_found P c d r s)
+found_by P false id a c d p q r s = or_found P a (option_or c d) q (or_found P c d r s)
 
 -- a fullscreen window is a window
 fullscreen_rank : (kind : NodeKind) → is_fullscreen kind ≡ true → windows kind ≡ 1
@@ -225,7 +226,7 @@ space_all : (P : ConId → Type 0) (t : TreeValue) (c : ConId) (output : OutputP
     → ((v : ConId) → Holds kids v → P v) → ((v : ConId) → Holds floats v → P v) → AllContents P (space_parts t c output id space kids floats)
 space_all P t c output id None kids floats f g = tt
 space_all P t c output id (Some space) kids floats f g =
-    let found = or_else (fullscreen_in kids) (fullscreen_in floats) in
+    let found = option_or (fullscreen_in kids) (fullscreen_in floats) in
     let s = seen_in t c space.inner in
     all_append P (placed id Back output.rect) (on_space s output id space kids floats found) (all_placed P id Back output.rect tt)
     (on_space_all P s output id space kids floats found

@@ -6,4 +6,6 @@ pub mod PartLemmas
 pub mod FormLemmas
 pub mod SearchLemmas
 pub mod GatherLemmas
+pub mod PlaceLemmas
+pub mod RowLemmas
 pub mod OrderLemmas

@@ -8,5 +8,6 @@ pub mod Stop
 pub mod Parts
 pub mod Searching
 pub mod Holds
+pub mod Subject
 pub mod Gathered
 pub mod Order

@@ -3,6 +3,8 @@ use Rattle.std.specs.Prelude.{◌≡◌, ℕ, Bool, false, if◌then◌else◌, 
 use Rattle.std.specs.List.{slice_get}
 use Rattle.std.specs.Option.{option_map_or}
 use Rattle.std.specs.Str.{chars}
+use Rattle.std.specs.Coded.{Coded-set, coded_list, coded_option, coded_ℕ, ×_prop}
+use Rattle.std.proofs.Props.{props}
 use Rattle.regex.specs.Patterns.{default_config, find_str}
 use Rattle.regex_syntax.specs.Grammar.{read}
 use Rattle.wm_language.specs.declared.batch.Key.{Key}
@@ -50,3 +52,8 @@ forms_behind (f ∷ fs) = fs
 abbrev pub AreFormsOf : List Key → List (Option (List ℕ)) → Type 0
 AreFormsOf [] fs = ⊤
 AreFormsOf (k ∷ ks) fs = (first_form fs ≡ to_build k) × AreFormsOf ks (forms_behind fs)
+
+-- keys have forms in one way at most
+pub AreFormsOf-prop : (ks : List Key) (fs : List (Option (List ℕ))) → IsProp (AreFormsOf ks fs)
+AreFormsOf-prop [] fs = hlevel props
+AreFormsOf-prop (k ∷ ks) fs = ×_prop (Coded-set (coded_option (coded_list coded_ℕ)) (first_form fs) (to_build k)) (AreFormsOf-prop ks (forms_behind fs))

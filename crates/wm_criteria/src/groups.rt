@@ -3,11 +3,15 @@ ghost use Rattle.std.specs.Prelude.{◌≡◌, None, IfOk, IsTrue};
 ghost use Rattle.wm_criteria.specs.Holds.{holds};
 ghost use Rattle.wm_criteria.specs.Prepared.{is_built};
 ghost use Rattle.wm_criteria.specs.Searching.{AreFormsOf, first_form, forms_at, forms_behind, group_keys};
+ghost use Rattle.wm_criteria.specs.Subject.{IsSubject};
 
+use crate::asked::Asked;
+use crate::focus::Focus;
 use crate::form::Form;
 use crate::holds::key_holds;
 use crate::patterns::keys_of;
 use crate::prepared::Prepared;
+use crate::subject::Subject;
 use crate::verdict::Verdict;
 use std::alloc::Global;
 use wm_base::{ConId, List, NoMemory};
@@ -26,25 +30,20 @@ pub fn matches(
     requires { IsTrue (is_built p.now) }
     ensures { IfOk result (λ b. b ≡ holds tree.now (group_keys p.now.verdict group) con) }
 {
-    keys_hold(alloc, tree, p.keys(group), p.group_forms(group), con)
+    let asked = p.asked(alloc, tree, group);
+    keys_hold(&asked, &Subject::find(tree, con))
 }
 
 /// Whether all keys hold for the container, up to the first that does not.
-pub fn keys_hold(
-    alloc: Global,
-    tree: &Tree,
-    keys: &[Key],
-    forms: &[Form],
-    con: ConId,
-) -> Result<bool, NoMemory>
-    requires { AreFormsOf keys.now forms.now }
-    ensures { IfOk result (λ b. b ≡ holds tree.now keys.now con) }
+pub fn keys_hold(asked: &Asked<'_>, subject: &Subject<'_>) -> Result<bool, NoMemory>
+    requires { IsSubject subject.now asked.now.focus.tree.now }
+    ensures { IfOk result (λ b. b ≡ holds asked.now.focus.tree.now asked.now.keys.now subject.now.id) }
 {
     let none = Form::none();
-    let mut forms = forms;
-    let mut rest = keys;
+    let mut forms = asked.forms;
+    let mut rest = asked.keys;
     while let [key, after @ ..] = rest {
-        if !key_holds(alloc, tree, key, first_form(forms, &none), con)? {
+        if !key_holds(&asked.focus, key, first_form(forms, &none), subject)? {
             return Ok(false);
         }
         forms = forms_behind(forms);
@@ -75,8 +74,21 @@ fn forms_behind(forms: &[Form]) -> &[Form]
 }
 
 impl Prepared {
+    /// The keys of a group, ready to be held against the containers of the tree.
+    pub(crate) fn asked<'a>(&'a self, alloc: Global, tree: &'a Tree, group: usize) -> Asked<'a>
+        requires { IsTrue (is_built self.now) }
+        ensures tree { result.focus.tree.now ≡ tree.now }
+        ensures keys { result.keys.now ≡ group_keys self.now.verdict group }
+    {
+        Asked {
+            focus: Focus::of(alloc, tree),
+            keys: self.keys(group),
+            forms: self.group_forms(group),
+        }
+    }
+
     /// The keys of a group. There are none where the group is not there.
-    pub(crate) fn keys(&self, group: usize) -> &[Key]
+    fn keys(&self, group: usize) -> &[Key]
         ensures { result.now ≡ group_keys self.now.verdict group }
     {
         match &self.verdict {
@@ -89,7 +101,7 @@ impl Prepared {
     }
 
     /// The forms of a group's keys, in their places. There are none where no pattern of the text has to be built.
-    pub(crate) fn group_forms(&self, group: usize) -> &[Form]
+    fn group_forms(&self, group: usize) -> &[Form]
         requires { IsTrue (is_built self.now) }
         ensures { AreFormsOf (group_keys self.now.verdict group) result.now }
     {

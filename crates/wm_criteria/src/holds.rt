@@ -1,53 +1,54 @@
 //! What each key asks of a container.
-ghost use Rattle.std.specs.Prelude.{◌≡◌, ◌==◌, ◌&&◌, not, if◌then◌else◌, option_map, is_some, Some, IfOk};
+ghost use Rattle.std.specs.Prelude.{◌≡◌, option_map, Some, IfOk};
 ghost use Rattle.std.specs.List.{list_any};
 ghost use Rattle.std.specs.Option.{option_copied};
 ghost use Rattle.wm_base.specs.declared.properties.Props.{Props};
 ghost use Rattle.wm_language.specs.declared.batch.Key.TheVariants.{Con};
 ghost use Rattle.wm_forest.specs.Change.{is_id};
-ghost use Rattle.wm_forest.specs.Look.{first_marks, only};
-ghost use Rattle.wm_tree.specs.TreeValue.{is_tiled_con, shown, workspace_of};
-ghost use Rattle.wm_criteria.specs.Holds.{asks, end_id, focused_property, is_text, is_window, key_holds, space_name, window, window_asks, workspace_name};
+ghost use Rattle.wm_tree.specs.TreeValue.{shown};
+ghost use Rattle.wm_criteria.specs.Holds.{asks, end_id, focused_property, is_text, key_holds, space_name, window_asks};
 ghost use Rattle.wm_criteria.specs.Patterns.{to_build, unless_focused, unless_plain};
 ghost use Rattle.wm_criteria.specs.Searching.{searches};
+ghost use Rattle.wm_criteria.specs.Subject.{IsSubject};
 
+use crate::focus::Focus;
 use crate::form::Form;
 use crate::plain::{is_plain, plain_search};
 use crate::property::Property;
+use crate::subject::Subject;
 use std::alloc::Global;
 use wm_base::{ConId, NoMemory, Props, Text};
 use wm_language::Key;
-use wm_tree::{ConKind, Tree};
 
 /// The word that stands for the focused window's property, or the focused workspace's name.
 const FOCUSED: &str = "__focused__";
 
 /// Whether the key holds for the container. Its form is the one of its pattern, where that has to be built.
 pub fn key_holds(
-    alloc: Global,
-    tree: &Tree,
+    focus: &Focus<'_>,
     key: &Key,
     form: &Form,
-    con: ConId,
+    subject: &Subject<'_>,
 ) -> Result<bool, NoMemory>
-    requires { form.now ≡ to_build key.now }
-    ensures { IfOk result (λ b. b ≡ key_holds tree.now con key.now) }
+    requires form { form.now ≡ to_build key.now }
+    requires told { IsSubject subject.now focus.now.tree.now }
+    ensures { IfOk result (λ b. b ≡ key_holds focus.now.tree.now subject.now.id key.now) }
 {
     match key {
-        Key::Class(x) => window_asks(alloc, tree, Property::Class, x, form, con),
-        Key::Instance(x) => window_asks(alloc, tree, Property::Instance, x, form, con),
-        Key::Role(x) => window_asks(alloc, tree, Property::Role, x, form, con),
-        Key::Kind(x) => Ok(is_of_kind(tree, x, con)),
-        Key::Machine(x) => window_asks(alloc, tree, Property::Machine, x, form, con),
-        Key::Title(x) => window_asks(alloc, tree, Property::Title, x, form, con),
-        Key::Mark(x) => some_mark(alloc, tree, x, form, con),
-        Key::Workspace(x) => workspace_asks(alloc, tree, x, form, con),
-        Key::Id(n) => Ok(is_window_of(tree, *n, con)),
-        Key::Con(n) => Ok(is_con(tree, *n, con)),
-        Key::Urgent { latest } => Ok(is_end(tree.urgent_ids(), *latest, con)),
-        Key::Floating => Ok(is_floating(tree, con)),
-        Key::Tiling => Ok(is_tiling(tree, con)),
-        Key::All => Ok(is_window(tree, con)),
+        Key::Class(x) => window_asks(focus, Property::Class, x, form, subject),
+        Key::Instance(x) => window_asks(focus, Property::Instance, x, form, subject),
+        Key::Role(x) => window_asks(focus, Property::Role, x, form, subject),
+        Key::Kind(x) => Ok(is_of_kind(subject.window, x)),
+        Key::Machine(x) => window_asks(focus, Property::Machine, x, form, subject),
+        Key::Title(x) => window_asks(focus, Property::Title, x, form, subject),
+        Key::Mark(x) => some_mark(focus.alloc, x, form, subject.marks),
+        Key::Workspace(x) => workspace_asks(focus, x, form, subject.space),
+        Key::Id(n) => Ok(subject.window.is_some() && subject.id.0 == *n),
+        Key::Con(n) => Ok(is_con(focus, *n, subject.id)),
+        Key::Urgent { latest } => Ok(is_end(focus.tree.urgent_ids(), *latest, subject.id)),
+        Key::Floating => Ok(subject.window.is_some() && subject.placed && !subject.tiled),
+        Key::Tiling => Ok(subject.window.is_some() && subject.tiled),
+        Key::All => Ok(subject.window.is_some()),
     }
 }
 
@@ -63,44 +64,14 @@ fn search(alloc: Global, pattern: &str, form: &Form, text: &str) -> Result<bool,
     }
 }
 
-/// The properties of the window. `None` exactly where the container is no window.
-fn window(tree: &Tree, con: ConId) -> Option<&Props>
-    ensures { option_copied result ≡ window tree.now con }
-{
-    match tree.container(con)?.kind {
-        ConKind::Window { ref props, .. } => Some(props),
-        ConKind::Split { .. } | ConKind::Placeholder { .. } => None,
-    }
-}
-
-fn is_window(tree: &Tree, con: ConId) -> bool
-    ensures { result ≡ is_window tree.now con }
-{
-    window(tree, con).is_some()
-}
-
-/// Whether this is the window of that id.
-fn is_window_of(tree: &Tree, id: u32, con: ConId) -> bool
-    ensures { result ≡ (is_window tree.now con && (con.0 == id)) }
-{
-    is_window(tree, con) && con.0 == id
-}
-
 /// Whether this is the container of that id, or the focused one where no id is asked for.
-fn is_con(tree: &Tree, id: Option<u32>, con: ConId) -> bool
-    ensures { result ≡ key_holds tree.now con (Con id) }
+fn is_con(focus: &Focus<'_>, id: Option<u32>, con: ConId) -> bool
+    ensures { result ≡ key_holds focus.now.tree.now con (Con id) }
 {
     match id {
         Some(id) => con.0 == id,
-        None => con == tree.focused(),
+        None => con == focus.con,
     }
-}
-
-/// Whether this is a window that is tiled.
-fn is_tiling(tree: &Tree, con: ConId) -> bool
-    ensures { result ≡ (is_window tree.now con && is_tiled_con tree.now con) }
-{
-    is_window(tree, con) && tree.is_tiled(con)
 }
 
 /// Whether there is a text, and it is this one.
@@ -114,58 +85,52 @@ fn is_text(given: Option<&Text>, text: &str) -> bool
 }
 
 /// The property of the focused window.
-fn focused_property(tree: &Tree, which: Property) -> Option<&Text>
-    ensures { option_copied result ≡ focused_property which tree.now }
+fn focused_property<'a>(focus: &Focus<'a>, which: Property) -> Option<&'a Text>
+    ensures { option_copied result ≡ focused_property which focus.now.tree.now }
 {
-    let props = window(tree, tree.focused())?;
+    let props = focus.window?;
     Some(which.of(props))
 }
 
 /// Whether this is a window with a property as it is asked for.
 fn window_asks(
-    alloc: Global,
-    tree: &Tree,
+    focus: &Focus<'_>,
     which: Property,
     value: &Text,
     form: &Form,
-    con: ConId,
+    subject: &Subject<'_>,
 ) -> Result<bool, NoMemory>
-    requires { form.now ≡ unless_plain (unless_focused value.now) }
-    ensures { IfOk result (λ b. b ≡ window_asks which value.now tree.now con) }
+    requires form { form.now ≡ unless_plain (unless_focused value.now) }
+    requires told { IsSubject subject.now focus.now.tree.now }
+    ensures { IfOk result (λ b. b ≡ window_asks which value.now focus.now.tree.now subject.now.id) }
 {
-    let Some(props) = window(tree, con) else {
+    let Some(props) = subject.window else {
         return Ok(false);
     };
     let own = which.of(props).as_str();
     if value.as_str() == FOCUSED {
-        Ok(is_text(focused_property(tree, which), own))
+        Ok(is_text(focused_property(focus, which), own))
     } else {
-        search(alloc, value.as_str(), form, own)
+        search(focus.alloc, value.as_str(), form, own)
     }
 }
 
 /// Whether this is a window of that kind.
-fn is_of_kind(tree: &Tree, kind: &Text, con: ConId) -> bool
-    ensures { result ≡ is_text (option_map (λ (p : Props). p.kind) (window tree.now con)) kind.now }
+fn is_of_kind(window: Option<&Props>, kind: &Text) -> bool
+    ensures { result ≡ is_text (option_map (λ (p : Props). p.kind) (option_copied window.entry)) kind.now }
 {
-    match window(tree, con) {
+    match window {
         Some(props) => props.kind.as_str() == kind.as_str(),
         None => false,
     }
 }
 
-/// Whether some mark of the container matches.
-fn some_mark(
-    alloc: Global,
-    tree: &Tree,
-    pattern: &Text,
-    form: &Form,
-    con: ConId,
-) -> Result<bool, NoMemory>
+/// Whether some of the marks matches.
+fn some_mark(alloc: Global, pattern: &Text, form: &Form, marks: &[Text]) -> Result<bool, NoMemory>
     requires { form.now ≡ unless_plain (Some pattern.now) }
-    ensures { IfOk result (λ b. b ≡ list_any (searches pattern.now) (first_marks (only con tree.now.nodes))) }
+    ensures { IfOk result (λ b. b ≡ list_any (searches pattern.now) marks.now) }
 {
-    let mut rest = tree.marks(con);
+    let mut rest = marks;
     while let [mark, after @ ..] = rest {
         if search(alloc, pattern.as_str(), form, mark.as_str())? {
             return Ok(true);
@@ -175,42 +140,20 @@ fn some_mark(
     Ok(false)
 }
 
-/// The name of the workspace.
-fn space_name(tree: &Tree, space: ConId) -> Option<&Text>
-    ensures { option_copied result ≡ space_name tree.now space }
-{
-    Some(&tree.space(space)?.name)
-}
-
-/// The name of the container's workspace, or `__i3_scratch` in the scratchpad.
-fn workspace_name(tree: &Tree, con: ConId) -> &str
-    ensures { result.now ≡ workspace_name tree.now con }
-{
-    let Some(space) = tree.workspace_of(con) else {
-        return "__i3_scratch";
-    };
-    match space_name(tree, space) {
-        Some(name) => name.as_str(),
-        None => "__i3_scratch",
-    }
-}
-
 /// Whether the name of the container's workspace is as it is asked for.
 fn workspace_asks(
-    alloc: Global,
-    tree: &Tree,
+    focus: &Focus<'_>,
     value: &Text,
     form: &Form,
-    con: ConId,
+    name: &str,
 ) -> Result<bool, NoMemory>
     requires { form.now ≡ unless_plain (unless_focused value.now) }
-    ensures { IfOk result (λ b. b ≡ asks value.now (space_name tree.now (shown tree.now)) (workspace_name tree.now con)) }
+    ensures { IfOk result (λ b. b ≡ asks value.now (space_name focus.now.tree.now (shown focus.now.tree.now)) name.now) }
 {
-    let name = workspace_name(tree, con);
     if value.as_str() == FOCUSED {
-        Ok(is_text(space_name(tree, tree.shown()), name))
+        Ok(is_text(focus.space, name))
     } else {
-        search(alloc, value.as_str(), form, name)
+        search(focus.alloc, value.as_str(), form, name)
     }
 }
 
@@ -223,11 +166,4 @@ fn is_end(ids: &[ConId], latest: bool, con: ConId) -> bool
         Some(id) => con == *id,
         None => false,
     }
-}
-
-/// Whether this is a floating window, which one in the scratchpad is not.
-fn is_floating(tree: &Tree, con: ConId) -> bool
-    ensures { result ≡ (is_window tree.now con && is_some (workspace_of tree.now con) && not (is_tiled_con tree.now con)) }
-{
-    is_window(tree, con) && tree.workspace_of(con).is_some() && !tree.is_tiled(con)
 }

@@ -1,7 +1,9 @@
 //! Criteria: patterns of the command language, and texts that are read and built once.
 #![tactic(auto)]
 
+mod asked;
 mod build;
+mod focus;
 mod form;
 mod forms;
 mod gathering;
@@ -15,6 +17,7 @@ mod prepared;
 mod preparing;
 mod property;
 mod regex_build;
+mod subject;
 mod verdict;
 
 pub use build::{Build, BuildFault};

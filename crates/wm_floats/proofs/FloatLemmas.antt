@@ -2,13 +2,15 @@
 use Rattle.std.proofs.Common.{◌≡◌, ℕ, ◌≢◌, ◌≤◌, Bool, true, false, cond, ◌&&◌, not, inl, inr, Option, None, Some, refl, ap, sym, ◌∙◌}
 use Rattle.std.specs.Prelude.{is_none, is_some, option_and_then}
 use Rattle.wm_base.specs.declared.errors.ErrorText.TheVariants as texts
+use Rattle.wm_base.specs.declared.errors.Refusal.{Refusal}
 use Rattle.wm_base.specs.declared.geometry.Rect.{Rect}
 use Rattle.wm_base.specs.declared.geometry.Size.{Size}
 use Rattle.wm_base.specs.declared.ids.ConId.{ConId}
 use Rattle.wm_floats.specs.declared.kinds.Kind.TheVariants as kinds
-use Rattle.wm_floats.specs.Floating.{IsGoal}
+use Rattle.wm_floats.specs.Floating.{IsGoal, float_refusal, sink_refusal}
 use Rattle.wm_floats.specs.Kinds.{is_flagged_state, is_of, is_of_space}
 use Rattle.wm_floats.specs.Scratchpad.{coming_place, first_hidden, middle_on}
+use Rattle.wm_floats.specs.Switches.{set_floating_refusal, will_float}
 use Rattle.wm_floats.specs.Windows.{natural_in, natural_of, state_of, window_refusal}
 use Rattle.wm_shared.proofs.ShowLemmas.{space_is}
 use Rattle.wm_shared.proofs.SpaceLemmas.{not_within}
@@ -78,6 +80,14 @@ con_low (Some part) ok = by_kind part.kind ok
     by_kind (Output o) ok = absurd (ok refl)
     by_kind (Space w) ok = absurd (ok refl)
     by_kind (Con c) ok = tt
+
+-- where it is none, that is the first error of a command that lets it float or tiles it
+pub float_first : (c : ConId) (on : Option Bool) (t : TreeValue) (e : Refusal) → window_refusal c t ≡ Some e → set_floating_refusal c on t ≡ Some e
+float_first c on t e h = by_test (will_float c on t)
+  where
+    by_test : (b : Bool) → cond b (float_refusal c t) (sink_refusal c t) ≡ Some e
+    by_test true = rw h refl
+    by_test false = rw h refl
 
 -- ---- where it may float
 

@@ -13,12 +13,13 @@ use Rattle.wm_shared.specs.Rects.{output_part_of}
 use Rattle.wm_forest.specs.declared.part.ConPart.{ConPart}
 use Rattle.wm_forest.specs.declared.part.OutputPart.{OutputPart}
 use Rattle.wm_forest.specs.declared.place.Place.{Place}
-use Rattle.wm_forest.specs.declared.place.Place.TheVariants.{After, Last, Float}
+use Rattle.wm_forest.specs.declared.place.Place.TheVariants.{Float}
 use Rattle.wm_tree.specs.Along.{nowhere}
 use Rattle.wm_forest.specs.Look.{con_kind, has, kind_of}
 use Rattle.wm_tree.specs.Move.{IsMove, moved, passed_by_move}
 use Rattle.wm_forest.specs.Place.{named}
-use Rattle.wm_tree.specs.TreeValue.{TreeValue, is_tiled_con, leaf, or_id, workspace_of}
+pub use Rattle.wm_tree.specs.TreeValue.{tiling_place}
+use Rattle.wm_tree.specs.TreeValue.{TreeValue, is_tiled_con, workspace_of}
 
 -- c is there, and so is the place to which it may move
 abbrev pub IsGoal : ConId → Place → TreeValue → Type 0
@@ -74,10 +75,6 @@ abbrev pub float_refusal : ConId → TreeValue → Option Refusal
 float_refusal c t = option_or (window_refusal c t) (floated_refusal c (workspace_of t c) t)
 
 -- ---- tiling
-
--- after the leaf of the workspace w, or last in it where nothing is tiled
-abbrev pub tiling_place : ConId → TreeValue → Place
-tiling_place w t = if is_tiled_con t (or_id (leaf t w) w) then After (or_id (leaf t w) w) else Last w
 
 abbrev pub sunk : ConId → Option ConId → TreeValue → TreeValue
 sunk c None t = t

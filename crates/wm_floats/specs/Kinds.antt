@@ -7,12 +7,12 @@ use Rattle.wm_floats.specs.declared.kinds.Kind.{Kind}
 use Rattle.wm_floats.specs.declared.kinds.Kind.TheVariants as kinds
 use Rattle.wm_floats.specs.Windows.{state_of}
 use Rattle.wm_shared.specs.Refusing.{error_if}
+pub use Rattle.wm_shared.specs.Showing.{raised_some}
 use Rattle.wm_shared.specs.Subject.{is_container, is_hidden}
 use Rattle.wm_forest.specs.declared.part.ConPart.{ConPart}
 use Rattle.wm_forest.specs.declared.part.ConState.{ConState}
 use Rattle.wm_forest.specs.Change.{is_id}
 use Rattle.wm_tree.specs.TreeValue.{TreeValue, is_tiled_con, workspace_of}
-use Rattle.wm_tree.specs.Words.{with_raised}
 
 abbrev pub is_flagged_state : Option ConState → Bool
 is_flagged_state None = false
@@ -54,10 +54,6 @@ kind_by false = kinds.Tiled
 abbrev pub focus_kind_refusal : ConId → Bool → TreeValue → Option Refusal
 focus_kind_refusal c floating t =
     error_if (is_hidden t c) texts.NoWorkspace (error_if (is_none (latest (kind_by floating) (workspace_of t c) t)) texts.NoNeighbour None)
-
-abbrev pub raised_some : Option ConId → TreeValue → TreeValue
-raised_some None t = t
-raised_some (Some c) t = with_raised c t
 
 -- the most recent floating window or tiled container of the subject's workspace is raised
 abbrev pub focus_kind_tree : ConId → Bool → TreeValue → TreeValue

@@ -6,4 +6,5 @@ pub mod Placing
 pub mod Rounds
 pub mod Scratchpad
 pub mod Sieve
+pub mod Switches
 pub mod Windows

@@ -1,14 +1,16 @@
 //! The most recent tiled or floating container of a workspace.
 ghost use Rattle.std.specs.Prelude.{◌≡◌, Some};
-ghost use Rattle.wm_floats.specs.Kinds.{focus_kind_refusal, focus_kind_tree, is_of, is_of_space, is_placed_of, kind_by, latest};
+ghost use Rattle.wm_floats.specs.Kinds.{is_of, is_of_space, is_placed_of, kind_by, latest};
 ghost use Rattle.wm_floats.specs.Sieve.{is_kind};
+ghost use Rattle.wm_floats.specs.Switches.{focus_other_refusal, focus_other_tree};
 ghost use Rattle.wm_floats.specs.declared.kinds.Kind.TheVariants as kinds;
 ghost use Rattle.wm_shared.specs.Does.{DoesExactly};
 ghost use Rattle.wm_shared.specs.Subject.{IsSubject};
 
 use crate::sieve::latest_sieved;
+use crate::windows::switched;
 use wm_base::{ConId, ErrorText, Refusal};
-use wm_tree::{ConPart, NodeKind, Placed, Standing, Tree};
+use wm_tree::{ConPart, NodeKind, Placed, SOON, Standing, Tree};
 
 /// Containers that are looked for: tiled ones, floating windows, or floating windows that are flagged for the
 /// scratchpad.
@@ -61,9 +63,6 @@ pub(crate) fn is_of_space(t: &Tree, kind: Kind, w: ConId, con: ConId) -> bool
     }
 }
 
-/// How many ids are asked for one by one before a sieve is made.
-const SOON: u32 = 8;
-
 /// The most recent container of this kind in the workspace.
 pub(crate) fn latest(t: &Tree, kind: Kind, w: ConId) -> Option<ConId>
     ensures { result ≡ latest kind (Some w) t.now }
@@ -93,16 +92,20 @@ fn kind_by(floating: bool) -> Kind
     }
 }
 
-/// Raises the most recent floating window (`floating`) or tiled container of the subject's workspace.
-pub fn focus_kind(t: &mut Tree, from: ConId, floating: bool) -> Result<(), Refusal>
+/// Raises the most recent floating window (`floating`) or tiled container of the subject's workspace; `None` is a tiled
+/// one for a floating subject, and a floating one for any other.
+pub fn focus_kind(t: &mut Tree, from: ConId, floating: Option<bool>) -> Result<(), Refusal>
     requires { IsSubject t.old from }
-    ensures { DoesExactly t.old t.new result (focus_kind_refusal from floating)
-        (focus_kind_tree from floating) }
+    ensures { DoesExactly t.old t.new result (focus_other_refusal from floating)
+        (focus_other_tree from floating) }
 {
-    let Some(w) = t.workspace_of(from) else {
-        return Err(Refusal::NoTarget(ErrorText::NoWorkspace));
+    let (w, floats) = match t.standing(from) {
+        Some(Standing::Space(_)) => (from, false),
+        Some(Standing::Placed(Placed { space, tiled, .. })) => (space, !tiled),
+        Some(Standing::Away(..)) => return Err(Refusal::NoTarget(ErrorText::NoWorkspace)),
+        Some(Standing::Above) | None => unreachable!(),
     };
-    match latest(t, kind_by(floating), w) {
+    match latest(t, kind_by(switched(floating, floats)), w) {
         Some(con) => {
             t.raise(con);
             Ok(())

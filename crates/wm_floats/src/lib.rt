@@ -13,11 +13,11 @@ mod sieve;
 mod sticking;
 mod windows;
 
-pub use floating::{float, sink};
-pub use full::{fills_alone, fullscreen};
+pub use floating::set_floating;
+pub use full::{fills_alone, set_fullscreen};
 pub use kinds::{focus_kind, is_floating};
 pub use laws::floats_as_before;
 pub use placing::{centre, move_by, place_at};
 pub use rounds::{focus_round, shift};
 pub use scratchpad::{show_scratchpad, to_scratchpad};
-pub use sticking::stick;
+pub use sticking::set_sticky;

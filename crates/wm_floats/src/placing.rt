@@ -1,21 +1,19 @@
 //! Moving floating windows about on the screen.
-ghost use Rattle.std.specs.Prelude.{◌≡◌, ◌+ℤ◌, None, Some, OnOk, IfErr};
+ghost use Rattle.std.specs.Prelude.{◌≡◌};
 ghost use Rattle.wm_floats.specs.Placing.{centre_refusal, centre_tree, middle_x, middle_y, move_by_refusal, move_by_tree, place_at_refusal, place_at_tree};
 ghost use Rattle.std.specs.Option.{option_copied};
 ghost use Rattle.wm_shared.specs.Does.{DoesExactly};
 ghost use Rattle.wm_shared.specs.Subject.{IsSubject};
 
 use crate::places::middle_of;
-use crate::windows::set_rect;
 use wm_base::{ConId, ErrorText, Rect, Refusal};
-use wm_shared::{is_in_range, on_workspace, output_part_of, rect_of};
+use wm_shared::{is_in_range, on_workspace, output_part_of, rect_of, set_rect};
 use wm_tree::{OutputPart, Tree};
 
-/// Why the floating window is not put at this place, in pixels.
-fn place_refusal(t: &Tree, con: ConId, x: i64, y: i64) -> Result<(), Refusal>
-    requires { IsSubject t.now con }
-    ensures fine { OnOk result (place_at_refusal con x y t.now ≡ None) }
-    ensures cause { IfErr result (λ e. place_at_refusal con x y t.now ≡ Some e) }
+/// Puts the floating window's outer rectangle at this place, in pixels. Its size stays.
+pub fn place_at(t: &mut Tree, con: ConId, x: i64, y: i64) -> Result<(), Refusal>
+    requires { IsSubject t.old con }
+    ensures { DoesExactly t.old t.new result (place_at_refusal con x y) (place_at_tree con x y) }
 {
     if on_workspace(t, con)?.tiled {
         return Err(Refusal::NoTarget(ErrorText::NotFloating));
@@ -23,15 +21,6 @@ fn place_refusal(t: &Tree, con: ConId, x: i64, y: i64) -> Result<(), Refusal>
     if !(is_in_range(x) && is_in_range(y)) {
         return Err(Refusal::NoTarget(ErrorText::OutOfRange));
     }
-    Ok(())
-}
-
-/// Puts the floating window's outer rectangle at this place, in pixels. Its size stays.
-pub fn place_at(t: &mut Tree, con: ConId, x: i64, y: i64) -> Result<(), Refusal>
-    requires { IsSubject t.old con }
-    ensures { DoesExactly t.old t.new result (place_at_refusal con x y) (place_at_tree con x y) }
-{
-    place_refusal(t, con, x, y)?;
     let Rect { w, h, .. } = rect_of(t, con);
     let rect = Rect {
         x: x as i32,
@@ -43,20 +32,14 @@ pub fn place_at(t: &mut Tree, con: ConId, x: i64, y: i64) -> Result<(), Refusal>
     Ok(())
 }
 
-fn sum(a: i32, b: i32) -> i64
-    ensures { result ≡ a +ℤ b }
-{
-    i64::from(a) + i64::from(b)
-}
-
 /// Shifts the floating window by so many pixels to the right and down.
 pub fn move_by(t: &mut Tree, con: ConId, dx: i32, dy: i32) -> Result<(), Refusal>
     requires { IsSubject t.old con }
     ensures { DoesExactly t.old t.new result (move_by_refusal con dx dy) (move_by_tree con dx dy) }
 {
     let rect = rect_of(t, con);
-    let x = sum(rect.x, dx);
-    let y = sum(rect.y, dy);
+    let x = i64::from(rect.x) + i64::from(dx);
+    let y = i64::from(rect.y) + i64::from(dy);
     place_at(t, con, x, y)
 }
 

@@ -3,8 +3,7 @@ ghost use Rattle.std.specs.Prelude.{◌≡◌, ◌≢◌, None, Some, false, tru
 ghost use Rattle.wm_floats.specs.Floating.{earlier, floating_rect};
 ghost use Rattle.wm_floats.specs.Kinds.{is_flagged_state};
 ghost use Rattle.wm_floats.specs.Windows.{state_of};
-ghost use Rattle.wm_floats.specs.Scratchpad.{bring_first_refusal, bring_first_tree, brought, brought_refusal, coming_place, middle_on, put_away, put_away_refusal, show_next_refusal, show_next_tree, show_scratchpad_refusal, show_scratchpad_tree, show_this_refusal, show_this_tree, to_scratchpad_refusal, to_scratchpad_tree};
-ghost use Rattle.std.specs.Option.{option_copied};
+ghost use Rattle.wm_floats.specs.Scratchpad.{bring_first_refusal, bring_first_tree, brought, brought_refusal, coming_place, put_away, put_away_refusal, show_next_refusal, show_next_tree, show_scratchpad_refusal, show_scratchpad_tree, show_this_refusal, show_this_tree, to_scratchpad_refusal, to_scratchpad_tree};
 ghost use Rattle.wm_shared.specs.Does.{DoesExactly};
 ghost use Rattle.wm_shared.specs.Subject.{IsSubject, is_hidden};
 ghost use Rattle.wm_forest.specs.Look.{con_kind, kind_of};
@@ -16,7 +15,7 @@ use crate::places::held_middle;
 use crate::windows::{set_flag, window_at};
 use wm_base::{ConId, ErrorText, Rect, Refusal, Size};
 use wm_shared::{is_hidden, rect_of};
-use wm_tree::{OutputPart, Place, Tree};
+use wm_tree::{Place, Tree};
 
 /// Puts the window last into the scratchpad, floating and flagged. It loses fullscreen.
 pub fn to_scratchpad(t: &mut Tree, con: ConId) -> Result<(), Refusal>
@@ -46,22 +45,16 @@ fn put_away(t: &mut Tree, con: ConId) -> Result<(), Refusal>
     go(t, con, Place::Scratchpad(rect))
 }
 
-/// The rectangle in the middle of the output, where there is one.
-fn middle_on(output: Option<&OutputPart>, rect: Rect) -> Rect
-    ensures { result ≡ middle_on (option_copied output.entry) rect }
-{
-    let Rect { w, h, .. } = rect;
-    match output {
-        Some(output) => held_middle(output.rect, Size { w, h }),
-        None => rect,
-    }
-}
-
 /// Where a window of the scratchpad comes.
 fn coming_place(t: &Tree, con: ConId) -> Place
     ensures { result ≡ coming_place con t.now }
 {
-    let rect = middle_on(t.output(t.current()), rect_of(t, con));
+    let rect = rect_of(t, con);
+    let Rect { w, h, .. } = rect;
+    let rect = match t.output(t.current()) {
+        Some(output) => held_middle(output.rect, Size { w, h }),
+        None => rect,
+    };
     Place::Float(t.shown(), rect)
 }
 

@@ -4,21 +4,10 @@ ghost use Rattle.wm_base.specs.declared.ids.ConId.{ConId};
 ghost use Rattle.wm_floats.specs.Kinds.{first_of, is_of_space, latest};
 ghost use Rattle.wm_floats.specs.Sieve.{Takes, TakesIn, is_wanted};
 ghost use Rattle.wm_forest.specs.Sieve.{is_taken};
-ghost use Rattle.wm_forest.specs.Spot.{space_at};
 
 use crate::kinds::{Kind, is_kind, is_of_space};
 use wm_base::ConId;
 use wm_tree::{Cursor, NodeKind, Part, Recent, Sieve, Tree};
-
-/// The workspace of a node whose row is in that one, or in none.
-fn space_at(space: Option<ConId>, part: &Part) -> Option<ConId>
-    ensures { result ≡ space_at space part.now }
-{
-    match part.kind {
-        NodeKind::Space(_) => Some(part.id),
-        NodeKind::Root { .. } | NodeKind::Output(_) | NodeKind::Con(_) => space,
-    }
-}
 
 /// What is looked for: containers of a kind in a workspace.
 #[derive(Clone, Copy, Debug, PartialEq, Eq)]
@@ -53,20 +42,12 @@ fn take_in(sieve: &mut Sieve, wanted: Wanted, space: Option<ConId>, tiled: bool,
 {
     let mut row = row;
     while let Some(part) = row.part() {
-        let within = space_at(space, part);
+        let within = part.space_at(space);
         take(sieve, wanted, within, tiled, part);
         take_in(sieve, wanted, within, true, row.kids());
         take_in(sieve, wanted, within, false, row.floats());
         row = row.rest();
     }
-}
-
-/// Whether the node is a container of this kind in the workspace, all of which have their places taken.
-fn is_there(t: &Tree, wanted: Wanted, sieve: &Sieve, id: ConId) -> bool
-    requires { (c : ConId) → is_of_space wanted.kind wanted.space t.now c ≡ true → is_taken c sieve.now ≡ true }
-    ensures { result ≡ is_of_space wanted.kind wanted.space t.now id }
-{
-    sieve.has_taken(id) && is_of_space(t, wanted.kind, wanted.space, id)
 }
 
 /// The first of the ids that is such a container, all of which have their places taken.
@@ -76,7 +57,7 @@ fn first_taken(t: &Tree, wanted: Wanted, sieve: &Sieve, ids: Recent<'_>) -> Opti
 {
     let mut rest = ids;
     while let Some(id) = rest.next() {
-        if is_there(t, wanted, sieve, id) {
+        if sieve.has_taken(id) && is_of_space(t, wanted.kind, wanted.space, id) {
             return Some(id);
         }
     }

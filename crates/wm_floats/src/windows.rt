@@ -1,31 +1,22 @@
-//! Windows as subjects of commands: their state, their natural size, and who is none.
-ghost use Rattle.std.specs.Prelude.{◌≡◌, ◌≢◌, None, Some, OnOk, IfOk, IfErr};
+//! Windows as subjects of commands: who is none, and flags of their state.
+ghost use Rattle.std.specs.Prelude.{◌≡◌, ◌≢◌, None, OnOk, IfOk};
+ghost use Rattle.wm_shared.specs.Does.{Makes, Refuses};
 ghost use Rattle.wm_shared.specs.Subject.{IsSubject};
-ghost use Rattle.wm_floats.specs.Windows.{flag_set, full_set, natural_by, natural_of, rect_set, state_of, sticky_set, window_refusal};
-ghost use Rattle.wm_tree.specs.Sound.{IsSound};
+ghost use Rattle.wm_shared.specs.Windows.{natural_of};
+ghost use Rattle.wm_floats.specs.Switches.{switched};
+ghost use Rattle.wm_floats.specs.Windows.{flag_set, full_set, window_refusal};
 ghost use Rattle.wm_tree.specs.Standing.{IsPlaced};
 
-use wm_base::{ConId, ErrorText, Rect, Refusal, Size};
-use wm_shared::on_workspace;
-use wm_tree::{ConKind, ConState, Placed, Tree};
-
-/// The natural size of a window. `None` exactly where it is a split or a placeholder.
-pub(crate) fn natural_by(kind: &ConKind) -> Option<Size>
-    ensures { result ≡ natural_by kind.now }
-{
-    match kind {
-        ConKind::Window { natural, .. } => Some(*natural),
-        ConKind::Split { .. } | ConKind::Placeholder { .. } => None,
-    }
-}
+use wm_base::{ConId, ErrorText, Refusal};
+use wm_shared::{natural_by, on_workspace, state_of};
+use wm_tree::{ConState, Placed, Tree};
 
 /// The subject where it is a window on a workspace; else why a command for such windows is not done to it.
 pub(crate) fn window_at(t: &Tree, con: ConId) -> Result<Placed<'_>, Refusal>
     requires { IsSubject t.now con }
-    ensures fine { OnOk result (window_refusal con t.now ≡ None) }
+    ensures first { Refuses result (window_refusal con t.now) }
     ensures size { OnOk result (natural_of con t.now ≢ None) }
     ensures placed { IfOk result (λ placed. IsPlaced placed con t.now) }
-    ensures cause { IfErr result (λ e. window_refusal con t.now ≡ Some e) }
 {
     let placed = on_workspace(t, con)?;
     if natural_by(&placed.part.kind).is_none() {
@@ -34,28 +25,16 @@ pub(crate) fn window_at(t: &Tree, con: ConId) -> Result<Placed<'_>, Refusal>
     Ok(placed)
 }
 
-/// The state of a container.
-pub(crate) fn state_of(t: &Tree, con: ConId) -> Option<ConState>
-    ensures { result ≡ state_of con t.now }
+/// Whether a property is on after a command, given whether it is on now: as the command says, or the other way round.
+pub(crate) fn switched(on: Option<bool>, now: bool) -> bool
+    ensures { result ≡ switched on now }
 {
-    Some(t.container(con)?.state)
-}
-
-/// Makes the container sticky, or takes that from it.
-pub(crate) fn set_sticky(t: &mut Tree, con: ConId, on: bool)
-    ensures tree { t.new ≡ sticky_set on con t.old }
-    ensures sound { IsSound t.old → IsSound t.new }
-{
-    if let Some(state) = state_of(t, con) {
-        let sticky = on;
-        t.set_state(con, ConState { sticky, ..state });
-    }
+    on.unwrap_or(!now)
 }
 
 /// Makes the container fullscreen, or takes that from it.
 pub(crate) fn set_full(t: &mut Tree, con: ConId, on: bool)
-    ensures tree { t.new ≡ full_set on con t.old }
-    ensures sound { IsSound t.old → IsSound t.new }
+    ensures { Makes t.old t.new (full_set on con) }
 {
     if let Some(state) = state_of(t, con) {
         let fullscreen = on;
@@ -71,22 +50,10 @@ pub(crate) fn set_full(t: &mut Tree, con: ConId, on: bool)
 
 /// Flags the container for the scratchpad, or takes that from it.
 pub(crate) fn set_flag(t: &mut Tree, con: ConId, on: bool)
-    ensures tree { t.new ≡ flag_set on con t.old }
-    ensures sound { IsSound t.old → IsSound t.new }
+    ensures { Makes t.old t.new (flag_set on con) }
 {
     if let Some(state) = state_of(t, con) {
         let flagged = on;
         t.set_state(con, ConState { flagged, ..state });
-    }
-}
-
-/// Gives the container this outer rectangle.
-pub(crate) fn set_rect(t: &mut Tree, con: ConId, rect: Rect)
-    ensures tree { t.new ≡ rect_set rect con t.old }
-    ensures sound { IsSound t.old → IsSound t.new }
-{
-    if let Some(state) = state_of(t, con) {
-        let rect = Some(rect);
-        t.set_state(con, ConState { rect, ..state });
     }
 }

@@ -1,5 +1,4 @@
 pub mod AboveLemmas
-pub mod AllLemmas
 pub mod BesideLemmas
 pub mod ClimbLemmas
 pub mod GiveLemmas
@@ -12,4 +11,3 @@ pub mod SplitLemmas
 pub mod SubjectLemmas
 pub mod SwapLemmas
 pub mod TurnLemmas
-pub mod WithinLemmas

@@ -1,10 +1,13 @@
 -- Why an exchange or a move is refused.
-use Rattle.std.proofs.Common.{◌≡◌, Bool, true, false, inl, inr, Some, refl, ap, sym}
+use Rattle.std.proofs.Common.{◌≡◌, Bool, true, false, inl, inr, Option, None, Some, refl, ap, sym}
+use Rattle.std.specs.Prelude.{IfSome}
 use Rattle.wm_base.specs.declared.errors.ErrorText.{ErrorText}
 use Rattle.wm_base.specs.declared.errors.Refusal.TheVariants as refusals
 use Rattle.wm_base.specs.declared.ids.ConId.{ConId}
 use Rattle.wm_focus.proofs.SubjectLemmas.{tiled_is}
+use Rattle.wm_shared.proofs.ShowLemmas.{workspace_is}
 use Rattle.wm_shared.specs.Refusing.{refusal_by}
+use Rattle.wm_shared.specs.Subject.{is_space}
 use Rattle.wm_focus.specs.Swaps.{beside_refusal, exchange_refusal, is_part}
 use Rattle.wm_forest.proofs.ForestLemmas.{only_absent}
 use Rattle.wm_forest.specs.declared.place.Place.TheVariants.{After}
@@ -12,7 +15,8 @@ use Rattle.wm_tree.specs.declared.refusal.TreeRefusal.{TreeRefusal}
 use Rattle.wm_tree.specs.declared.refusal.TreeRefusal.TheVariants.{Full, Missing, NoMemory}
 use Rattle.wm_forest.specs.Look.{con_kind, first_part, has, kind_by, only}
 use Rattle.wm_tree.specs.Move.{IsExchangeCause, IsMoveCause}
-use Rattle.wm_tree.specs.TreeValue.{TreeValue, is_tiled_con}
+use Rattle.wm_tree.specs.Sound.{IsSound}
+use Rattle.wm_tree.specs.TreeValue.{TreeValue, is_tiled_con, workspace_of}
 
 -- a tiled container is there
 pub tiled_there : (t : TreeValue) (c : ConId) → is_tiled_con t c ≡ true → has c t.nodes ≡ true
@@ -34,3 +38,8 @@ move_cause t c m (Full limit) apart a b h = rw (apart, a, b, h.2) refl
 move_cause t c m (Missing i) apart a b (inl w) = let here = tiled_there t c b in absurd (cc (w.1, here))
 move_cause t c m (Missing i) apart a b (inr w) = let here = tiled_there t m a in absurd (cc (w.2, here))
 move_cause t c m NoMemory apart a b h = absurd h
+
+-- the workspace of a container, if it has one
+pub space_if : (c : ConId) (o : Option ConId) (t : TreeValue) → IsSound t → workspace_of t c ≡ o → IfSome o (λ w. is_space t w ≡ true)
+space_if c None t s e = tt
+space_if c (Some w) t s e = workspace_is c w t s e

@@ -5,7 +5,5 @@ pub mod Moves
 pub mod Parents
 pub mod Rungs
 pub mod Splits
-pub mod Stripped
 pub mod Swaps
 pub mod Walks
-pub mod Within

@@ -7,9 +7,9 @@ use Rattle.wm_base.specs.declared.errors.Refusal.TheVariants.{Full}
 use Rattle.wm_base.specs.declared.ids.ConId.{ConId}
 use Rattle.wm_shared.specs.Refusing.{error_if}
 use Rattle.wm_shared.specs.Subject.{is_space}
-use Rattle.wm_forest.specs.Forest.{Forest, end, con}
+use Rattle.wm_forest.specs.Forest.{Forest}
 use Rattle.wm_tree.specs.Move.{is_full_of_marks, unmarked, with_marks}
-pub use Rattle.wm_tree.specs.Marks.{bearer, bears, cleared, freed, given_mark, is_marked, kept_marks, part_off, taken_off, that_mark, with_mark}
+pub use Rattle.wm_tree.specs.Marks.{bare, bearer, bears, cleared, freed, given_mark, is_marked, kept_marks, part_off, taken_off, that_mark, with_mark}
 use Rattle.wm_tree.specs.TreeValue.{TreeValue}
 
 -- the first container, depth first, that has the mark
@@ -17,11 +17,6 @@ abbrev pub holder_of : List ℕ → TreeValue → Option ConId
 holder_of n t = bearer None n t.nodes
 
 -- ---- taking off
-
--- the forest in which no node has a mark
-abbrev pub bare : Forest → Forest
-bare end = end
-bare (con part kids floats rest) = con (record part { marks = [] }) (bare kids) (bare floats) (bare rest)
 
 -- that mark off one container, or all marks
 abbrev pub unmark_one : ConId → Option (List ℕ) → TreeValue → TreeValue

@@ -4,14 +4,9 @@ use Rattle.wm_base.specs.declared.errors.ErrorText.TheVariants as texts
 use Rattle.wm_base.specs.declared.errors.Refusal.{Refusal}
 use Rattle.wm_base.specs.declared.ids.ConId.{ConId}
 use Rattle.wm_shared.specs.Refusing.{error_if}
+pub use Rattle.wm_shared.specs.Showing.{raised_some}
 use Rattle.wm_shared.specs.Subject.{is_hidden, is_space}
 use Rattle.wm_tree.specs.TreeValue.{TreeValue, focused_child, parent}
-use Rattle.wm_tree.specs.Words.{with_raised}
-
--- the tree in which a node is raised, where there is one
-abbrev pub raised_some : Option ConId → TreeValue → TreeValue
-raised_some None t = t
-raised_some (Some c) t = with_raised c t
 
 -- one in the scratchpad has no workspace, and above a workspace nothing is focused
 abbrev pub focus_parent_refusal : ConId → TreeValue → Option Refusal

@@ -6,10 +6,8 @@ use Rattle.wm_base.specs.declared.ids.ConId.{ConId}
 use Rattle.wm_focus.specs.declared.rungs.Aim.{Aim}
 use Rattle.wm_focus.specs.declared.rungs.Aim.TheVariants.{Around, Beside, Out}
 use Rattle.wm_forest.specs.declared.part.ConKind.{ConKind}
-use Rattle.wm_forest.specs.declared.part.ConKind.TheVariants.{Split, Window, Placeholder}
 use Rattle.wm_forest.specs.declared.part.NodeKind.{NodeKind}
-use Rattle.wm_forest.specs.declared.part.NodeKind.TheVariants.{Root, Output, Space, Con}
-use Rattle.wm_shared.specs.Neighbours.{axis_of, dir_axis, first_id, is_forward, last_id, neighbour, same_axis}
+use Rattle.wm_shared.specs.Neighbours.{dir_axis, first_id, is_forward, last_id, neighbour, runs as runs_along, runs_con as splits_along}
 use Rattle.wm_forest.specs.Change.{is_end}
 use Rattle.wm_forest.specs.Forest.{Forest, end, con}
 use Rattle.wm_forest.specs.Look.{has, rest_of, same}
@@ -18,17 +16,13 @@ use Rattle.wm_forest.specs.Focus.{row_holder}
 
 -- ---- axes
 
+-- a split puts its children along the axis of the direction
 abbrev pub runs_con : Dir → ConKind → Bool
-runs_con d (Split layout last) = same_axis (axis_of layout) (dir_axis d)
-runs_con d (Window props owner natural) = false
-runs_con d (Placeholder props swallows) = false
+runs_con d kind = splits_along (dir_axis d) kind
 
 -- a workspace or split puts its children along the axis of the direction
 abbrev pub runs : Dir → NodeKind → Bool
-runs d (Root c) = false
-runs d (Output o) = false
-runs d (Space s) = same_axis (axis_of s.layout) (dir_axis d)
-runs d (Con c) = runs_con d c.kind
+runs d kind = runs_along (dir_axis d) kind
 
 -- the node at the other end than that of the direction, in a row of two or more
 abbrev pub far_end : Dir → Forest → Option ConId

@@ -1,6 +1,6 @@
 //! Focusing in a direction.
-ghost use Rattle.std.specs.Prelude.{◌≡◌, false, true, Some, OnOk, OnErr, IfOk};
-ghost use Rattle.wm_focus.specs.Direction.{IsListed, focus_dir_refusal, focus_dir_tree, focusing_some, goal_of, gone_to};
+ghost use Rattle.std.specs.Prelude.{◌≡◌, false};
+ghost use Rattle.wm_focus.specs.Direction.{IsListed, focus_dir_refusal, focus_dir_tree, goal_of};
 ghost use Rattle.wm_shared.specs.Does.{Does};
 ghost use Rattle.wm_floats.specs.Kinds.{is_of};
 ghost use Rattle.wm_floats.specs.declared.kinds.Kind.TheVariants as kinds;
@@ -38,17 +38,23 @@ pub fn focus_dir(t: &mut Tree, from: ConId, d: Dir) -> Result<(), Refusal>
     }
 }
 
-/// Focuses what lies in a direction of a workspace or of a tiled container on one.
+/// Focuses the leaf of what lies in a direction of a workspace or of a tiled container on one, or makes the output there
+/// the current one.
 fn focus_beside(t: &mut Tree, from: ConId, d: Dir) -> Result<(), Refusal>
     requires sound { IsSound t.old }
     requires tiled { is_of kinds.Floating t.old from ≡ false }
     requires seen { is_hidden t.old from ≡ false }
     ensures { Does t.old t.new result (focus_dir_refusal from d) (focus_dir_tree from d) }
 {
-    let Some(goal) = find_goal(t, from, d) else {
-        return Err(Refusal::NoTarget(ErrorText::NoNeighbour));
+    let went = match find_goal(t, from, d) {
+        Some(Goal::Node(node)) => match t.leaf(node) {
+            Some(leaf) => focus(t, leaf),
+            None => Ok(()),
+        },
+        Some(Goal::Output(output)) => enter_output(t, output),
+        None => return Err(Refusal::NoTarget(ErrorText::NoNeighbour)),
     };
-    match go(t, goal) {
+    match went {
         Ok(()) => Ok(()),
         Err(NoMemory) => Err(Refusal::NoMemory),
     }
@@ -67,21 +73,4 @@ fn find_goal(t: &Tree, from: ConId, d: Dir) -> Option<Goal>
         return Some(Goal::Output(output));
     }
     Some(Goal::Node(ways.around?))
-}
-
-/// Focuses the leaf of a node, or makes an output the current one.
-fn go(t: &mut Tree, goal: Goal) -> Result<(), NoMemory>
-    requires sound { IsSound t.old }
-    requires listed { IsListed (Some goal) t.old }
-    ensures tree { OnOk result (t.new ≡ gone_to (Some goal) t.old) }
-    ensures err { OnErr result (t.new ≡ t.old) }
-    ensures sound { IsSound t.new }
-{
-    match goal {
-        Goal::Node(node) => match t.leaf(node) {
-            Some(leaf) => focus(t, leaf),
-            None => Ok(()),
-        },
-        Goal::Output(output) => enter_output(t, output),
-    }
 }

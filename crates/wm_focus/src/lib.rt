@@ -10,7 +10,6 @@ mod parents;
 mod rungs;
 mod splits;
 mod swaps;
-mod within;
 
 pub use direction::focus_dir;
 pub use laws::{marked_is_found, none_is_left, one_has_a_mark};

@@ -1,5 +1,5 @@
 //! Moving a container in a direction.
-ghost use Rattle.std.specs.Prelude.{◌≡◌, Some, IfNone, IfSome, false, true};
+ghost use Rattle.std.specs.Prelude.{◌≡◌, Some, MatchOption, false, true};
 ghost use Rattle.wm_focus.specs.Moves.{IsGoal, IsTurn, after_child, beside, cross_refusal, cross_tree, entry, held_out, is_split_con, leave_refusal, leave_tree, move_dir_refusal, move_dir_tree, move_refusal, near_end, runs_split, side_of, space_over, step_refusal, step_tree, turn_refusal, turned};
 ghost use Rattle.wm_shared.specs.Does.{Does};
 ghost use Rattle.wm_shared.specs.Subject.{IsSubject};
@@ -8,11 +8,12 @@ ghost use Rattle.wm_tree.specs.Move.{moved, share_in};
 ghost use Rattle.wm_tree.specs.Sound.{IsSound};
 ghost use Rattle.wm_tree.specs.TreeValue.{is_tiled_con, parent};
 
-use crate::rungs::{Aim, aimed, runs_con, ways_above};
+use crate::rungs::{Aim, aimed, ways_above};
 use wm_base::{ConId, Dir, ErrorText, Refusal};
 use wm_floats::shift;
 use wm_shared::{
-    enter, is_forward, on_workspace, output_from, refused, remember, shown_on, space_name,
+    dir_axis, enter, is_forward, layout_axis, on_workspace, output_from, refused, remember,
+    shown_on, space_name,
 };
 use wm_tree::{ConKind, Cursor, Place, Placed, Tree};
 
@@ -166,12 +167,12 @@ fn share(t: &Tree, con: ConId) -> u32
 
 /// Whether the split is along the axis of the direction. `None` exactly where it is no split.
 fn split_along(t: &Tree, con: ConId, d: Dir) -> Option<bool>
-    ensures some { IfSome result (λ along. (is_split_con t.now con ≡ true) × (runs_split d con t.now ≡ along)) }
-    ensures none { IfNone result (is_split_con t.now con ≡ false) }
+    ensures { MatchOption result (is_split_con t.now con ≡ false)
+        (λ along. (is_split_con t.now con ≡ true) × (runs_split d con t.now ≡ along)) }
 {
     let part = t.container(con)?;
     match part.kind {
-        ConKind::Split { .. } => Some(runs_con(d, &part.kind)),
+        ConKind::Split { layout, .. } => Some(layout_axis(layout) == dir_axis(d)),
         ConKind::Window { .. } | ConKind::Placeholder { .. } => None,
     }
 }

@@ -1,12 +1,12 @@
 //! Climbing from a container along the nodes that hold it.
 ghost use Rattle.std.specs.Prelude.{◌≡◌};
-ghost use Rattle.wm_focus.specs.Rungs.{aimed, far_end, rung, runs, runs_con};
+ghost use Rattle.wm_focus.specs.Rungs.{aimed, far_end, rung};
 ghost use Rattle.wm_shared.specs.Neighbours.{after, axis_of, before, dir_axis, first_id, is_forward, last_id, neighbour};
 ghost use Rattle.wm_focus.specs.Walks.{climbed, further, ways};
 ghost use Rattle.wm_forest.specs.Look.{first_kids};
 
 use wm_base::{ConId, Dir};
-use wm_shared::{dir_axis, first_id, is_forward, last_id, layout_axis, neighbour};
+use wm_shared::{dir_axis, first_id, is_forward, last_id, neighbour, runs};
 use wm_tree::{ConKind, Cursor, NodeKind};
 
 /// What is looked for at a node along the axis of a direction: the neighbour on that side of the child that holds a
@@ -106,34 +106,13 @@ pub(crate) fn aimed(
 ) -> Option<ConId>
     ensures { result ≡ aimed aim d (rung kind.now row.entry child) }
 {
-    if !runs(d, kind) {
+    if !runs(dir_axis(d), kind) {
         return None;
     }
     match aim {
         Aim::Beside => neighbour(d, child, &row),
         Aim::Around => far_end(d, row),
         Aim::Out => Some(child),
-    }
-}
-
-/// Whether a workspace or split puts its children along the axis of the direction.
-pub(crate) fn runs(d: Dir, kind: &NodeKind) -> bool
-    ensures { result ≡ runs d kind.now }
-{
-    match kind {
-        NodeKind::Root { .. } | NodeKind::Output(_) => false,
-        NodeKind::Space(space) => layout_axis(space.layout) == dir_axis(d),
-        NodeKind::Con(con) => runs_con(d, &con.kind),
-    }
-}
-
-/// Whether it is a split along the axis of the direction.
-pub(crate) fn runs_con(d: Dir, kind: &ConKind) -> bool
-    ensures { result ≡ runs_con d kind.now }
-{
-    match kind {
-        ConKind::Split { layout, .. } => layout_axis(*layout) == dir_axis(d),
-        ConKind::Window { .. } | ConKind::Placeholder { .. } => false,
     }
 }
 

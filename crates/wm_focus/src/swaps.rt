@@ -1,19 +1,19 @@
 //! Exchanging the places of two containers, and moving one after another.
-ghost use Rattle.std.specs.Prelude.{◌≡◌, ◌≢◌, ◌&&◌, ◌||◌, Some, None, false, true};
+ghost use Rattle.std.specs.Prelude.{◌≡◌, ◌≢◌, ◌&&◌, ◌||◌, Some, None, IfSome, false, true};
 ghost use Rattle.wm_shared.specs.Does.{DoesExactly, DoesExactlyIfSound};
-ghost use Rattle.wm_shared.specs.Subject.{IsSubject};
-ghost use Rattle.wm_focus.specs.Swaps.{beside_refusal, exchange_refusal, exchanged_with, is_part, moved_after, move_to_mark_refusal, move_to_mark_tree, partner, partner_text, send_beside_refusal, sent_beside, swap_refusal, swap_tree};
+ghost use Rattle.wm_shared.specs.Subject.{IsSubject, is_space};
+ghost use Rattle.wm_spaces.specs.Sending.{sent_some, sent_some_refusal};
+ghost use Rattle.wm_focus.specs.Swaps.{beside_refusal, exchange_refusal, exchanged_with, is_part, moved_after, move_to_mark_refusal, move_to_mark_tree, partner, partner_text, swap_refusal, swap_tree};
 ghost use Rattle.wm_forest.specs.Look.{con_kind, has, kind_of, only};
 ghost use Rattle.wm_tree.specs.Sound.{IsSound};
 ghost use Rattle.wm_tree.specs.TreeValue.{is_tiled_con};
 
 use crate::marks::marked;
-use crate::within::is_within;
 use wm_base::{ConId, ErrorText, Refusal, Text};
 use wm_language::SwapArg;
 use wm_shared::{on_workspace, refused};
 use wm_spaces::send;
-use wm_tree::{Place, Placed, Tree};
+use wm_tree::{Place, Placed, Standing, Tree};
 
 /// The container that the command names.
 fn partner(t: &Tree, arg: &SwapArg) -> Option<ConId>
@@ -62,7 +62,7 @@ fn exchange(t: &mut Tree, con: ConId, tiled: bool, other: ConId) -> Result<(), R
     ensures { DoesExactlyIfSound t.old t.new result (exchange_refusal con (Some other) ErrorText.NoMark)
         (exchanged_with con (Some other)) }
 {
-    if is_within(t, con, other) || is_within(t, other, con) {
+    if t.is_within(con, other) || t.is_within(other, con) {
         return Err(Refusal::NoTarget(ErrorText::SameContainer));
     }
     if !tiled || !t.is_tiled(other) {
@@ -96,14 +96,16 @@ fn move_after(t: &mut Tree, con: ConId, tiled: bool, other: ConId) -> Result<(),
     ensures { DoesExactlyIfSound t.old t.new result (beside_refusal con (Some other))
         (moved_after con (Some other)) }
 {
-    if is_within(t, con, other) {
+    if t.is_within(con, other) {
         return Err(Refusal::NoTarget(ErrorText::SameContainer));
     }
-    if !t.is_tiled(other) {
-        return Err(Refusal::NoTarget(ErrorText::NotTiled));
-    }
+    let space = match t.standing(other) {
+        Some(Standing::Placed(placed)) if placed.tiled => Some(placed.space),
+        Some(Standing::Away(_, true)) => None,
+        _ => return Err(Refusal::NoTarget(ErrorText::NotTiled)),
+    };
     if !tiled {
-        return send_beside(t, con, other);
+        return send_beside(t, con, space);
     }
     match t.move_to(con, Place::After(other)) {
         Ok(()) => Ok(()),
@@ -111,14 +113,14 @@ fn move_after(t: &mut Tree, con: ConId, tiled: bool, other: ConId) -> Result<(),
     }
 }
 
-/// Sends the container to the workspace of another one.
-fn send_beside(t: &mut Tree, con: ConId, other: ConId) -> Result<(), Refusal>
+/// Sends the container to the workspace, if there is one.
+fn send_beside(t: &mut Tree, con: ConId, space: Option<ConId>) -> Result<(), Refusal>
     requires sound { IsSound t.old }
     requires con { kind_of con_kind con t.old.nodes ≢ None }
-    ensures { DoesExactly t.old t.new result (send_beside_refusal con other)
-        (sent_beside con other) }
+    requires space { IfSome space (λ w. is_space t.old w ≡ true) }
+    ensures { DoesExactly t.old t.new result (sent_some_refusal space con) (sent_some space con) }
 {
-    match t.workspace_of(other) {
+    match space {
         Some(w) => send(t, con, w),
         None => Ok(()),
     }

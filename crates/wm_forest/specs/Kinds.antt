@@ -1,5 +1,5 @@
 -- What a change of one node makes of it.
-use Rattle.std.specs.Prelude.{ℕ, List}
+use Rattle.std.specs.Prelude.{ℕ, List, Bool, true, false}
 use Rattle.wm_base.specs.declared.geometry.Size.{Size}
 use Rattle.wm_base.specs.declared.plan.Layout.{Layout}
 use Rattle.wm_base.specs.declared.plan.Layout.TheVariants as layouts
@@ -12,6 +12,13 @@ use Rattle.wm_forest.specs.declared.part.ConKind.TheVariants.{Split, Window, Pla
 use Rattle.wm_forest.specs.declared.kind.KindEdit.{KindEdit}
 use Rattle.wm_forest.specs.declared.kind.KindEdit.TheVariants as edits
 use Rattle.wm_forest.specs.Forest.{Forest, con}
+
+-- a container
+abbrev pub is_con_kind : NodeKind → Bool
+is_con_kind (Root c) = false
+is_con_kind (Output o) = false
+is_con_kind (Space s) = false
+is_con_kind (Con c) = true
 
 -- the last of the two split layouts that a node had, when it takes this layout
 abbrev pub last_split_of : Layout → Layout → Layout

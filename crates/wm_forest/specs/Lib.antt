@@ -1,5 +1,6 @@
 pub mod Change
 pub mod Counts
+pub mod Each
 pub mod Exchange
 pub mod Focus
 pub mod Forest
@@ -15,6 +16,7 @@ pub mod Recency
 pub mod RootId
 pub mod Row
 pub mod Settle
+pub mod Shares
 pub mod Sieve
 pub mod SoundRow
 pub mod Spot

@@ -1,7 +1,7 @@
 //! Changes of what a node says of itself.
 ghost use Rattle.std.specs.Prelude.{◌≡◌};
 ghost use Rattle.wm_forest.specs.declared.part.NodeKind.TheVariants.{Con, Output, Root, Space};
-ghost use Rattle.wm_forest.specs.Kinds.{changed, filled, laid_out, last_split_of, titled};
+ghost use Rattle.wm_forest.specs.Kinds.{changed, filled, is_con_kind, laid_out, last_split_of, titled};
 
 use crate::part::{ConKind, ConPart, ConState, NodeKind, OutputPart, SpacePart};
 use std::mem;
@@ -23,6 +23,18 @@ pub enum KindEdit {
     Reserved(Edges),
     Shown(ConId),
     Current(ConId),
+}
+
+impl NodeKind {
+    /// Whether this is a container.
+    pub fn is_con(&self) -> bool
+        ensures { result ≡ is_con_kind self.now }
+    {
+        match self {
+            NodeKind::Con(_) => true,
+            NodeKind::Root { .. } | NodeKind::Output(_) | NodeKind::Space(_) => false,
+        }
+    }
 }
 
 impl KindEdit {

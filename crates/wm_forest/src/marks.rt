@@ -1,9 +1,11 @@
 //! Changes of a node's marks.
-ghost use Rattle.std.specs.Prelude.{◌≡◌};
-ghost use Rattle.wm_forest.specs.Marks.{marks_word, other_marks, unmark_word};
+ghost use Rattle.std.specs.Prelude.{◌≡◌, []};
+ghost use Rattle.std.specs.Option.{option_copied};
+ghost use Rattle.wm_forest.specs.Marks.{keep_word, marks_word, other_marks, that_mark, unmark_word};
 
 use crate::edit::Edit;
-use crate::row::{Cell, Row};
+use crate::part::Part;
+use crate::row::Row;
 use std::alloc::Global;
 use std::mem;
 use wm_base::{List, Text};
@@ -35,22 +37,71 @@ impl<'a> Edit for Unmark<'a> {
 
     fn edit(self, row: &mut Row) {
         if let Some(cell) = &mut row.first {
-            cell.unmark(self.alloc, self.name);
+            cell.part.unmark(self.alloc, self.name);
         }
     }
 }
 
-impl Cell {
-    /// Takes a mark from the node.
-    fn unmark(&mut self, alloc: Global, name: &Text)
-        ensures part { self.new.part ≡ record self.old.part { marks = other_marks name.now self.old.part.marks } }
-        ensures rest { (self.new.kids ≡ self.old.kids) × (self.new.floats ≡ self.old.floats) × (self.new.rest ≡ self.old.rest) }
-    {
-        let marks = mem::replace(&mut self.part.marks, List::of(Vec::new(alloc)));
-        let mut marks = marks.into_vec();
-        retain_others(&mut marks, name.as_str());
-        self.part.marks = List::of(marks);
+/// Taking all marks from a container but this one.
+#[derive(Drop)]
+pub struct KeepMark<'a> {
+    pub alloc: Global,
+    pub name: Option<&'a Text>,
+}
+
+impl<'a> Edit for KeepMark<'a> {
+    ghost word = { λ x. keep_word (option_copied x.name) };
+
+    fn edit(self, row: &mut Row) {
+        if let Some(cell) = &mut row.first {
+            match self.name {
+                Some(name) => cell.part.keep_mark(self.alloc, name),
+                None => cell.part.strip(self.alloc),
+            }
+        }
     }
+}
+
+impl Part {
+    /// Takes a mark from the node.
+    pub fn unmark(&mut self, alloc: Global, name: &Text)
+        ensures { self.new ≡ record self.old { marks = other_marks name.now self.old.marks } }
+    {
+        let mut marks = self.take_marks(alloc).into_vec();
+        retain_others(&mut marks, name.as_str());
+        self.marks = List::of(marks);
+    }
+
+    /// Takes all marks from the node but this one.
+    fn keep_mark(&mut self, alloc: Global, name: &Text)
+        ensures { self.new ≡ record self.old { marks = that_mark name.now self.old.marks } }
+    {
+        let mut marks = self.take_marks(alloc).into_vec();
+        retain_that(&mut marks, name.as_str());
+        self.marks = List::of(marks);
+    }
+
+    /// Takes all marks from the node.
+    pub fn strip(&mut self, alloc: Global)
+        ensures { self.new ≡ record self.old { marks = [] } }
+    {
+        drop(self.take_marks(alloc));
+    }
+
+    /// Takes all marks from the node, and gives them.
+    fn take_marks(&mut self, alloc: Global) -> List<Text>
+        ensures left { self.new ≡ record self.old { marks = [] } }
+        ensures taken { result ≡ self.old.marks }
+    {
+        mem::replace(&mut self.marks, List::of(Vec::new(alloc)))
+    }
+}
+
+/// Takes all others out.
+fn retain_that(marks: &mut Vec<Text>, name: &str)
+    ensures { marks.new.items ≡ that_mark name.now marks.old.items }
+{
+    marks.retain(|mark| mark.as_str() == name);
 }
 
 /// Takes a mark out, wherever it stands.

@@ -4,7 +4,7 @@ ghost use Rattle.wm_forest.specs.Row.{alone};
 ghost use Rattle.wm_forest.specs.Recency.{first_held, outside, place_from, raised, without_id};
 
 use crate::row::{Cell, Row};
-use crate::sieved::Sieved;
+use crate::sieved::{Holds, Sieved};
 use wm_base::ConId;
 
 /// The place of the id in the list, from 0. `None` exactly where it is not there.
@@ -52,7 +52,7 @@ pub fn remove(ids: &mut Vec<ConId>, gone: ConId)
 }
 
 /// How many ids are asked for one by one before a sieve is made.
-const SOON: u32 = 8;
+pub const SOON: u32 = 8;
 
 /// The first of the ids that is in the row, at any depth. An empty row is not looked for.
 #[tactic(auto, using(crate::proofs::ForestLemmas::first_held_end))]
@@ -60,48 +60,30 @@ pub fn first_held(ids: &[ConId], row: &Row) -> Option<ConId>
     ensures { result ≡ first_held row.now ids.now }
 {
     if row.is_end() {
-        return None;
+        None
+    } else {
+        first_of(ids, row)
     }
-    let mut left = SOON;
-    let mut rest = ids;
-    while let [first, after @ ..] = rest {
-        if left == 0 {
-            return first_sieved(rest, &Sieved::over(row));
-        }
-        if row.has(*first) {
-            return Some(*first);
-        }
-        left -= 1;
-        rest = after;
-    }
-    None
-}
-
-/// The first of the ids that is in the row.
-fn first_sieved(ids: &[ConId], row: &Sieved<'_>) -> Option<ConId>
-    ensures { result ≡ first_held row.now.row.now ids.now }
-{
-    let mut rest = ids;
-    while let [first, after @ ..] = rest {
-        if row.has(*first) {
-            return Some(*first);
-        }
-        rest = after;
-    }
-    None
 }
 
 /// The first of the ids that is the cell's node or below it.
 pub fn first_below(ids: &[ConId], cell: &Cell) -> Option<ConId>
     ensures { result ≡ first_held (alone cell.now) ids.now }
 {
+    first_of(ids, cell)
+}
+
+/// The first of the ids that is held. The first few are asked for one by one.
+fn first_of<H: Holds>(ids: &[ConId], holder: &H) -> Option<ConId>
+    ensures { result ≡ first_held (H.nodes holder.now) ids.now }
+{
     let mut left = SOON;
     let mut rest = ids;
     while let [first, after @ ..] = rest {
         if left == 0 {
-            return below_sieved(rest, cell);
+            return first_sieved(rest, &Sieved::over(holder));
         }
-        if cell.holds(*first) {
+        if holder.has_node(*first) {
             return Some(*first);
         }
         left -= 1;
@@ -110,15 +92,13 @@ pub fn first_below(ids: &[ConId], cell: &Cell) -> Option<ConId>
     None
 }
 
-/// The first of the ids that is the cell's node or below it, by a sieve.
-fn below_sieved(ids: &[ConId], cell: &Cell) -> Option<ConId>
-    ensures { result ≡ first_held (alone cell.now) ids.now }
+/// The first of the ids that is held, by a sieve.
+fn first_sieved<H: Holds>(ids: &[ConId], sieved: &Sieved<'_, H>) -> Option<ConId>
+    ensures { result ≡ first_held (H.nodes sieved.now.holder.now) ids.now }
 {
-    let kids = Sieved::over(&cell.kids);
-    let floats = Sieved::over(&cell.floats);
     let mut rest = ids;
     while let [first, after @ ..] = rest {
-        if cell.part.id == *first || kids.has(*first) || floats.has(*first) {
+        if sieved.has(*first) {
             return Some(*first);
         }
         rest = after;

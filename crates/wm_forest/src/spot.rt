@@ -36,7 +36,7 @@ impl Spot {
         ensures { result ≡ spot_of self part.now }
     {
         Spot {
-            space: self.space_at(part),
+            space: part.space_at(self.space),
             ..self
         }
     }
@@ -47,18 +47,21 @@ impl Spot {
     {
         Spot {
             holder: holder(tiled, part),
-            space: self.space_at(part),
+            space: part.space_at(self.space),
             tiled,
             room: room_below(self.room, &part.kind),
         }
     }
+}
 
-    fn space_at(self, part: &Part) -> Option<ConId>
-        ensures { result ≡ space_at self.space part.now }
+impl Part {
+    /// The workspace of the node, whose row is in that one, or in none.
+    pub fn space_at(&self, space: Option<ConId>) -> Option<ConId>
+        ensures { result ≡ space_at space self.now }
     {
-        match part.kind {
-            NodeKind::Space(_) => Some(part.id),
-            NodeKind::Root { .. } | NodeKind::Output(_) | NodeKind::Con(_) => self.space,
+        match self.kind {
+            NodeKind::Space(_) => Some(self.id),
+            NodeKind::Root { .. } | NodeKind::Output(_) | NodeKind::Con(_) => space,
         }
     }
 }

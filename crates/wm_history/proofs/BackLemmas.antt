@@ -1,5 +1,6 @@
 -- An arrangement has the ground of each output's workspace first, and no other part is a ground.
 use Rattle.std.proofs.Common.{◌≡◌, ℕ, ◌+◌, eqb, Bool, true, false, cond, ◌||◌, List, [], ◌∷◌, ◌++◌, append_assoc, Option, Some, None, option_and_then, refl, ap, ◌∙◌, arith}
+use Rattle.std.specs.Option.{option_or}
 use Rattle.wm_base.specs.declared.geometry.Rect.{Rect}
 use Rattle.wm_base.specs.declared.ids.ConId.{ConId}
 use Rattle.wm_base.specs.declared.plan.Border.{Border}
@@ -26,7 +27,7 @@ use Rattle.wm_arrange.specs.declared.parts.PlacedPart.{PlacedPart}
 use Rattle.wm_arrange.specs.declared.parts.PlacedPart.TheVariants.{Back, Area, Title, Content}
 use Rattle.wm_arrange.specs.declared.parts.PlacedPart.TheVariants as parts
 use Rattle.wm_arrange.specs.Areas.{near_area, some_area}
-use Rattle.wm_arrange.specs.Arranged.{Standing, standing, has_own_title, slot, con_parts, node_parts, shown_parts, row_parts, rect_of, floats_parts, fullscreen_in, or_else, tiled_parts, on_space, space_parts, first_space, output_parts, outputs_parts, arranged}
+use Rattle.wm_arrange.specs.Arranged.{Standing, standing, has_own_title, slot, con_parts, node_parts, shown_parts, row_parts, rect_of, floats_parts, fullscreen_in, tiled_parts, on_space, space_parts, first_space, output_parts, outputs_parts, arranged}
 use Rattle.wm_arrange.specs.Borders.{below_title, border_part, bordered, width, within_border}
 use Rattle.wm_arrange.specs.Gaps.{ground}
 use Rattle.wm_arrange.specs.Parts.{placed}
@@ -157,7 +158,7 @@ module _ (t : TreeValue) (c : ConId) where
   space_first o id (Root r) room marks kids floats ys h = absurd h
   space_first o id (Output p) room marks kids floats ys h = absurd h
   space_first o id (Space w) room marks kids floats ys h =
-      let found = or_else (fullscreen_in kids) (fullscreen_in floats) in
+      let found = option_or (fullscreen_in kids) (fullscreen_in floats) in
       let s = seen_in t c w.inner in
       let on = on_space s o id w kids floats found in
       let b = eqb o.rect.w 0 || eqb o.rect.h 0 in

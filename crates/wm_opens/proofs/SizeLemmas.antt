@@ -1,5 +1,5 @@
 -- Commands on sizes, borders, gaps and rounds make no window.
-use Rattle.std.proofs.Common.{ℕ, Bool, true, false, cond, List, [], ◌∷◌, Option, None, Some, refl}
+use Rattle.std.proofs.Common.{ℕ, Bool, true, false, cond, List, [], ◌∷◌, Option, None, Some, refl, arith}
 use Rattle.std.specs.Option.{option_map}
 use Rattle.wm_base.specs.declared.geometry.Dir.{Dir}
 use Rattle.wm_base.specs.declared.geometry.Rect.{Rect}
@@ -10,17 +10,19 @@ use Rattle.wm_floats.specs.Windows.{rect_set, state_of}
 use Rattle.wm_language.specs.declared.arguments.GapOp.{GapOp}
 use Rattle.wm_language.specs.declared.arguments.Side.{Side}
 use Rattle.wm_opens.proofs.FloatLemmas.{kept_restated}
-use Rattle.wm_opens.proofs.KeptLemmas.{Kept, kept_edited, kept_nodes, kept_refl, kept_trans}
+use Rattle.wm_opens.proofs.KeptLemmas.{Kept, kept_count, kept_edited, kept_nodes, kept_refl, kept_trans}
 use Rattle.wm_opens.proofs.ShowingLemmas.{kept_focusing}
 use Rattle.wm_sizes.specs.Borders.{cycle_border_tree, next_border, turned}
 use Rattle.wm_sizes.specs.Climbing.{rung_of, side_axis}
 use Rattle.wm_sizes.specs.declared.climbing.Rung.{Rung}
-use Rattle.wm_sizes.specs.declared.deals.Sibling.{Sibling}
+use Rattle.wm_forest.specs.declared.shares.Sibling.{Sibling}
 use Rattle.wm_sizes.specs.declared.gaps.Change.{Change}
 use Rattle.wm_sizes.specs.declared.tiled.Growth.{Growth}
+use Rattle.wm_sizes.proofs.AllGapLemmas.{all}
+use Rattle.wm_sizes.proofs.GapSteps.{count_all}
 use Rattle.wm_sizes.specs.Deals.{dealt, siblings}
 use Rattle.wm_sizes.specs.Floating.{as_rect, grow_tree, grown, step}
-use Rattle.wm_sizes.specs.Gaps.{default_gapped, each_gapped, gapped, own_gapped, regapped, set_gaps_tree, space_gapped}
+use Rattle.wm_sizes.specs.Gaps.{default_gapped, gapped, own_gapped, regapped, set_gaps_tree}
 use Rattle.wm_sizes.specs.Resizing.{resize_tree}
 use Rattle.wm_sizes.specs.Tiled.{children_of, rung_deal, rung_tree, shares_set, tiled_tree}
 use Rattle.wm_sizes.specs.Windows.{border_set}
@@ -61,12 +63,6 @@ kept_regapped : (change : Change) (w : ConId) (o : Option SpacePart) (t : TreeVa
 kept_regapped change w None t = kept_refl t
 kept_regapped change w (Some s) t = kept_edited w (edits.Gaps (gapped change s.inner s.outer).0 (gapped change s.inner s.outer).1) t refl
 
-kept_each_gapped : (change : Change) (ids : List ConId) (t : TreeValue) → Kept t (each_gapped change ids t)
-kept_each_gapped change [] t = kept_refl t
-kept_each_gapped change (w ∷ ids) t =
-    let first : TreeValue = space_gapped change w t in
-    kept_trans t first (each_gapped change ids first) (kept_regapped change w (kind_of space_kind w t.nodes) t) (kept_each_gapped change ids first)
-
 pub kept_default : (change : Change) (t : TreeValue) → Kept t (default_gapped change t)
 kept_default change t = kept_nodes t (default_gapped change t) (record { next = refl; nodes = refl })
 
@@ -77,8 +73,8 @@ kept_own change (Some w) t = kept_regapped change w (kind_of space_kind w t.node
 pub kept_gaps : (c : ConId) (outer all : Bool) (op : GapOp) (px : ℕ) (t : TreeValue) → Kept t (set_gaps_tree c outer all op px t)
 kept_gaps c outer true op px t =
     let change : Change = record { outer = outer; op = op; px = px } in
-    let each : TreeValue = each_gapped change t.recency t in
-    kept_trans t each (default_gapped change each) (kept_each_gapped change t.recency t) (kept_default change each)
+    let each : TreeValue = record t { nodes = all (gapped change) t.nodes } in
+    kept_trans t each (default_gapped change each) (kept_count t each refl (λ m k. omega (arith, count_all m (λ a b p. k.edited (edits.Gaps a b) p refl) (gapped change) t.nodes))) (kept_default change each)
 kept_gaps c outer false op px t = kept_own (record { outer = outer; op = op; px = px }) (workspace_of t c) t
 
 -- ---- shares

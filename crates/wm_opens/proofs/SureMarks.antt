@@ -5,12 +5,11 @@ use Rattle.std.specs.Str.{bytes_eq}
 use Rattle.wm_base.specs.declared.errors.Limit.TheVariants as limits
 use Rattle.wm_base.specs.declared.errors.Refusal.TheVariants.{Full}
 use Rattle.wm_base.specs.declared.ids.ConId.{ConId}
-use Rattle.wm_focus.proofs.AllLemmas.{all_bare}
-use Rattle.wm_tree.proofs.BearerLemmas.{bearer_marks, bearer_other, fewer_marks, off_none, off_unmarked}
+use Rattle.wm_tree.proofs.EachLemmas.{sound-bare, sound-off}
 use Rattle.wm_focus.proofs.GiveLemmas.{in_place, ready_kind}
 use Rattle.wm_tree.proofs.GivingLemmas.{cleared_is}
 use Rattle.wm_focus.specs.Marks.{bare, bearer, bears, cleared, freed, full_of_marks, give_refusal, given_mark, is_marked, kept_marks, mark_tree, taken_off, that_mark, unmark_tree, with_mark}
-use Rattle.wm_focus.specs.Stripped.{all_marks, all_off, all_or_none}
+use Rattle.wm_tree.specs.Marks.{all_or_none}
 use Rattle.wm_opens.proofs.KeptLemmas.{kept_count, kept_unmarked, kept_with_marks}
 use Rattle.wm_opens.proofs.SureLemmas.{Sure, sure_by, sure_trans}
 use Rattle.wm_opens.proofs.TidyLemmas.{tidy_bare, tidy_taken_off, tidy_unmarked, tidy_with_marks}
@@ -39,34 +38,15 @@ use Rattle.wm_forest.specs.RootId.{root}
 
 -- ---- taking off
 
--- the mark goes off one container after another, of at most k marks
-sound_off : (k : ℕ) (keep : Option ConId) (n : List ℕ) (t : TreeValue) → mark_count t.nodes ≤ k → IsSound t → IsSound (record t { nodes = taken_off keep n t.nodes })
-sound_off zero keep n t few s = by (bearer keep n t.nodes) refl
-  where
-    by : (o : Option ConId) → bearer keep n t.nodes ≡ o → IsSound (record t { nodes = taken_off keep n t.nodes })
-    by None e = subst IsSound (ap (λ f. record t { nodes = f }) (sym (off_none keep n t.nodes e))) s
-    by (Some c) e = absurd (omega (arith, few, fewer_marks c n t.nodes (bearer_marks keep n t.nodes c s.once e)))
-sound_off (suc k) keep n t few s = by (bearer keep n t.nodes) refl (λ x h r. sound_off k keep n x h r)
-  where
-    by : (o : Option ConId) → bearer keep n t.nodes ≡ o → ((x : TreeValue) → mark_count x.nodes ≤ k → IsSound x → IsSound (record x { nodes = taken_off keep n x.nodes })) → IsSound (record t { nodes = taken_off keep n t.nodes })
-    by None e next = subst IsSound (ap (λ f. record t { nodes = f }) (sym (off_none keep n t.nodes e))) s
-    by (Some c) e next =
-        let less = fewer_marks c n t.nodes (bearer_marks keep n t.nodes c s.once e) in
-        subst IsSound (ap (λ f. record t { nodes = f }) (off_unmarked keep n c t.nodes (bearer_other keep n t.nodes c e))) (next (unmarked c n t) (omega (arith, few, less)) (sound-unmarked c n t s))
-
 sure_off : (keep : Option ConId) (n : List ℕ) (t : TreeValue) → IsSound t → Sure t (record t { nodes = taken_off keep n t.nodes })
 sure_off keep n t s =
     let new : TreeValue = record t { nodes = taken_off keep n t.nodes } in
-    sure_by t new (sound_off (mark_count t.nodes) keep n t (omega arith) s) (kept_count t new refl (λ m k. omega (arith, count-taken_off m k keep n t.nodes))) refl (tidy_taken_off keep n t.nodes)
-
-sound_all : (ns : List (List ℕ)) (t : TreeValue) → IsSound t → IsSound (record t { nodes = all_off ns t.nodes })
-sound_all [] t s = s
-sound_all (n ∷ ns) t s = sound_all ns (record t { nodes = taken_off None n t.nodes }) (sound_off (mark_count t.nodes) None n t (omega arith) s)
+    sure_by t new (sound-off keep n t s) (kept_count t new refl (λ m k. omega (arith, count-taken_off m k keep n t.nodes))) refl (tidy_taken_off keep n t.nodes)
 
 sure_bare : (t : TreeValue) → IsSound t → Sure t (record t { nodes = bare t.nodes })
 sure_bare t s =
     let new : TreeValue = record t { nodes = bare t.nodes } in
-    sure_by t new (subst IsSound (ap (λ f. record t { nodes = f }) (all_bare t.nodes)) (sound_all (all_marks t.nodes) t s)) (kept_count t new refl (λ m k. omega (arith, count-bare m k t.nodes))) refl (tidy_bare t.nodes)
+    sure_by t new (sound-bare t s) (kept_count t new refl (λ m k. omega (arith, count-bare m k t.nodes))) refl (tidy_bare t.nodes)
 
 sure_unmarked : (c : ConId) (n : List ℕ) (t : TreeValue) → IsSound t → Sure t (unmarked c n t)
 sure_unmarked c n t s = sure_by t (unmarked c n t) (sound-unmarked c n t s) (kept_unmarked c n t) refl (tidy_unmarked c n t.nodes)

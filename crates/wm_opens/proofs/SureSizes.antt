@@ -25,12 +25,14 @@ use Rattle.wm_sizes.proofs.SetLemmas.{family_tiled, set_sound}
 use Rattle.wm_sizes.specs.Borders.{cycle_border_tree, next_border, turned}
 use Rattle.wm_sizes.specs.Climbing.{rung_of, side_axis}
 use Rattle.wm_sizes.specs.declared.climbing.Rung.{Rung}
-use Rattle.wm_sizes.specs.declared.deals.Sibling.{Sibling}
+use Rattle.wm_forest.specs.declared.shares.Sibling.{Sibling}
 use Rattle.wm_sizes.specs.declared.gaps.Change.{Change}
 use Rattle.wm_sizes.specs.declared.tiled.Growth.{Growth}
+use Rattle.wm_sizes.proofs.AllGapLemmas.{all}
+use Rattle.wm_sizes.proofs.GapSteps.{gaps_last}
 use Rattle.wm_sizes.specs.Deals.{dealt, fits_all as shares_fit, siblings}
 use Rattle.wm_sizes.specs.Floating.{as_rect, grow_refusal, grow_tree, grown, step}
-use Rattle.wm_sizes.specs.Gaps.{all_gapped, default_gapped, each_gapped, gapped, own_gapped, regapped, set_gaps_tree, space_gapped}
+use Rattle.wm_sizes.specs.Gaps.{all_gapped, default_gapped, gapped, own_gapped, regapped, set_gaps_tree}
 use Rattle.wm_sizes.specs.Resizing.{resize_refusal, resize_tree}
 use Rattle.wm_sizes.specs.Tiled.{cannot, children_of, lacks, length_of, rung_deal, rung_refusal, rung_tree, shares_set, tiled_refusal, tiled_tree}
 use Rattle.wm_sizes.specs.Windows.{border_set}
@@ -80,17 +82,12 @@ sure_format c text t s =
 
 -- ---- gaps
 
+sure_gap : (w : ConId) (a b : ℕ) (t : TreeValue) → IsSound t → Sure t (edited w (edits.Gaps a b) t)
+sure_gap w a b t s = sure_edited w (edits.Gaps a b) t refl (sound-edited w (edits.Gaps a b) t (fits_all (edits.Gaps a b) (λ b kids. tt) (spot_in top w t.nodes) (first_kids (only w t.nodes))) s)
+
 sure_regapped : (change : Change) (w : ConId) (o : Option SpacePart) (t : TreeValue) → IsSound t → Sure t (regapped change w o t)
 sure_regapped change w None t s = sure_refl t s
-sure_regapped change w (Some z) t s =
-    let edit : KindEdit = edits.Gaps (gapped change z.inner z.outer).0 (gapped change z.inner z.outer).1 in
-    sure_edited w edit t refl (sound-edited w edit t (fits_all edit (λ b kids. tt) (spot_in top w t.nodes) (first_kids (only w t.nodes))) s)
-
-sure_each_gapped : (change : Change) (ids : List ConId) (t : TreeValue) → IsSound t → Sure t (each_gapped change ids t)
-sure_each_gapped change [] t s = sure_refl t s
-sure_each_gapped change (w ∷ ids) t s =
-    let first : Sure t (space_gapped change w t) = sure_regapped change w (kind_of space_kind w t.nodes) t s in
-    sure_trans t (space_gapped change w t) (each_gapped change ids (space_gapped change w t)) first (sure_each_gapped change ids (space_gapped change w t) first.sound)
+sure_regapped change w (Some z) t s = sure_gap w (gapped change z.inner z.outer).0 (gapped change z.inner z.outer).1 t s
 
 sure_default : (change : Change) (t : TreeValue) → IsSound t → Sure t (default_gapped change t)
 sure_default change t s =
@@ -105,8 +102,9 @@ sure_own change (Some w) t s = sure_regapped change w (kind_of space_kind w t.no
 pub sure_gaps : (c : ConId) (outer all : Bool) (op : GapOp) (px : ℕ) (t : TreeValue) → IsSound t → Sure t (set_gaps_tree c outer all op px t)
 sure_gaps c outer true op px t s =
     let change : Change = record { outer = outer; op = op; px = px } in
-    let first : Sure t (each_gapped change t.recency t) = sure_each_gapped change t.recency t s in
-    sure_trans t (each_gapped change t.recency t) (all_gapped change t) first (sure_default change (each_gapped change t.recency t) first.sound)
+    let each : TreeValue = record t { nodes = all (gapped change) t.nodes } in
+    let first : Sure t each = gaps_last (Sure t) (λ w a b u p. sure_trans t u (edited w (edits.Gaps a b) u) p (sure_gap w a b u p.sound)) (gapped change) t s (sure_refl t s) in
+    sure_trans t each (all_gapped change t) first (sure_default change each first.sound)
 sure_gaps c outer false op px t s = sure_own (record { outer = outer; op = op; px = px }) (workspace_of t c) t s
 
 -- ---- shares

@@ -1,7 +1,7 @@
 -- The children of workspaces and splits are tiled containers.
-use Rattle.std.proofs.Common.{◌≡◌, ◌≢◌, ℕ, Bool, true, false, cond, ◌||◌, List, [], ◌∷◌, ◌++◌, Option, None, Some, refl, ap, sym, ◌∙◌, subst}
+use Rattle.std.proofs.Common.{◌≡◌, ◌≢◌, ℕ, Bool, true, false, cond, ◌||◌, List, None, Some, refl, ap, ◌∙◌, subst}
 use Rattle.wm_base.specs.declared.ids.ConId.{ConId}
-use Rattle.wm_shared.proofs.DownLemmas.{Once, down_floats, down_kids, down_rest, in_floats, in_kids, in_rest, once_floats, once_kids, once_rest}
+use Rattle.wm_shared.proofs.DownLemmas.{Once, in_floats, in_kids, in_rest, once_floats, once_kids, once_rest}
 use Rattle.wm_tree.proofs.AttachLemmas.{has_row}
 use Rattle.wm_forest.proofs.ForestLemmas.{only_absent}
 use Rattle.wm_forest.proofs.RecencyLemmas.{same_self}
@@ -14,7 +14,6 @@ use Rattle.wm_forest.specs.Look.{con_kind, first_part, has, in_row, kind_by, onl
 use Rattle.wm_forest.specs.Place.{IsTiled, is_tiled}
 use Rattle.wm_forest.specs.SoundRow.{IsNode, IsSoundRow, Level, below, containers, outputs, roots, spaces}
 use Rattle.wm_forest.specs.Spot.{room_below, spot_below, spot_in, spot_of, top}
-use Rattle.wm_tree.specs.TreeValue.{or_id}
 use Rattle.wm_forest.specs.Focus.{row_holder, tiled_by, tiled_kids}
 
 -- a container is there

@@ -37,3 +37,13 @@ pub record DoesExactlyIfSound {A : Type 0} (old new : TreeValue) (result : Resul
   pub err : OnErr result (new ≡ old)
   pub cause : IfErr result (λ e. refusal old ≡ Some e)
   pub sound : IsSound old → IsSound new
+
+-- what is never refused: the tree is that of the definition, and what was sound stays so
+pub record Makes (old new : TreeValue) (after : TreeValue → TreeValue) : Type 0 where
+  pub tree : new ≡ after old
+  pub sound : IsSound old → IsSound new
+
+-- a look before anything is done: it is fine exactly where nothing refuses it, and else refused for the first error
+pub record Refuses {A : Type 0} (result : Result A Refusal) (first : Option Refusal) : Type 0 where
+  pub fine : OnOk result (first ≡ None)
+  pub cause : IfErr result (λ e. first ≡ Some e)

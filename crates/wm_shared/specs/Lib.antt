@@ -6,3 +6,4 @@ pub mod Refusing
 pub mod Does
 pub mod Showing
 pub mod Subject
+pub mod Windows

@@ -8,6 +8,10 @@ use Rattle.wm_base.specs.declared.geometry.Dir.TheVariants.{Left, Right, Up, Dow
 use Rattle.wm_base.specs.declared.ids.ConId.{ConId}
 use Rattle.wm_base.specs.declared.plan.Layout.{Layout}
 use Rattle.wm_base.specs.declared.plan.Layout.TheVariants.{SplitH, SplitV, Stacked, Tabbed}
+use Rattle.wm_forest.specs.declared.part.ConKind.{ConKind}
+use Rattle.wm_forest.specs.declared.part.ConKind.TheVariants.{Split, Window, Placeholder}
+use Rattle.wm_forest.specs.declared.part.NodeKind.{NodeKind}
+use Rattle.wm_forest.specs.declared.part.NodeKind.TheVariants.{Root, Output, Space, Con}
 use Rattle.wm_forest.specs.Change.{is_id}
 use Rattle.wm_forest.specs.Forest.{Forest, end, con}
 use Rattle.wm_forest.specs.Look.{same}
@@ -32,6 +36,18 @@ same_axis axes.Across axes.Across = true
 same_axis axes.Across axes.Down = false
 same_axis axes.Down axes.Across = false
 same_axis axes.Down axes.Down = true
+
+abbrev pub runs_con : Axis → ConKind → Bool
+runs_con a (Split layout last) = same_axis (axis_of layout) a
+runs_con a (Window props owner natural) = false
+runs_con a (Placeholder props swallows) = false
+
+-- a workspace or split puts its children along the axis
+abbrev pub runs : Axis → NodeKind → Bool
+runs a (Root c) = false
+runs a (Output o) = false
+runs a (Space s) = same_axis (axis_of s.layout) a
+runs a (Con c) = runs_con a c.kind
 
 -- the direction is towards the end of a row: right or down
 abbrev pub is_forward : Dir → Bool

@@ -60,6 +60,11 @@ showing_some (Some w) t = showing w t
 abbrev pub focusing : ConId → TreeValue → TreeValue
 focusing c t = with_raised c (showing_some (workspace_of t c) t)
 
+-- the container or workspace is raised, where there is one
+abbrev pub raised_some : Option ConId → TreeValue → TreeValue
+raised_some None t = t
+raised_some (Some c) t = with_raised c t
+
 abbrev pub current_some : Option ConId → TreeValue → TreeValue
 current_some None t = t
 current_some (Some o) t = with_current o t

@@ -1,9 +1,9 @@
 //! The axis of a layout and of a direction, and the neighbours in a row.
 ghost use Rattle.std.specs.Prelude.{◌≡◌};
-ghost use Rattle.wm_shared.specs.Neighbours.{after, axis_of, before, dir_axis, first_id, is_forward, last_id, neighbour};
+ghost use Rattle.wm_shared.specs.Neighbours.{after, axis_of, before, dir_axis, first_id, is_forward, last_id, neighbour, runs};
 
 use wm_base::{Axis, ConId, Dir, Layout};
-use wm_tree::Cursor;
+use wm_tree::{ConKind, Cursor, NodeKind};
 
 /// The axis along which a layout puts its children.
 pub fn layout_axis(layout: Layout) -> Axis
@@ -22,6 +22,20 @@ pub fn dir_axis(d: Dir) -> Axis
     match d {
         Dir::Left | Dir::Right => Axis::Across,
         Dir::Up | Dir::Down => Axis::Down,
+    }
+}
+
+/// Whether a workspace or split puts its children along the axis.
+pub fn runs(axis: Axis, kind: &NodeKind) -> bool
+    ensures { result ≡ runs axis kind.now }
+{
+    match kind {
+        NodeKind::Root { .. } | NodeKind::Output(_) => false,
+        NodeKind::Space(space) => layout_axis(space.layout) == axis,
+        NodeKind::Con(con) => match con.kind {
+            ConKind::Split { layout, .. } => layout_axis(layout) == axis,
+            ConKind::Window { .. } | ConKind::Placeholder { .. } => false,
+        },
     }
 }
 

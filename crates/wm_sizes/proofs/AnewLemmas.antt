@@ -15,7 +15,6 @@ use Rattle.wm_sizes.proofs.ShareLaws.{IsConThere, all_reshared, kids_reshared, n
 use Rattle.wm_sizes.proofs.SumLemmas.{deal_keeps, ends, taken, total}
 use Rattle.wm_sizes.specs.declared.climbing.Rung.{Rung}
 use Rattle.wm_sizes.specs.declared.deals.Deal.{Deal}
-use Rattle.wm_sizes.specs.declared.deals.Sibling.{Sibling}
 use Rattle.wm_sizes.specs.declared.tiled.Growth.{Growth}
 use Rattle.wm_sizes.specs.Climbing.{has_two}
 use Rattle.wm_sizes.specs.Deals.{dealt, fits, fits_all, gained, is_partner, share_after, siblings, turn_after}
@@ -28,6 +27,7 @@ use Rattle.wm_forest.specs.declared.kind.KindEdit.TheVariants as edits
 use Rattle.wm_forest.specs.declared.part.NodeKind.{NodeKind}
 use Rattle.wm_forest.specs.declared.part.NodeKind.TheVariants.{Root, Output, Space, Con}
 use Rattle.wm_forest.specs.declared.part.Part.{Part}
+use Rattle.wm_forest.specs.declared.shares.Sibling.{Sibling}
 use Rattle.wm_forest.specs.Forest.{Forest, end, con}
 use Rattle.wm_forest.specs.Kinds.{changed, kind_changed}
 use Rattle.wm_forest.specs.Look.{con_kind, first_kids, first_part, has, in_row, kind_by, only, same}
@@ -115,7 +115,7 @@ set_reshared p d turn (x ∷ l) t h k m s =
     let ok : IsConThere x.id t1.nodes = λ there. set_con (dealt d next l) x.id t ∙ m.0 in
     kids_reshared x.id p (share_after d x turn) t1.nodes s1.once ok ∙ ap (reshare x.id (share_after d x turn)) ih
 
-row_once : (p : ConId) (f : Forest) → Once f → Once (first_kids (only p f))
+pub row_once : (p : ConId) (f : Forest) → Once f → Once (first_kids (only p f))
 row_once p f once = by (only p f) (once_only p f once) where
   by : (g : Forest) → Once g → Once (first_kids g)
   by end o = o

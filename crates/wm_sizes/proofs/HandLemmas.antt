@@ -1,34 +1,22 @@
 -- Going along the siblings.
-use Rattle.std.proofs.Common.{◌≡◌, ℕ, ◌+◌, ◌≤◌, ◌<◌, Bool, true, false, ◌&&◌, List, [], ◌∷◌, ◌++◌, length, take, get_or, refl, ap, sym, ◌∙◌, arith}
-use Rattle.std.proofs.lemmas.List.{take_more}
+use Rattle.std.proofs.Common.{◌≡◌, ℕ, ◌≤◌, Bool, true, false, ◌&&◌, [], length, refl, ap, arith}
 use Rattle.std.proofs.lemmas.Bool.Decides.{nat_tests}
 use Rattle.std.specs.Prelude.{nat_le, not, ◌==◌, ◌||◌}
 use Rattle.wm_base.specs.declared.ids.ConId.{ConId}
 use Rattle.wm_sizes.proofs.BoolLemmas.{both}
 use Rattle.wm_sizes.specs.declared.deals.Deal.{Deal}
-use Rattle.wm_sizes.specs.declared.deals.Sibling.{Sibling}
 use Rattle.wm_sizes.specs.Deals.{fits, fits_all, gives, share_after, siblings}
 use Rattle.wm_sizes.specs.declared.tiled.Growth.{Growth}
-use Rattle.wm_sizes.specs.Tiled.{IsReady, cannot, shares_set}
-use Rattle.wm_forest.specs.declared.kind.KindEdit.TheVariants as edits
+use Rattle.wm_sizes.specs.Tiled.{IsReady, cannot}
+use Rattle.wm_forest.specs.declared.shares.Sibling.{Sibling}
 use Rattle.wm_forest.specs.Counts.{row_length}
 use Rattle.wm_forest.proofs.ForestLemmas.{only_absent}
 use Rattle.wm_forest.specs.Forest.{Forest, end, con}
 use Rattle.wm_forest.specs.Look.{first_kids, has, only}
-use Rattle.wm_tree.specs.TreeValue.{TreeValue}
-use Rattle.wm_tree.specs.Words.{edited}
 
 -- a node that is not there has no children
 pub no_children : (p : ConId) (f : Forest) → has p f ≡ false → siblings (first_kids (only p f)) ≡ []
 no_children p f h = ap (λ g. siblings (first_kids g)) (only_absent p f h)
-
-set_after : (xs ys : List Sibling) (t : TreeValue) → shares_set (xs ++ ys) t ≡ shares_set xs (shares_set ys t)
-set_after [] ys t = refl
-set_after (x ∷ xs) ys t = ap (edited x.id (edits.Share x.share)) (set_after xs ys t)
-
--- the last of some siblings has its share, and then the others
-pub last_set : (n : ℕ) (hand : List Sibling) (d : Sibling) (t new : TreeValue) → n < length hand → new ≡ edited (get_or hand n d).id (edits.Share (get_or hand n d).share) t → shares_set (take n hand) new ≡ shares_set (take (n + 1) hand) t
-last_set n hand d t new within e = ap (shares_set (take n hand)) e ∙ sym (ap (λ l. shares_set l t) (take_more hand n d within) ∙ set_after (take n hand) (get_or hand n d ∷ []) t)
 
 at_least : (m n : ℕ) → nat_le m n ≡ true → m ≤ n
 at_least m n h = grind (arith, nat_tests)

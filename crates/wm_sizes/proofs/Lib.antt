@@ -3,9 +3,8 @@ pub mod AnewLemmas
 pub mod BoolLemmas
 pub mod ChangeLemmas
 pub mod FamilyLemmas
-pub mod GapLemmas
+pub mod GapSteps
 pub mod HandLemmas
-pub mod LengthLemmas
 pub mod RiseLemmas
 pub mod SetLemmas
 pub mod ShareLaws

@@ -4,7 +4,6 @@ use Rattle.std.specs.Option.{option_map}
 use Rattle.wm_base.specs.declared.geometry.Rect.{Rect}
 use Rattle.wm_base.specs.declared.ids.ConId.{ConId}
 use Rattle.wm_base.specs.declared.plan.Border.{Border}
-use Rattle.wm_floats.specs.Windows.{rect_set, restated, state_of}
 use Rattle.wm_language.specs.declared.arguments.GapOp.{GapOp}
 use Rattle.wm_language.specs.declared.arguments.Side.{Side}
 use Rattle.wm_shared.proofs.RiseLemmas.{SameIds, ids_same}
@@ -12,18 +11,19 @@ use Rattle.wm_sizes.specs.Borders.{cycle_border_tree, next_border, set_border_tr
 use Rattle.wm_sizes.specs.Climbing.{rung_of, side_axis}
 use Rattle.wm_sizes.specs.Deals.{dealt, siblings}
 use Rattle.wm_sizes.specs.declared.climbing.Rung.{Rung}
-use Rattle.wm_sizes.specs.declared.deals.Sibling.{Sibling}
 use Rattle.wm_sizes.specs.declared.gaps.Change.{Change}
 use Rattle.wm_sizes.specs.declared.tiled.Growth.{Growth}
 use Rattle.wm_sizes.specs.Floating.{as_rect, grow_tree, grown, resize_set_tree, step}
-use Rattle.wm_sizes.specs.Gaps.{all_gapped, default_gapped, each_gapped, own_gapped, regapped, set_gaps_tree, space_gapped}
+use Rattle.wm_sizes.specs.Gaps.{all_gapped, own_gapped, regapped, set_gaps_tree, space_gapped}
 use Rattle.wm_sizes.specs.Resizing.{resize_tree}
 use Rattle.wm_sizes.specs.Tiled.{children_of, rung_deal, rung_tree, shares_set, tiled_tree}
 use Rattle.wm_sizes.specs.Titles.{title_format_tree}
 use Rattle.wm_sizes.specs.Windows.{border_set}
 use Rattle.wm_shared.specs.Rects.{rect_of}
+use Rattle.wm_shared.specs.Windows.{rect_set, restated, state_of}
 use Rattle.wm_forest.specs.declared.part.ConState.{ConState}
 use Rattle.wm_forest.specs.declared.part.SpacePart.{SpacePart}
+use Rattle.wm_forest.specs.declared.shares.Sibling.{Sibling}
 use Rattle.wm_tree.specs.Ids.{IdsRise}
 use Rattle.wm_forest.specs.Look.{kind_of, space_kind}
 use Rattle.wm_tree.specs.TreeValue.{TreeValue, is_tiled_con, workspace_of}
@@ -71,14 +71,8 @@ regapped_same ch w (Some s) t = record { next = refl; recency = refl }
 space_same : (ch : Change) (w : ConId) (t : TreeValue) → SameIds t (space_gapped ch w t)
 space_same ch w t = regapped_same ch w (kind_of space_kind w t.nodes) t
 
-each_same : (ch : Change) (ids : List ConId) (t : TreeValue) → SameIds t (each_gapped ch ids t)
-each_same ch [] t = none t
-each_same ch (w ∷ ids) t = along t (space_gapped ch w t) (each_gapped ch ids (space_gapped ch w t)) (space_same ch w t) (each_same ch ids (space_gapped ch w t))
-
 all_same : (ch : Change) (t : TreeValue) → SameIds t (all_gapped ch t)
-all_same ch t =
-    let each : TreeValue = each_gapped ch t.recency t in
-    along t each (default_gapped ch each) (each_same ch t.recency t) (record { next = refl; recency = refl })
+all_same ch t = record { next = refl; recency = refl }
 
 own_same : (ch : Change) (w : Option ConId) (t : TreeValue) → SameIds t (own_gapped ch w t)
 own_same ch None t = none t

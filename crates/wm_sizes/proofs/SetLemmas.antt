@@ -6,7 +6,6 @@ use Rattle.wm_sizes.proofs.BoolLemmas.{both}
 use Rattle.wm_sizes.proofs.HandLemmas.{fitting}
 use Rattle.wm_sizes.specs.declared.climbing.Rung.{Rung}
 use Rattle.wm_sizes.specs.declared.deals.Deal.{Deal}
-use Rattle.wm_sizes.specs.declared.deals.Sibling.{Sibling}
 use Rattle.wm_sizes.specs.Deals.{dealt, fits, fits_all, share_after, siblings, turn_after}
 use Rattle.wm_sizes.specs.Tiled.{HasFamily, IsReady, children_of, shares_set}
 use Rattle.wm_forest.proofs.EditLemmas.{fits_share}
@@ -15,6 +14,7 @@ use Rattle.wm_tree.proofs.SoundLemmas.{sound-edited}
 use Rattle.wm_forest.specs.Change.{at}
 use Rattle.wm_forest.specs.declared.kind.KindEdit.{KindEdit}
 use Rattle.wm_forest.specs.declared.kind.KindEdit.TheVariants as edits
+use Rattle.wm_forest.specs.declared.shares.Sibling.{Sibling}
 use Rattle.wm_forest.specs.Forest.{Forest, end, con}
 use Rattle.wm_forest.specs.Kinds.{changed, kind_changed}
 use Rattle.wm_forest.specs.Look.{first_kids, has, in_row, only, same}

@@ -3,7 +3,6 @@ use Rattle.std.proofs.Common.{◌≡◌, ℕ, Bool, true, false, cond, ◌||◌,
 use Rattle.wm_base.specs.declared.ids.ConId.{ConId}
 use Rattle.wm_shared.proofs.DownLemmas.{Once, down_floats, down_kids, down_rest, in_floats, in_rest, not_below, once_floats, once_kids, once_rest}
 use Rattle.wm_sizes.specs.declared.deals.Deal.{Deal}
-use Rattle.wm_sizes.specs.declared.deals.Sibling.{Sibling}
 use Rattle.wm_sizes.specs.Deals.{dealt, share_after, siblings, turn_after}
 use Rattle.wm_tree.proofs.AttachLemmas.{has_row}
 use Rattle.wm_forest.proofs.ForestLemmas.{at_absent}
@@ -14,6 +13,7 @@ use Rattle.wm_forest.specs.declared.kind.KindEdit.TheVariants as edits
 use Rattle.wm_forest.specs.declared.part.NodeKind.{NodeKind}
 use Rattle.wm_forest.specs.declared.part.NodeKind.TheVariants.{Root, Output, Space, Con}
 use Rattle.wm_forest.specs.declared.part.Part.{Part}
+use Rattle.wm_forest.specs.declared.shares.Sibling.{Sibling}
 use Rattle.wm_forest.specs.Forest.{Forest, end, con}
 use Rattle.wm_forest.specs.Kinds.{changed, kind_changed}
 use Rattle.wm_forest.specs.Look.{first_kids, first_part, has, in_row, only, same}
@@ -53,7 +53,7 @@ reshare_dealt c n d turn (con part kids floats rest) h =
     let o = or_false (same part.id c) (in_row c rest) h in
     rw (o.0, reshare_dealt c n d (turn_after d part.id turn) rest o.1) refl
 
-turned_false : (a b : ConId) → same a b ≡ false → same b a ≡ false
+pub turned_false : (a b : ConId) → same a b ≡ false → same b a ≡ false
 turned_false a b h = by (same b a) refl where
   by : (x : Bool) → same b a ≡ x → same b a ≡ false
   by false e = e

@@ -7,7 +7,7 @@ use Rattle.wm_sizes.proofs.BoolLemmas.{both}
 use Rattle.wm_sizes.proofs.HandLemmas.{fitting}
 use Rattle.wm_sizes.specs.Deals.{dealt, fits, fits_all, gained, is_named, is_partner, part, share_after, turn_after}
 use Rattle.wm_sizes.specs.declared.deals.Deal.{Deal}
-use Rattle.wm_sizes.specs.declared.deals.Sibling.{Sibling}
+use Rattle.wm_forest.specs.declared.shares.Sibling.{Sibling}
 use Rattle.wm_forest.specs.Look.{same}
 
 abbrev pub total : List Sibling → ℕ

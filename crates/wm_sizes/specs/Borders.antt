@@ -6,8 +6,8 @@ use Rattle.wm_base.specs.declared.errors.Refusal.{Refusal}
 use Rattle.wm_base.specs.declared.ids.ConId.{ConId}
 use Rattle.wm_base.specs.declared.plan.Border.{Border}
 use Rattle.wm_base.specs.declared.plan.Border.TheVariants.{Normal, Pixel, Bare}
-use Rattle.wm_floats.specs.Windows.{state_of}
 use Rattle.wm_shared.specs.Refusing.{error_if}
+use Rattle.wm_shared.specs.Windows.{state_of}
 use Rattle.wm_sizes.specs.Windows.{border_set, look_refusal}
 use Rattle.wm_forest.specs.declared.part.ConState.{ConState}
 use Rattle.wm_tree.specs.TreeValue.{TreeValue}

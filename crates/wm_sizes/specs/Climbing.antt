@@ -1,18 +1,15 @@
 -- Climbing from a container to the nearest node above it whose children stand along an axis.
-use Rattle.std.specs.Prelude.{Bool, false, ◌&&◌, not, if◌then◌else◌, Option, None, Some, option_and_then}
+use Rattle.std.specs.Prelude.{Bool, ◌&&◌, not, if◌then◌else◌, Option, None, Some, option_and_then}
 use Rattle.std.specs.Option.{option_or}
 use Rattle.wm_base.specs.declared.geometry.Axis.{Axis}
 use Rattle.wm_base.specs.declared.geometry.Axis.TheVariants as axes
 use Rattle.wm_base.specs.declared.ids.ConId.{ConId}
-use Rattle.wm_shared.specs.Neighbours.{axis_of, dir_axis, same_axis}
+use Rattle.wm_shared.specs.Neighbours.{dir_axis}
+pub use Rattle.wm_shared.specs.Neighbours.{runs, runs_con}
 use Rattle.wm_language.specs.declared.arguments.Side.{Side}
 use Rattle.wm_language.specs.declared.arguments.Side.TheVariants.{Width, Height, At}
 use Rattle.wm_sizes.specs.declared.climbing.Climbed.{Climbed}
 use Rattle.wm_sizes.specs.declared.climbing.Rung.{Rung}
-use Rattle.wm_forest.specs.declared.part.ConKind.{ConKind}
-use Rattle.wm_forest.specs.declared.part.ConKind.TheVariants.{Split, Window, Placeholder}
-use Rattle.wm_forest.specs.declared.part.NodeKind.{NodeKind}
-use Rattle.wm_forest.specs.declared.part.NodeKind.TheVariants.{Root, Output, Space, Con}
 use Rattle.wm_forest.specs.declared.part.Part.{Part}
 use Rattle.wm_forest.specs.Change.{is_end}
 use Rattle.wm_forest.specs.Forest.{Forest, end, con}
@@ -24,18 +21,6 @@ abbrev pub side_axis : Side → Axis
 side_axis Width = axes.Across
 side_axis Height = axes.Down
 side_axis (At d) = dir_axis d
-
-abbrev pub runs_con : Axis → ConKind → Bool
-runs_con a (Split layout last) = same_axis (axis_of layout) a
-runs_con a (Window props owner natural) = false
-runs_con a (Placeholder props swallows) = false
-
--- a workspace or split puts its children along the axis
-abbrev pub runs : Axis → NodeKind → Bool
-runs a (Root c) = false
-runs a (Output o) = false
-runs a (Space s) = same_axis (axis_of s.layout) a
-runs a (Con c) = runs_con a c.kind
 
 -- the row has two or more nodes
 abbrev pub has_two : Forest → Bool

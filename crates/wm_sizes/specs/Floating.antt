@@ -5,14 +5,13 @@ use Rattle.wm_base.specs.declared.errors.Refusal.{Refusal}
 use Rattle.wm_base.specs.declared.geometry.Dir.TheVariants.{Left, Right, Up, Down}
 use Rattle.wm_base.specs.declared.geometry.Rect.{Rect}
 use Rattle.wm_base.specs.declared.ids.ConId.{ConId}
-use Rattle.wm_floats.specs.Places.{is_in_range}
-use Rattle.wm_floats.specs.Windows.{rect_set}
 use Rattle.wm_language.specs.declared.arguments.Side.{Side}
 use Rattle.wm_language.specs.declared.arguments.Side.TheVariants.{Width, Height, At}
 use Rattle.wm_shared.specs.Refusing.{error_if}
 use Rattle.wm_shared.specs.Subject.{is_hidden, is_space}
 use Rattle.wm_sizes.specs.declared.floating.Frame.{Frame}
-use Rattle.wm_shared.specs.Rects.{rect_of}
+use Rattle.wm_shared.specs.Rects.{is_in_range, rect_of}
+use Rattle.wm_shared.specs.Windows.{rect_set}
 use Rattle.wm_tree.specs.TreeValue.{TreeValue, is_tiled_con}
 
 -- ---- a size that is given

@@ -1,5 +1,5 @@
 -- Gaps of workspaces.
-use Rattle.std.specs.Prelude.{◌≡◌, ℕ, ◌+◌, ◌-◌, min, Bool, if◌then◌else◌, List, [], ◌∷◌, Option, None, Some}
+use Rattle.std.specs.Prelude.{◌≡◌, ℕ, ◌+◌, ◌-◌, min, Bool, if◌then◌else◌, Option, None, Some}
 use Rattle.std.specs.Option.{option_map}
 use Rattle.wm_base.specs.declared.errors.ErrorText.TheVariants as texts
 use Rattle.wm_base.specs.declared.errors.Refusal.{Refusal}
@@ -11,7 +11,9 @@ use Rattle.wm_shared.specs.Subject.{is_hidden}
 use Rattle.wm_sizes.specs.declared.gaps.Change.{Change}
 use Rattle.wm_forest.specs.declared.kind.KindEdit.TheVariants as edits
 use Rattle.wm_forest.specs.declared.part.SpacePart.{SpacePart}
+use Rattle.wm_forest.specs.Each.{mapped}
 use Rattle.wm_forest.specs.Look.{kind_of, space_kind}
+use Rattle.wm_tree.specs.Gaps.{part_gapped}
 use Rattle.wm_tree.specs.TreeValue.{TreeValue, workspace_of}
 use Rattle.wm_tree.specs.Words.{edited}
 
@@ -37,18 +39,13 @@ regapped change w (Some s) t = edited w (edits.Gaps (gapped change s.inner s.out
 abbrev pub space_gapped : Change → ConId → TreeValue → TreeValue
 space_gapped change w t = regapped change w (kind_of space_kind w t.nodes) t
 
--- the gaps of those of the ids that are workspaces are changed
-abbrev pub each_gapped : Change → List ConId → TreeValue → TreeValue
-each_gapped change [] t = t
-each_gapped change (w ∷ ids) t = each_gapped change ids (space_gapped change w t)
-
 -- the gap that new workspaces get is changed
 abbrev pub default_gapped : Change → TreeValue → TreeValue
 default_gapped change t = record t { inner = (gapped change t.inner t.outer).0; outer = (gapped change t.inner t.outer).1 }
 
--- the gaps of all workspaces, each of which is in the order of recency, and of new ones are changed
+-- the gaps of all workspaces and of new ones are changed
 abbrev pub all_gapped : Change → TreeValue → TreeValue
-all_gapped change t = default_gapped change (each_gapped change t.recency t)
+all_gapped change t = default_gapped change (record t { nodes = mapped (part_gapped (gapped change)) t.nodes })
 
 -- the workspace with its changed gap
 abbrev pub space_after : Change → SpacePart → SpacePart

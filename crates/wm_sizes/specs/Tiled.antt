@@ -14,9 +14,9 @@ use Rattle.wm_sizes.specs.Climbing.{has_two, rung_of, side_axis}
 use Rattle.wm_sizes.specs.Deals.{amount, dealt, fits_all, siblings}
 use Rattle.wm_sizes.specs.declared.climbing.Rung.{Rung}
 use Rattle.wm_sizes.specs.declared.deals.Deal.{Deal}
-use Rattle.wm_sizes.specs.declared.deals.Sibling.{Sibling}
 use Rattle.wm_sizes.specs.declared.tiled.Growth.{Growth}
 use Rattle.wm_forest.specs.declared.kind.KindEdit.TheVariants as edits
+use Rattle.wm_forest.specs.declared.shares.Sibling.{Sibling}
 use Rattle.wm_forest.specs.Counts.{row_length, share_sum}
 use Rattle.wm_forest.specs.Forest.{Forest}
 use Rattle.wm_forest.specs.Look.{first_kids, has, in_row, only}

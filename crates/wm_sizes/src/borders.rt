@@ -3,10 +3,10 @@ ghost use Rattle.std.specs.Prelude.{◌≡◌};
 ghost use Rattle.wm_sizes.specs.Borders.{cycle_border_refusal, cycle_border_tree, is_wide, next_border, set_border_refusal, set_border_tree};
 ghost use Rattle.wm_shared.specs.Does.{DoesExactly};
 ghost use Rattle.wm_shared.specs.Subject.{IsSubject};
-ghost use Rattle.wm_tree.specs.Sound.{IsSound};
 
-use crate::windows::{look_refusal, put_border, state_of};
+use crate::windows::{look_refusal, put_border};
 use wm_base::{Border, ConId, ErrorText, Refusal};
+use wm_shared::state_of;
 use wm_tree::Tree;
 
 /// How wide a border is at most, in pixels.
@@ -52,16 +52,6 @@ fn next_border(border: Border) -> Border
     }
 }
 
-/// Gives the window its next border.
-fn turn_border(t: &mut Tree, con: ConId)
-    ensures tree { t.new ≡ cycle_border_tree con t.old }
-    ensures sound { IsSound t.old → IsSound t.new }
-{
-    if let Some(state) = state_of(t, con) {
-        put_border(t, con, next_border(state.border));
-    }
-}
-
 /// Goes from a normal border to none, from none to a frame of 2 pixels, and from a frame to a normal one of 2 pixels.
 pub fn cycle_border(t: &mut Tree, con: ConId) -> Result<(), Refusal>
     requires { IsSubject t.old con }
@@ -70,6 +60,8 @@ pub fn cycle_border(t: &mut Tree, con: ConId) -> Result<(), Refusal>
     if let Some(error) = look_refusal(t, con) {
         return Err(error);
     }
-    turn_border(t, con);
+    if let Some(state) = state_of(t, con) {
+        put_border(t, con, next_border(state.border));
+    }
     Ok(())
 }

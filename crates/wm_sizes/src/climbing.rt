@@ -1,12 +1,12 @@
 //! Climbing from a container to the nearest node above it whose children stand along an axis.
 ghost use Rattle.std.specs.Prelude.{◌≡◌, true, false, MatchOption};
 ghost use Rattle.wm_forest.specs.Look.{first_kids, has, only};
-ghost use Rattle.wm_sizes.specs.Climbing.{climb, has_two, rung_at, rung_of, runs, runs_con, side_axis};
+ghost use Rattle.wm_sizes.specs.Climbing.{climb, has_two, rung_at, rung_of, side_axis};
 
-use wm_base::{Axis, ConId, Dir};
+use wm_base::{Axis, ConId};
 use wm_language::Side;
-use wm_shared::layout_axis;
-use wm_tree::{ConKind, Cursor, NodeKind, Part, Tree};
+use wm_shared::{dir_axis, runs};
+use wm_tree::{Cursor, Part, Tree};
 
 /// A node with two or more children along an axis, and which of them is a container or holds it.
 #[derive(Clone, Copy, Debug, PartialEq, Eq)]
@@ -27,28 +27,9 @@ pub(crate) fn side_axis(side: Side) -> Axis
     ensures { result ≡ side_axis side }
 {
     match side {
-        Side::Width | Side::At(Dir::Left | Dir::Right) => Axis::Across,
-        Side::Height | Side::At(Dir::Up | Dir::Down) => Axis::Down,
-    }
-}
-
-/// Whether a workspace or split puts its children along the axis.
-fn runs(axis: Axis, kind: &NodeKind) -> bool
-    ensures { result ≡ runs axis kind.now }
-{
-    match kind {
-        NodeKind::Root { .. } | NodeKind::Output(_) => false,
-        NodeKind::Space(space) => layout_axis(space.layout) == axis,
-        NodeKind::Con(con) => runs_con(axis, &con.kind),
-    }
-}
-
-fn runs_con(axis: Axis, kind: &ConKind) -> bool
-    ensures { result ≡ runs_con axis kind.now }
-{
-    match kind {
-        ConKind::Split { layout, .. } => layout_axis(*layout) == axis,
-        ConKind::Window { .. } | ConKind::Placeholder { .. } => false,
+        Side::Width => Axis::Across,
+        Side::Height => Axis::Down,
+        Side::At(d) => dir_axis(d),
     }
 }
 

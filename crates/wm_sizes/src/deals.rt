@@ -4,17 +4,10 @@ ghost use Rattle.wm_sizes.specs.Deals.{amount, fits, fits_all, gained, gives, is
 ghost use Rattle.wm_forest.specs.Counts.{row_length};
 
 use wm_base::ConId;
-use wm_tree::{Cursor, NodeKind};
+use wm_tree::{Cursor, NodeKind, Sibling};
 
 /// The greatest share.
 const GREATEST: u64 = 1_048_576;
-
-/// A child of a container: its id and its share.
-#[derive(Clone, Copy, Debug, PartialEq, Eq)]
-pub struct Sibling {
-    pub id: ConId,
-    pub share: u32,
-}
 
 /// How children of a container share anew: the node that grows or shrinks, its partner, or `None` where all others
 /// are, how many partners there are, the amount that goes over in all, and the least share that who gives keeps.

@@ -1,15 +1,14 @@
 //! Sizes of floating windows.
-ghost use Rattle.std.specs.Prelude.{◌≡◌, ◌+ℤ◌, ◌-ℤ◌, pos, nat_abs, true, None, Some, OnOk, IfErr};
-ghost use Rattle.wm_floats.specs.Places.{is_in_range};
+ghost use Rattle.std.specs.Prelude.{◌≡◌, ◌+ℤ◌, ◌-ℤ◌, pos, nat_abs, true};
+ghost use Rattle.wm_shared.specs.Rects.{is_in_range};
 ghost use Rattle.wm_sizes.specs.Floating.{IsStep, as_rect, fits, grow_refusal, grow_tree, grown, has_place, has_sides, is_side, is_size, resize_set_refusal, resize_set_tree, step};
 ghost use Rattle.wm_shared.specs.Does.{DoesExactly};
 ghost use Rattle.wm_shared.specs.Subject.{IsSubject};
 ghost use Rattle.wm_tree.specs.Sound.{IsSound};
 
-use crate::windows::put_rect;
 use wm_base::{ConId, Dir, ErrorText, Rect, Refusal};
 use wm_language::Side;
-use wm_shared::{is_in_range, on_workspace, rect_of};
+use wm_shared::{is_in_range, on_workspace, rect_of, set_rect};
 use wm_tree::Tree;
 
 /// How long a side of a window is at most, in pixels.
@@ -31,11 +30,11 @@ fn is_size(n: u32) -> bool
     1 <= n && n <= LONGEST
 }
 
-/// Why the floating window does not get this outer size.
-fn size_refusal(t: &Tree, con: ConId, w: u32, h: u32) -> Result<(), Refusal>
-    requires { IsSubject t.now con }
-    ensures fine { OnOk result (resize_set_refusal con w h t.now ≡ None) }
-    ensures cause { IfErr result (λ e. resize_set_refusal con w h t.now ≡ Some e) }
+/// Gives the floating window this outer size, in pixels. Its place stays.
+pub fn resize_set(t: &mut Tree, con: ConId, w: u32, h: u32) -> Result<(), Refusal>
+    requires { IsSubject t.old con }
+    ensures { DoesExactly t.old t.new result (resize_set_refusal con w h)
+        (resize_set_tree con w h) }
 {
     if on_workspace(t, con)?.tiled {
         return Err(Refusal::NoTarget(ErrorText::NotFloating));
@@ -43,18 +42,8 @@ fn size_refusal(t: &Tree, con: ConId, w: u32, h: u32) -> Result<(), Refusal>
     if !(is_size(w) && is_size(h)) {
         return Err(Refusal::NoTarget(ErrorText::OutOfRange));
     }
-    Ok(())
-}
-
-/// Gives the floating window this outer size, in pixels. Its place stays.
-pub fn resize_set(t: &mut Tree, con: ConId, w: u32, h: u32) -> Result<(), Refusal>
-    requires { IsSubject t.old con }
-    ensures { DoesExactly t.old t.new result (resize_set_refusal con w h)
-        (resize_set_tree con w h) }
-{
-    size_refusal(t, con, w, h)?;
     let Rect { x, y, .. } = rect_of(t, con);
-    put_rect(t, con, Rect { x, y, w, h });
+    set_rect(t, con, Rect { x, y, w, h });
     Ok(())
 }
 
@@ -179,6 +168,6 @@ pub(crate) fn grow_floating(
     if !fits(frame) {
         return Err(Refusal::NoTarget(ErrorText::OutOfRange));
     }
-    put_rect(t, con, as_rect(frame));
+    set_rect(t, con, as_rect(frame));
     Ok(())
 }

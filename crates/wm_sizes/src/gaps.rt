@@ -1,15 +1,14 @@
 //! Gaps of workspaces.
 ghost use Rattle.std.specs.Prelude.{◌≡◌, true, OnOk};
 ghost use Rattle.wm_language.specs.declared.arguments.GapOp.{GapOp};
-ghost use Rattle.wm_shared.specs.Does.{DoesExactly};
+ghost use Rattle.wm_shared.specs.Does.{DoesExactly, Makes};
 ghost use Rattle.wm_shared.specs.Subject.{IsSubject};
-ghost use Rattle.wm_sizes.specs.Gaps.{AllGapped, all_gapped, default_gapped, each_gapped, gap_after, gapped, set_gaps_refusal, set_gaps_tree, space_gapped};
-ghost use Rattle.wm_tree.specs.Sound.{IsSound};
+ghost use Rattle.wm_sizes.specs.Gaps.{AllGapped, all_gapped, gap_after, gapped, set_gaps_refusal, set_gaps_tree, space_gapped};
 ghost use Rattle.wm_tree.specs.TreeValue.{workspace_of};
 
 use wm_base::{ConId, ErrorText, Refusal};
 use wm_language::GapOp;
-use wm_tree::Tree;
+use wm_tree::{GapChange, Tree};
 
 /// How wide a gap is at most, in pixels.
 const WIDEST: u32 = 1000;
@@ -34,60 +33,39 @@ fn gap_after(op: GapOp, gap: u32, px: u32) -> u32
     after.min(WIDEST)
 }
 
-/// The inner and the outer gap after the change.
-fn gapped(change: Change, inner: u32, outer: u32) -> (u32, u32)
-    ensures { result ≡ gapped change inner outer }
-{
-    if change.outer {
-        (inner, gap_after(change.op, outer, change.px))
-    } else {
-        (gap_after(change.op, inner, change.px), outer)
+impl GapChange for Change {
+    ghost word = { gapped };
+
+    /// One of the two gaps changes.
+    fn gaps(&self, inner: u32, outer: u32) -> (u32, u32) {
+        if self.outer {
+            (inner, gap_after(self.op, outer, self.px))
+        } else {
+            (gap_after(self.op, inner, self.px), outer)
+        }
     }
 }
 
 /// Changes the gap of the workspace, where it is one.
 fn change_space(t: &mut Tree, w: ConId, change: Change)
-    ensures tree { t.new ≡ space_gapped change w t.old }
-    ensures sound { IsSound t.old → IsSound t.new }
+    ensures { Makes t.old t.new (space_gapped change w) }
 {
     if let Some(space) = t.space(w) {
-        let (inner, outer) = gapped(change, space.inner, space.outer);
+        let (inner, outer) = change.gaps(space.inner, space.outer);
         t.set_gaps(w, inner, outer);
     }
 }
 
-/// Changes the gap of each workspace.
-fn change_each(t: &mut Tree, change: Change)
-    requires { IsSound t.old }
-    ensures tree { t.new ≡ each_gapped change t.old.recency t.old }
-    ensures sound { IsSound t.new }
-{
-    let mut i = 0;
-    while let Some(w) = t.recent(i) {
-        change_space(t, w, change);
-        i += 1;
-    }
-}
-
-/// Changes the gap that new workspaces get.
-fn change_default(t: &mut Tree, change: Change)
-    ensures tree { t.new ≡ default_gapped change t.old }
-    ensures sound { IsSound t.old → IsSound t.new }
-{
-    let (border, inner, outer) = t.defaults();
-    let (inner, outer) = gapped(change, inner, outer);
-    t.set_defaults(border, inner, outer);
-}
-
 /// Changes the gap of all workspaces and of new ones.
+#[tactic(auto, using(crate::proofs::AllGapLemmas::all_by))]
 fn change_all(t: &mut Tree, change: Change)
-    requires { IsSound t.old }
-    ensures tree { t.new ≡ all_gapped change t.old }
-    ensures sound { IsSound t.new }
+    ensures made { Makes t.old t.new (all_gapped change) }
     ensures each { AllGapped change t.old t.new }
 {
-    change_each(t, change);
-    change_default(t, change);
+    t.change_gaps(&change);
+    let (border, inner, outer) = t.defaults();
+    let (inner, outer) = change.gaps(inner, outer);
+    t.set_defaults(border, inner, outer);
 }
 
 /// Changes the outer gap (`outer`) or the inner one of the subject's workspace, or of all workspaces and of new ones

@@ -5,9 +5,9 @@ ghost use Rattle.wm_sizes.specs.Tiled.{IsReady, children_of, shares_set};
 ghost use Rattle.wm_tree.specs.Sound.{IsSound};
 
 use crate::climbing::kids_in;
-use crate::deals::{Deal, Sibling};
+use crate::deals::Deal;
 use wm_base::ConId;
-use wm_tree::{Cursor, Tree};
+use wm_tree::{Cursor, Sibling, Tree};
 
 /// How many children a node has at most.
 const MOST: usize = 256;
@@ -75,21 +75,8 @@ fn put_children(t: &Tree, parent: ConId, deal: Deal, hand: &mut [Sibling; MOST])
     }
 }
 
-/// Gives each of the first siblings of the list its share, the last one first.
-fn set_shares(t: &mut Tree, hand: &[Sibling; MOST], number: usize)
-    requires { number ≤ 256 }
-    ensures { t.new ≡ shares_set (take number hand.now) t.old }
-{
-    let mut left = number;
-    while left > 0 {
-        left -= 1;
-        let child = hand[left];
-        t.set_share(child.id, child.share);
-    }
-}
-
 /// Gives the children their shares after the deal. All shares are read before the first one is set, and only those that
-/// change are set.
+/// change are set, in one walk over the tree.
 #[tactic(auto, using(crate::proofs::ChangeLemmas::children_changed))]
 pub(crate) fn hand_out(t: &mut Tree, parent: ConId, deal: Deal)
     requires sound { IsSound t.old }
@@ -102,5 +89,5 @@ pub(crate) fn hand_out(t: &mut Tree, parent: ConId, deal: Deal)
     };
     let mut hand = [nobody; MOST];
     let number = put_children(t, parent, deal, &mut hand);
-    set_shares(t, &hand, number);
+    t.set_shares(parent, &hand[..number]);
 }

@@ -1,5 +1,6 @@
 -- The place to which a container is sent is one where it may go.
 use Rattle.std.proofs.Common.{◌≡◌, ◌≢◌, Bool, true, false, cond, ◌||◌, not, inl, inr, List, Option, None, Some, refl, ap, sym, ◌∙◌, subst}
+use Rattle.std.specs.Option.{option_eq}
 use Rattle.wm_base.specs.declared.ids.ConId.{ConId}
 use Rattle.wm_shared.proofs.KidLemmas.{con_there}
 use Rattle.wm_shared.proofs.ShowLemmas.{space_is}
@@ -115,6 +116,16 @@ same_one (Some a) = same_self a a refl
 
 together : (a b : ConId) (t : TreeValue) → workspace_of t a ≡ workspace_of t b → apart t a b ≡ false
 together a b t e = rw e (ap not (same_one (workspace_of t b)))
+
+two_spaces : (a b : Option ConId) → option_eq same a b ≡ false → same_space a b ≡ false
+two_spaces None None h = absurd cc
+two_spaces None (Some b) h = refl
+two_spaces (Some a) None h = refl
+two_spaces (Some a) (Some b) h = h
+
+-- they are not in one workspace where those are not the same
+pub far_by : (c w : ConId) (a b : Option ConId) (t : TreeValue) → a ≡ workspace_of t c → b ≡ workspace_of t w → false ≡ option_eq same a b → apart t c w ≡ true
+far_by c w a b t ea eb h = rw (← ea, ← eb) (ap not (two_spaces a b (sym h)))
 
 -- ---- the place
 

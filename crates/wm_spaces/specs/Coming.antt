@@ -31,6 +31,10 @@ output_added_refusal plan t = if is_some (output_named plan.name t) then Some Na
 abbrev pub output_added_tree : OutputPlan → TreeValue → TreeValue
 output_added_tree plan t = with_output plan (free_name t) t
 
+-- nothing refuses it but want of memory
+abbrev pub unrefused : TreeValue → Option Refusal
+unrefused t = None
+
 -- the output that goes, and the one that takes its workspaces
 abbrev pub heir_of : TreeValue → ConId → Option ConId
 heir_of t o = heir o t.nodes

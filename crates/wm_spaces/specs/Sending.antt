@@ -16,10 +16,10 @@ use Rattle.wm_spaces.specs.declared.targets.Goal.TheVariants.{There, Absent, Ref
 use Rattle.wm_spaces.specs.Targets.{goal_of, home}
 use Rattle.wm_forest.specs.declared.part.OutputPart.{OutputPart}
 use Rattle.wm_forest.specs.declared.place.Place.{Place}
-use Rattle.wm_forest.specs.declared.place.Place.TheVariants.{After, Last, Float}
+use Rattle.wm_forest.specs.declared.place.Place.TheVariants.{Float}
 use Rattle.wm_tree.specs.Move.{apart, moved, passed_by_move}
 use Rattle.wm_tree.specs.Outputs.{passed_by_space, with_space}
-use Rattle.wm_tree.specs.TreeValue.{TreeValue, is_tiled_con, leaf, or_id}
+use Rattle.wm_tree.specs.TreeValue.{TreeValue, is_tiled_con, tiling_place}
 use Rattle.wm_forest.specs.RootId.{id}
 
 -- ---- rectangles
@@ -37,8 +37,7 @@ shifted (Some a) (Some b) r = record { x = held (r.x +ℤ (b.rect.x -ℤ a.rect.
 abbrev pub sent_place : ConId → ConId → TreeValue → Place
 sent_place c w t =
     if not (is_tiled_con t c) then Float w (shifted (output_part_of c t) (output_part_of w t) (rect_of c t))
-    else if is_tiled_con t (or_id (leaf t w) w) then After (or_id (leaf t w) w)
-    else Last w
+    else tiling_place w t
 
 -- the container comes to the workspace, if it is not there
 abbrev pub sent : ConId → ConId → TreeValue → TreeValue

@@ -1,14 +1,10 @@
 //! Outputs that come, go and become the current one.
-ghost use Rattle.std.specs.Prelude.{◌≡◌, ◌≤◌, ◌+◌, true, IfOk, OnOk, OnErr, IfErr, length, is_some};
+ghost use Rattle.std.specs.Prelude.{◌≡◌, ◌≤◌, ◌+◌, true, IfOk, length, is_some};
 ghost use Rattle.std.specs.Fmt.{decimal};
-ghost use Rattle.wm_base.specs.declared.errors.Refusal.TheVariants as refusals;
 ghost use Rattle.wm_shared.specs.Does.{Does};
 ghost use Rattle.wm_shared.specs.Showing.{output_focused};
-ghost use Rattle.wm_spaces.specs.Coming.{free_from, free_name, left_output, output_added_refusal, output_added_tree, output_gone, output_removed_refusal, output_removed_tree};
-ghost use Rattle.wm_forest.specs.Counts.{but};
-ghost use Rattle.wm_forest.specs.Look.{nth_id};
-ghost use Rattle.wm_tree.specs.Outputs.{IsOutput, without_output};
-ghost use Rattle.wm_forest.specs.Taking.{heir};
+ghost use Rattle.wm_spaces.specs.Coming.{free_from, free_name, left_output, output_added_refusal, output_added_tree, output_gone, output_removed_refusal, output_removed_tree, unrefused};
+ghost use Rattle.wm_tree.specs.Outputs.{IsOutput};
 ghost use Rattle.wm_forest.specs.SoundRow.{IsOutputRect};
 ghost use Rattle.wm_tree.specs.Sound.{IsSound};
 
@@ -16,7 +12,7 @@ use crate::names::{output_named, space_named};
 use std::alloc::Global;
 use wm_base::{ConId, ErrorText, NoMemory, OutputPlan, Refusal, Text, TextRefusal};
 use wm_shared::{enter_output, refused};
-use wm_tree::{Cursor, Tree};
+use wm_tree::Tree;
 
 /// How many workspaces a tree has at most.
 const MAX_SPACES: u32 = 256;
@@ -75,10 +71,7 @@ pub fn output_added(alloc: Global, t: &mut Tree, o: &OutputPlan) -> Result<(), R
 pub fn focus_output(t: &mut Tree, output: ConId) -> Result<(), Refusal>
     requires sound { IsSound t.old }
     requires output { IsOutput output t.old.nodes }
-    ensures tree { OnOk result (t.new ≡ output_focused output t.old) }
-    ensures err { OnErr result (t.new ≡ t.old) }
-    ensures cause { IfErr result (λ e. e ≡ refusals.NoMemory) }
-    ensures sound { IsSound t.new }
+    ensures { Does t.old t.new result unrefused (output_focused output) }
 {
     match enter_output(t, output) {
         Ok(()) => Ok(()),
@@ -86,34 +79,14 @@ pub fn focus_output(t: &mut Tree, output: ConId) -> Result<(), Refusal>
     }
 }
 
-/// The first node of a row beside this one.
-fn first_other(row: Cursor<'_>, id: ConId) -> Option<ConId>
-    ensures { result ≡ nth_id 0 (but id row.entry) }
-{
-    let part = row.part()?;
-    if part.id != id {
-        return Some(part.id);
-    }
-    Some(row.rest().part()?.id)
-}
-
-/// The first of the other outputs.
-fn heir(t: &Tree, output: ConId) -> Option<ConId>
-    ensures { result ≡ heir output t.now.nodes }
-{
-    first_other(t.nodes().kids(), output)
-}
-
 /// Makes the other output the current one where this one is.
-fn leave_output(t: &mut Tree, output: ConId, heir: ConId) -> Result<(), NoMemory>
+fn leave_output(t: &mut Tree, output: ConId, heir: ConId) -> Result<(), Refusal>
     requires sound { IsSound t.old }
     requires heir { IsOutput heir t.old.nodes }
-    ensures tree { OnOk result (t.new ≡ left_output output heir t.old) }
-    ensures err { OnErr result (t.new ≡ t.old) }
-    ensures sound { IsSound t.new }
+    ensures { Does t.old t.new result unrefused (left_output output heir) }
 {
     if t.current() == output {
-        return enter_output(t, heir);
+        return focus_output(t, heir);
     }
     Ok(())
 }
@@ -128,27 +101,12 @@ pub fn output_removed(t: &mut Tree, name: &Text) -> Result<(), Refusal>
     let Some(output) = output_named(t, name.as_str()) else {
         return Err(Refusal::NoTarget(ErrorText::NoOutput));
     };
-    let Some(heir) = heir(t, output) else {
+    let Some(heir) = t.heir(output) else {
         return Err(Refusal::NoTarget(ErrorText::NoOutput));
     };
-    match leave_output(t, output, heir) {
-        Ok(()) => {
-            remove(t, output);
-            Ok(())
-        }
-        Err(NoMemory) => Err(Refusal::NoMemory),
-    }
-}
-
-/// Removes an output.
-fn remove(t: &mut Tree, output: ConId)
-    requires sound { IsSound t.old }
-    requires output { IsOutput output t.old.nodes }
-    ensures tree { t.new ≡ without_output output t.old }
-    ensures sound { IsSound t.new }
-{
+    leave_output(t, output, heir)?;
     match t.remove_output(output) {
-        Ok(()) => {}
+        Ok(()) => Ok(()),
         Err(_) => unreachable!(),
     }
 }

@@ -15,5 +15,5 @@ pub use coming::{focus_output, output_added, output_removed};
 pub use moving::move_workspace;
 pub use outs::output_at;
 pub use renaming::rename;
-pub use sending::{send, send_shown, send_to, send_to_output};
+pub use sending::{send, send_to, send_to_output};
 pub use showing::show;

@@ -1,7 +1,6 @@
 //! Moving workspaces to other outputs.
-ghost use Rattle.std.specs.Prelude.{◌≡◌, Some, None, true, OnOk, OnErr, IfErr};
+ghost use Rattle.std.specs.Prelude.{◌≡◌, Some, None, true, OnOk};
 ghost use Rattle.wm_shared.specs.Does.{Does};
-ghost use Rattle.wm_shared.specs.Refusing.{IsCause};
 ghost use Rattle.wm_shared.specs.Showing.{shown_there};
 ghost use Rattle.wm_shared.specs.Subject.{is_space};
 ghost use Rattle.wm_spaces.specs.Moving.{IsFree, aside_refusal, move_workspace_refusal, move_workspace_tree, other_refusal, other_space, set_aside, showing_other};
@@ -74,10 +73,7 @@ fn put_aside(alloc: Global, t: &mut Tree, w: ConId, own: ConId) -> Result<(), Re
     requires sound { IsSound t.old }
     requires space { is_space t.old w ≡ true }
     requires own { parent t.old w ≡ Some own }
-    ensures tree { OnOk result (t.new ≡ set_aside w own t.old) }
-    ensures fine { OnOk result (aside_refusal w own t.old ≡ None) }
-    ensures err { OnErr result (t.new ≡ t.old) }
-    ensures cause { IfErr result (IsCause (aside_refusal w own t.old)) }
+    ensures does { Does t.old t.new result (aside_refusal w own) (set_aside w own) }
     ensures free { OnOk result (IsFree w t.old t.new) }
 {
     if shown_on(t, own) == Some(w) {
@@ -94,10 +90,7 @@ fn show_another(alloc: Global, t: &mut Tree, w: ConId, own: ConId) -> Result<(),
     requires sound { IsSound t.old }
     requires space { is_space t.old w ≡ true }
     requires own { parent t.old w ≡ Some own }
-    ensures tree { OnOk result (t.new ≡ showing_other None own t.old) }
-    ensures fine { OnOk result (other_refusal None t.old ≡ None) }
-    ensures err { OnErr result (t.new ≡ t.old) }
-    ensures cause { IfErr result (IsCause (other_refusal None t.old)) }
+    ensures does { Does t.old t.new result (other_refusal None) (showing_other None own) }
     ensures free { OnOk result (IsFree w t.old t.new) }
 {
     let Ok(name) = free_name(alloc, t) else {

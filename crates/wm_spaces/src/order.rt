@@ -1,7 +1,7 @@
 //! The order of workspaces: by the number with which the name begins, those without one last, and then by id.
 ghost use Rattle.std.specs.Prelude.{◌≡◌, None};
 ghost use Rattle.wm_shared.specs.Keys.{comes_before};
-ghost use Rattle.wm_spaces.specs.Order.{best_on, best_with, better, greater, is_digit, key_if, keys_in, num, number_on, picks, place_of, small, space_key};
+ghost use Rattle.wm_spaces.specs.Order.{best_on, best_with, better, greater, key_if, keys_in, num, number_on, picks, place_of, small, space_key};
 ghost use Rattle.wm_forest.specs.Look.{space_kind};
 
 use wm_base::ConId;
@@ -21,12 +21,6 @@ pub enum Pick {
     Numbered(u64),
 }
 
-fn is_digit(b: u8) -> bool
-    ensures { result ≡ is_digit b }
-{
-    b >= b'0' && b <= b'9'
-}
-
 /// The number of the digits at the front, behind those that make n. `None` where it is too large.
 #[tactic(auto, using(crate::proofs::OrderLemmas::too_large))]
 fn number_on(n: u64, bytes: &[u8]) -> Option<u64>
@@ -35,7 +29,7 @@ fn number_on(n: u64, bytes: &[u8]) -> Option<u64>
     let mut number = n;
     let mut rest = bytes;
     while let [first, after @ ..] = rest
-        && is_digit(*first)
+        && first.is_ascii_digit()
         && number <= MAX_NUM
     {
         number = number * 10 + u64::from(*first - b'0');
@@ -53,7 +47,7 @@ pub(crate) fn num(name: &str) -> Option<u64>
     ensures { result ≡ num name.now }
 {
     match name.as_bytes() {
-        [first, rest @ ..] if is_digit(*first) => number_on(u64::from(*first - b'0'), rest),
+        [first, rest @ ..] if first.is_ascii_digit() => number_on(u64::from(*first - b'0'), rest),
         _ => None,
     }
 }

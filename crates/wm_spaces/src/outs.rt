@@ -9,21 +9,14 @@ use crate::names::output_named;
 use crate::targets::node_at;
 use wm_base::ConId;
 use wm_language::OutArg;
-use wm_shared::{output_from, output_of};
+use wm_shared::{first_id, output_from, output_of};
 use wm_tree::{Cursor, Tree};
-
-/// The first node of a row.
-fn first_id(row: Cursor<'_>) -> Option<ConId>
-    ensures { result ≡ nth_id 0 row.entry }
-{
-    Some(row.part()?.id)
-}
 
 /// The node of a row behind this one.
 fn behind(row: Cursor<'_>, con: ConId) -> Option<ConId>
     ensures { result ≡ nth_id 0 (rest_of (node_in con row.entry)) }
 {
-    first_id(node_at(row, con).rest())
+    first_id(&node_at(row, con).rest())
 }
 
 /// The output after this one, the first after the last.
@@ -32,7 +25,7 @@ fn next_of(t: &Tree, output: ConId) -> Option<ConId>
 {
     match behind(t.nodes().kids(), output) {
         Some(next) => Some(next),
-        None => first_id(t.nodes().kids()),
+        None => first_id(&t.nodes().kids()),
     }
 }
 
@@ -51,7 +44,7 @@ fn output_for(t: &Tree, from: ConId, arg: &OutArg) -> Option<ConId>
     match arg {
         OutArg::At(d) => output_from(t, from, *d),
         OutArg::Current => output_of(t, from),
-        OutArg::Primary => first_id(t.nodes().kids()),
+        OutArg::Primary => first_id(&t.nodes().kids()),
         OutArg::Next => next_of(t, output_of(t, from)?),
         OutArg::Named(name) => output_named(t, name.as_str()),
     }

@@ -1,22 +1,22 @@
 //! Sending containers to other workspaces.
-ghost use Rattle.std.specs.Prelude.{◌≡◌, ◌≢◌, ◌+ℤ◌, ◌-ℤ◌, None, false, true};
+ghost use Rattle.std.specs.Prelude.{◌≡◌, ◌≢◌, ◌+ℤ◌, ◌-ℤ◌, None, true};
 ghost use Rattle.std.specs.Option.{option_copied};
 ghost use Rattle.wm_shared.specs.Does.{Does, DoesExactly};
 ghost use Rattle.wm_shared.specs.Showing.{shown_on};
-ghost use Rattle.wm_shared.specs.Subject.{IsSubject, is_hidden, is_space};
+ghost use Rattle.wm_shared.specs.Subject.{IsSubject, is_space};
 ghost use Rattle.wm_spaces.specs.Sending.{send_to_output_refusal, send_to_output_tree, send_to_refusal, send_to_tree, sent, sent_new, sent_new_refusal, sent_place, sent_refusal, shifted};
 ghost use Rattle.wm_shared.specs.Rects.{held, output_part_of, rect_of};
 ghost use Rattle.wm_forest.specs.Look.{con_kind, kind_of};
-ghost use Rattle.wm_tree.specs.Move.{apart};
 ghost use Rattle.wm_tree.specs.Outputs.{IsOutput};
 ghost use Rattle.wm_tree.specs.Sound.{IsSound};
+ghost use Rattle.wm_tree.specs.TreeValue.{is_tiled_con, workspace_of};
 
 use crate::targets::{Goal, find_goal, home};
 use std::mem;
 use wm_base::{ConId, ErrorText, Rect, Refusal, Text};
 use wm_language::Target;
 use wm_shared::{held, is_space, on_workspace, output_part_of, rect_of, refused, shown_on};
-use wm_tree::{OutputPart, Place, Tree};
+use wm_tree::{OutputPart, Place, Standing, Tree};
 
 /// How far it is from one number to another.
 fn difference(from: i32, to: i32) -> i64
@@ -47,22 +47,24 @@ fn shifted(from: Option<&OutputPart>, to: Option<&OutputPart>, r: Rect) -> Rect
     }
 }
 
-/// Whether two nodes are not in one workspace.
-fn apart(t: &Tree, a: ConId, b: ConId) -> bool
-    ensures { result ≡ apart t.now a b }
+/// The container's workspace, if it has one, and whether it is tiled.
+fn spot_of(t: &Tree, con: ConId) -> (Option<ConId>, bool)
+    requires { kind_of con_kind con t.now.nodes ≢ None }
+    ensures { (result.0 ≡ workspace_of t.now con) × (result.1 ≡ is_tiled_con t.now con) }
 {
-    match (t.workspace_of(a), t.workspace_of(b)) {
-        (Some(a), Some(b)) => a != b,
-        (None, None) => false,
-        (None, Some(_)) | (Some(_), None) => true,
+    match t.standing(con) {
+        Some(Standing::Placed(placed)) => (Some(placed.space), placed.tiled),
+        Some(Standing::Away(_, tiled)) => (None, tiled),
+        Some(Standing::Above | Standing::Space(_)) | None => unreachable!(),
     }
 }
 
-/// Where a container comes that is sent to the workspace.
-fn sent_place(t: &Tree, con: ConId, w: ConId) -> Place
+/// Where a container, which is tiled or not, comes that is sent to the workspace.
+fn sent_place(t: &Tree, con: ConId, tiled: bool, w: ConId) -> Place
+    requires { is_tiled_con t.now con ≡ tiled }
     ensures { result ≡ sent_place con w t.now }
 {
-    if !t.is_tiled(con) {
+    if !tiled {
         let rect = shifted(
             output_part_of(t, con),
             output_part_of(t, w),
@@ -70,12 +72,7 @@ fn sent_place(t: &Tree, con: ConId, w: ConId) -> Place
         );
         return Place::Float(w, rect);
     }
-    let leaf = t.leaf(w).unwrap_or(w);
-    if t.is_tiled(leaf) {
-        Place::After(leaf)
-    } else {
-        Place::Last(w)
-    }
+    t.tiling_place(w)
 }
 
 /// Sends a container to a workspace, if it is not there: a tiled one after the leaf, or last where nothing is tiled; a
@@ -86,10 +83,11 @@ pub fn send(t: &mut Tree, con: ConId, w: ConId) -> Result<(), Refusal>
     requires space { is_space t.old w ≡ true }
     ensures { DoesExactly t.old t.new result (sent_refusal con w) (sent con w) }
 {
-    if !apart(t, con, w) {
+    let (space, tiled) = spot_of(t, con);
+    if space == t.workspace_of(w) {
         return Ok(());
     }
-    let at = sent_place(t, con, w);
+    let at = sent_place(t, con, tiled, w);
     match t.move_to(con, at) {
         Ok(()) => Ok(()),
         Err(error) => Err(refused(error)),
@@ -104,18 +102,6 @@ pub fn send_to_output(t: &mut Tree, con: ConId, output: ConId) -> Result<(), Ref
         (send_to_output_tree con output) }
 {
     on_workspace(t, con)?;
-    send_shown(t, con, output)
-}
-
-/// Sends a container on a workspace to the workspace that the output shows.
-pub fn send_shown(t: &mut Tree, con: ConId, output: ConId) -> Result<(), Refusal>
-    requires subject { IsSubject t.old con }
-    requires seen { is_hidden t.old con ≡ false }
-    requires other { is_space t.old con ≡ false }
-    requires output { IsOutput output t.old.nodes }
-    ensures { DoesExactly t.old t.new result (send_to_output_refusal con output)
-        (send_to_output_tree con output) }
-{
     match shown_on(t, output) {
         Some(w) => send(t, con, w),
         None => Ok(()),

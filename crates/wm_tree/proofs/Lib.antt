@@ -1,6 +1,7 @@
 pub mod AlongLemmas
 pub mod AttachLemmas
 pub mod BearerLemmas
+pub mod EachLemmas
 pub mod ExchangeLaws
 pub mod ExchangeSound
 pub mod FocusLemmas
@@ -17,6 +18,7 @@ pub mod PlaceLemmas
 pub mod RaiseLemmas
 pub mod SettleLemmas
 pub mod SettledLaws
+pub mod SharesLemmas
 pub mod SoundLemmas
 pub mod SpaceLemmas
 pub mod SpaceRows

@@ -8,7 +8,7 @@ use Rattle.wm_forest.specs.Forest.{Forest, end, con}
 use Rattle.wm_forest.specs.declared.part.NodeKind.{NodeKind}
 use Rattle.wm_forest.specs.Look.{has, kind_of, same}
 use Rattle.wm_tree.specs.Move.{marks_in}
-use Rattle.wm_forest.specs.Marks.{marks_word, other_marks, unmark_word}
+use Rattle.wm_forest.specs.Marks.{keep_word, marks_word, only_mark, other_marks, unmark_word}
 
 -- ---- one node's marks
 
@@ -62,27 +62,39 @@ marks_same c (con part kids floats rest) = by (same part.id c) (has c kids) (has
       let own : marks_in c (con part kids floats rest) ≡ marks_in c rest = simp (ea, ek, el) refl in
       ap (λ ms. at c marks_word ms (con part kids floats rest)) own ∙ simp (ea, ek, el) (ap (λ z. con part kids floats z) r)
 
--- taking one off gives the others
-pub unmarked_marks : (c : ConId) (n : List ℕ) (f : Forest) → at c unmark_word n f ≡ at c marks_word (other_marks n (marks_in c f)) f
-unmarked_marks c n end = refl
-unmarked_marks c n (con part kids floats rest) = by (same part.id c) (has c kids) (has c floats) refl refl refl (unmarked_marks c n kids) (unmarked_marks c n floats) (unmarked_marks c n rest) where
-  by : (a k l : Bool) → same part.id c ≡ a → has c kids ≡ k → has c floats ≡ l → at c unmark_word n kids ≡ at c marks_word (other_marks n (marks_in c kids)) kids → at c unmark_word n floats ≡ at c marks_word (other_marks n (marks_in c floats)) floats → at c unmark_word n rest ≡ at c marks_word (other_marks n (marks_in c rest)) rest → at c unmark_word n (con part kids floats rest) ≡ at c marks_word (other_marks n (marks_in c (con part kids floats rest))) (con part kids floats rest)
+-- a node with the marks that g makes of x and of its own
+abbrev pub marks_by : {X : Type 0} → (X → List (List ℕ) → List (List ℕ)) → X → Part → Forest → Forest → Forest → Forest
+marks_by g x part kids floats rest = con (record part { marks = g x part.marks }) kids floats rest
+
+-- that is the same as giving it those marks
+pub marks_made : {X : Type 0} (g : X → List (List ℕ) → List (List ℕ)) (c : ConId) (x : X) (f : Forest) → at c (marks_by g) x f ≡ at c marks_word (g x (marks_in c f)) f
+marks_made g c x end = refl
+marks_made g c x (con part kids floats rest) = by (same part.id c) (has c kids) (has c floats) refl refl refl (marks_made g c x kids) (marks_made g c x floats) (marks_made g c x rest) where
+  by : (a k l : Bool) → same part.id c ≡ a → has c kids ≡ k → has c floats ≡ l → at c (marks_by g) x kids ≡ at c marks_word (g x (marks_in c kids)) kids → at c (marks_by g) x floats ≡ at c marks_word (g x (marks_in c floats)) floats → at c (marks_by g) x rest ≡ at c marks_word (g x (marks_in c rest)) rest → at c (marks_by g) x (con part kids floats rest) ≡ at c marks_word (g x (marks_in c (con part kids floats rest))) (con part kids floats rest)
   by true k l ea ek el p q r = simp ea refl
   by false true l ea ek el p q r =
       let own : marks_in c (con part kids floats rest) ≡ marks_in c kids = simp (ea, ek) refl in
-      let there : at c unmark_word n (con part kids floats rest) ≡ con part (at c unmark_word n kids) floats rest = simp (ea, ek) refl in
-      let here : at c marks_word (other_marks n (marks_in c kids)) (con part kids floats rest) ≡ con part (at c marks_word (other_marks n (marks_in c kids)) kids) floats rest = simp (ea, ek) refl in
-      there ∙ ap (λ z. con part z floats rest) p ∙ sym here ∙ ap (λ ms. at c marks_word (other_marks n ms) (con part kids floats rest)) (sym own)
+      let there : at c (marks_by g) x (con part kids floats rest) ≡ con part (at c (marks_by g) x kids) floats rest = simp (ea, ek) refl in
+      let here : at c marks_word (g x (marks_in c kids)) (con part kids floats rest) ≡ con part (at c marks_word (g x (marks_in c kids)) kids) floats rest = simp (ea, ek) refl in
+      there ∙ ap (λ z. con part z floats rest) p ∙ sym here ∙ ap (λ ms. at c marks_word (g x ms) (con part kids floats rest)) (sym own)
   by false false true ea ek el p q r =
       let own : marks_in c (con part kids floats rest) ≡ marks_in c floats = simp (ea, ek, el) refl in
-      let there : at c unmark_word n (con part kids floats rest) ≡ con part kids (at c unmark_word n floats) rest = simp (ea, ek, el) refl in
-      let here : at c marks_word (other_marks n (marks_in c floats)) (con part kids floats rest) ≡ con part kids (at c marks_word (other_marks n (marks_in c floats)) floats) rest = simp (ea, ek, el) refl in
-      there ∙ ap (λ z. con part kids z rest) q ∙ sym here ∙ ap (λ ms. at c marks_word (other_marks n ms) (con part kids floats rest)) (sym own)
+      let there : at c (marks_by g) x (con part kids floats rest) ≡ con part kids (at c (marks_by g) x floats) rest = simp (ea, ek, el) refl in
+      let here : at c marks_word (g x (marks_in c floats)) (con part kids floats rest) ≡ con part kids (at c marks_word (g x (marks_in c floats)) floats) rest = simp (ea, ek, el) refl in
+      there ∙ ap (λ z. con part kids z rest) q ∙ sym here ∙ ap (λ ms. at c marks_word (g x ms) (con part kids floats rest)) (sym own)
   by false false false ea ek el p q r =
       let own : marks_in c (con part kids floats rest) ≡ marks_in c rest = simp (ea, ek, el) refl in
-      let there : at c unmark_word n (con part kids floats rest) ≡ con part kids floats (at c unmark_word n rest) = simp (ea, ek, el) refl in
-      let here : at c marks_word (other_marks n (marks_in c rest)) (con part kids floats rest) ≡ con part kids floats (at c marks_word (other_marks n (marks_in c rest)) rest) = simp (ea, ek, el) refl in
-      there ∙ ap (λ z. con part kids floats z) r ∙ sym here ∙ ap (λ ms. at c marks_word (other_marks n ms) (con part kids floats rest)) (sym own)
+      let there : at c (marks_by g) x (con part kids floats rest) ≡ con part kids floats (at c (marks_by g) x rest) = simp (ea, ek, el) refl in
+      let here : at c marks_word (g x (marks_in c rest)) (con part kids floats rest) ≡ con part kids floats (at c marks_word (g x (marks_in c rest)) rest) = simp (ea, ek, el) refl in
+      there ∙ ap (λ z. con part kids floats z) r ∙ sym here ∙ ap (λ ms. at c marks_word (g x ms) (con part kids floats rest)) (sym own)
+
+-- taking one off gives the others
+pub unmarked_marks : (c : ConId) (n : List ℕ) (f : Forest) → at c unmark_word n f ≡ at c marks_word (other_marks n (marks_in c f)) f
+unmarked_marks c n f = marks_made other_marks c n f
+
+-- keeping one gives that one alone
+pub kept_marks : (c : ConId) (kept : Option (List ℕ)) (f : Forest) → at c keep_word kept f ≡ at c marks_word (only_mark kept (marks_in c f)) f
+kept_marks c kept f = marks_made only_mark c kept f
 
 -- ---- a mark taken off all nodes but one
 

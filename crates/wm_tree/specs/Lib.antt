@@ -1,4 +1,5 @@
 pub mod Along
+pub mod Gaps
 pub mod Ids
 pub mod Marks
 pub mod Move

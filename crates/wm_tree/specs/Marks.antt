@@ -1,5 +1,5 @@
 -- Who has a mark, and giving it to one container alone.
-use Rattle.std.specs.Prelude.{◌≡◌, ℕ, Bool, true, false, ◌&&◌, not, if◌then◌else◌, List, [], ◌∷◌, ◌++◌, filter, Option, None, Some}
+use Rattle.std.specs.Prelude.{◌≡◌, ℕ, Bool, true, false, ◌&&◌, not, if◌then◌else◌, List, [], ◌∷◌, ◌++◌, Option, None, Some}
 use Rattle.std.specs.List.{list_any}
 use Rattle.std.specs.Option.{option_or}
 use Rattle.std.specs.Str.{bytes_eq}
@@ -9,6 +9,7 @@ use Rattle.wm_forest.specs.declared.part.Part.{Part}
 use Rattle.wm_forest.specs.Change.{is_id}
 use Rattle.wm_forest.specs.Forest.{Forest, end, con}
 use Rattle.wm_forest.specs.Look.{has}
+pub use Rattle.wm_forest.specs.Marks.{only_mark, that_mark}
 use Rattle.wm_forest.specs.Marks.{other_marks}
 use Rattle.wm_tree.specs.declared.refusal.TreeRefusal.{TreeRefusal}
 use Rattle.wm_tree.specs.declared.refusal.TreeRefusal.TheVariants as refusals
@@ -41,15 +42,20 @@ abbrev pub taken_off : Option ConId → List ℕ → Forest → Forest
 taken_off keep n end = end
 taken_off keep n (con part kids floats rest) = con (part_off keep n part) (taken_off keep n kids) (taken_off keep n floats) (taken_off keep n rest)
 
+-- a node without marks
+abbrev pub bare_part : Part → Part
+bare_part part = record part { marks = [] }
+
+-- the forest in which no node has a mark
+abbrev pub bare : Forest → Forest
+bare end = end
+bare (con part kids floats rest) = con (bare_part part) (bare kids) (bare floats) (bare rest)
+
 -- the tree in which no other container than c has the mark
 abbrev pub freed : ConId → List ℕ → TreeValue → TreeValue
 freed c n t = record t { nodes = taken_off (Some c) n t.nodes }
 
 -- ---- giving
-
--- of the marks this one alone
-abbrev pub that_mark : List ℕ → List (List ℕ) → List (List ℕ)
-that_mark n marks = filter (λ m. bytes_eq m n) marks
 
 -- the marks with this one last where it is not among them
 abbrev pub with_mark : List ℕ → List (List ℕ) → List (List ℕ)

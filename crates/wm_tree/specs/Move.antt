@@ -42,11 +42,13 @@ apart t a b = not (same_space (workspace_of t a) (workspace_of t b))
 abbrev pub moved : ConId → Place → TreeValue → TreeValue
 moved c p t = record t { nodes = put p (arriving (moved_share c p t.nodes) (rect_at p) (apart t c (named p)) (only c t.nodes)) (without c t.nodes) }
 
--- c is a container, the place is one, and its node is neither c nor below it, where they are there
+-- the node of the place is neither c nor below it, where they are there
+abbrev pub IsOutside : ConId → Place → Forest → Type 0
+IsOutside c p forest = has c forest ≡ true → has (named p) forest ≡ true → has (named p) (only c forest) ≡ false
+
+-- c is a container, and the place is one outside of it
 abbrev pub IsMove : ConId → Place → Forest → Type 0
-IsMove c p forest =
-    (has c forest ≡ true → kind_of con_kind c forest ≢ None) × IsPlace p forest ×
-    (has c forest ≡ true → has (named p) forest ≡ true → has (named p) (only c forest) ≡ false)
+IsMove c p forest = (has c forest ≡ true → kind_of con_kind c forest ≢ None) × IsPlace p forest × IsOutside c p forest
 
 -- the first limit that moving c to the place would pass
 abbrev pub passed_by_move : ConId → Place → Forest → Option Limit

@@ -16,6 +16,7 @@ use Rattle.wm_forest.specs.declared.spot.Spot.{Spot}
 use Rattle.wm_forest.specs.Forest.{Forest, end, con}
 use Rattle.wm_forest.specs.ForestCode.{forest_code}
 use Rattle.wm_forest.specs.Change.{shown_of}
+pub use Rattle.wm_forest.specs.Kinds.{is_con_kind}
 use Rattle.wm_forest.specs.Look.{only, node_in, first_alone, first_kids, first_part, kind_by, same}
 use Rattle.wm_forest.specs.Focus.{focused_in, leaf_of, tiled_kids}
 use Rattle.wm_forest.specs.Recency.{first_held}
@@ -154,12 +155,6 @@ leaf t c = leaf_of t.recency (only c t.nodes)
 
 -- ---- where a new window goes
 
-abbrev pub is_con_kind : NodeKind → Bool
-is_con_kind (Root c) = false
-is_con_kind (Output o) = false
-is_con_kind (Space s) = false
-is_con_kind (Con c) = true
-
 abbrev pub is_con : Option Part → Bool
 is_con None = false
 is_con (Some part) = is_con_kind part.kind
@@ -172,14 +167,17 @@ is_tiled_spot (Some s) = s.tiled
 abbrev pub is_tiled_con : TreeValue → ConId → Bool
 is_tiled_con t c = is_con (first_part (only c t.nodes)) && is_tiled_spot (spot t c)
 
+-- after the leaf of the workspace w, or last in it where nothing is tiled
+abbrev pub tiling_place : ConId → TreeValue → Place
+tiling_place w t = if is_tiled_con t (or_id (leaf t w) w) then After (or_id (leaf t w) w) else Last w
+
 -- last into a focused workspace; after the focused container where that is tiled; after the leaf of the workspace
 -- where a floating window is focused, or last in it where nothing is tiled
 abbrev pub newcomer_place : TreeValue → Place
 newcomer_place t =
     if same (focused t) (shown t) then Last (shown t)
     else if is_tiled_con t (focused t) then After (focused t)
-    else if is_tiled_con t (or_id (leaf t (shown t)) (shown t)) then After (or_id (leaf t (shown t)) (shown t))
-    else Last (shown t)
+    else tiling_place (shown t) t
 
 -- ---- how the logic stores it
 

@@ -1,11 +1,12 @@
 -- The words in which trees change: each gives the tree back where the node is not there.
-use Rattle.std.specs.Prelude.{◌≡◌, ◌+◌, true, false, [], ◌∷◌, ◌++◌, None, Some}
+use Rattle.std.specs.Prelude.{◌≡◌, ◌+◌, true, false, List, [], ◌∷◌, ◌++◌, None, Some}
 use Rattle.wm_base.specs.declared.ids.ConId.{ConId}
 use Rattle.wm_forest.specs.declared.kind.KindEdit.{KindEdit}
 use Rattle.wm_forest.specs.declared.place.Place.{Place}
 use Rattle.wm_forest.specs.declared.place.NewCon.{NewCon}
 use Rattle.wm_tree.specs.declared.refusal.TreeRefusal.{TreeRefusal}
 use Rattle.wm_tree.specs.declared.refusal.TreeRefusal.TheVariants as refusals
+use Rattle.wm_forest.specs.declared.shares.Sibling.{Sibling}
 use Rattle.wm_forest.specs.Forest.{end, con}
 use Rattle.wm_forest.specs.Change.{at, raised_at, settled_row, without}
 use Rattle.wm_forest.specs.Kinds.{kind_changed}
@@ -13,6 +14,8 @@ use Rattle.wm_forest.specs.Look.{has, only}
 use Rattle.wm_forest.specs.Place.{named, new_part, passed_limit, put, rect_at, share_at}
 use Rattle.wm_forest.specs.Recency.{outside, raised, without_id}
 use Rattle.wm_forest.specs.Settle.{vacated}
+use Rattle.wm_forest.specs.Shares.{shares_word}
+use Rattle.wm_forest.specs.SoundRow.{HasShare}
 use Rattle.wm_tree.specs.TreeValue.{TreeValue, workspace_of}
 use Rattle.wm_forest.specs.RootId.{id}
 
@@ -35,6 +38,15 @@ detached c t = record t {
 -- the tree with a change of the node c
 abbrev pub edited : ConId → KindEdit → TreeValue → TreeValue
 edited c edit t = record t { nodes = at c kind_changed edit t.nodes }
+
+-- the tree in which those children of c that are listed, in the order in which they stand, have the shares listed
+abbrev pub with_shares : ConId → List Sibling → TreeValue → TreeValue
+with_shares c siblings t = record t { nodes = at c shares_word siblings t.nodes }
+
+-- each of the shares is one that a tiled container may have
+abbrev pub AreShares : List Sibling → Type 0
+AreShares [] = Unit {0}
+AreShares (s ∷ siblings) = HasShare true s.share × AreShares siblings
 
 -- the node c is the most recent, no longer urgent, the last of the floating windows where it is one of them,
 -- and no other container of its workspace is fullscreen

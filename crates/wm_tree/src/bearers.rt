@@ -1,9 +1,10 @@
-//! Looking for a mark.
+//! Looking for a mark, and taking it off.
 ghost use Rattle.std.specs.Prelude.{◌≡◌};
-ghost use Rattle.wm_tree.specs.Marks.{bearer, bears};
+ghost use Rattle.wm_tree.specs.Marks.{bearer, bears, part_off};
 
+use std::alloc::Global;
 use wm_base::{ConId, Text};
-use wm_forest::Cursor;
+use wm_forest::{Cursor, EachPart, Part};
 
 /// The first node, depth first, that has the mark and is not the one to be kept.
 pub(crate) fn bearer(mut row: Cursor<'_>, keep: Option<ConId>, name: &Text) -> Option<ConId>
@@ -22,6 +23,24 @@ pub(crate) fn bearer(mut row: Cursor<'_>, keep: Option<ConId>, name: &Text) -> O
         row = row.rest();
     }
     None
+}
+
+/// Taking a mark from all nodes but the one to be kept.
+#[derive(Drop)]
+pub(crate) struct TakeOff<'a> {
+    pub alloc: Global,
+    pub keep: Option<ConId>,
+    pub name: &'a Text,
+}
+
+impl<'a> EachPart for TakeOff<'a> {
+    ghost word = { λ x. part_off x.keep x.name.now };
+
+    fn change(&self, part: &mut Part) {
+        if self.keep != Some(part.id) {
+            part.unmark(self.alloc, self.name);
+        }
+    }
 }
 
 /// Whether the mark is among the marks.

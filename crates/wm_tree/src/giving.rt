@@ -8,7 +8,7 @@ ghost use Rattle.wm_tree.specs.Sound.{IsSound};
 ghost use Rattle.wm_tree.specs.declared.refusal.TreeRefusal.TheVariants.{Full, Missing};
 ghost use Rattle.wm_base.specs.declared.errors.Limit.TheVariants as limits;
 
-use crate::bearers::{bearer, bears};
+use crate::bearers::{TakeOff, bearer, bears};
 use crate::marks::{MAX_MARKS, MAX_MARKS_OF_ONE};
 use crate::refusal::{TreeRefusal, full};
 use crate::tree::Tree;
@@ -34,14 +34,17 @@ impl Tree {
     }
 
     /// Takes the mark off all nodes but the one to be kept.
+    #[tactic(auto, using(crate::proofs::EachLemmas::mapped_off))]
     pub fn take_mark(&mut self, keep: Option<ConId>, n: &Text)
-        requires { IsSound self.old }
         ensures tree { self.new ≡ record self.old { nodes = taken_off keep n.now self.old.nodes } }
-        ensures sound { IsSound self.new }
+        ensures sound { IsSound self.old → IsSound self.new }
     {
-        while let Some(con) = self.bearer(keep, n) {
-            self.remove_mark(con, n);
-        }
+        let alloc = self.alloc;
+        self.nodes.change_each(&TakeOff {
+            alloc,
+            keep,
+            name: n,
+        });
     }
 
     /// Gives the mark, of 1 to 256 bytes, to the container, which has it not, and takes it off any other. It is the last

@@ -6,6 +6,7 @@ mod attach;
 mod bearers;
 mod copy;
 mod filling;
+mod gaps;
 mod giving;
 mod lists;
 mod marks;
@@ -21,11 +22,13 @@ mod start;
 mod tree;
 mod words;
 
+pub use gaps::GapChange;
 pub use recent::Recent;
 pub use refusal::TreeRefusal;
 pub use standing::{Placed, Standing};
 pub use tree::Tree;
+pub use wm_forest::recency::SOON;
 pub use wm_forest::{
-    ConKind, ConPart, ConState, Cursor, NewCon, NodeKind, OutputPart, Part, Place, Sieve,
+    ConKind, ConPart, ConState, Cursor, NewCon, NodeKind, OutputPart, Part, Place, Sibling, Sieve,
     SpacePart, Swallow, SwallowKey, copy_props,
 };

@@ -1,9 +1,10 @@
 //! Marks of containers, and urgent windows.
 ghost use Rattle.std.specs.Prelude.{None, ◌≢◌, ◌≡◌, ◌++◌, ◌∷◌, ◌≤◌, [], false, true, Err, IfOk, IfErr, OnOk, OnErr};
 ghost use Rattle.wm_forest.specs.Look.{con_kind, has, kind_of};
-ghost use Rattle.wm_tree.specs.Marks.{bearer};
+ghost use Rattle.wm_tree.specs.Marks.{bare, bare_part, bearer, only_mark};
 ghost use Rattle.wm_tree.specs.Sound.{IsSound};
-ghost use Rattle.wm_tree.specs.Move.{is_full_of_marks, marked, marks_in, unmarked, IsMarkCause};
+ghost use Rattle.wm_tree.specs.Move.{is_full_of_marks, marked, marks_in, unmarked, with_marks, IsMarkCause};
+ghost use Rattle.std.specs.Option.{option_copied};
 ghost use Rattle.wm_forest.specs.Recency.{lists, without_id};
 ghost use Rattle.wm_tree.specs.declared.refusal.TreeRefusal.TheVariants.{Full, Missing};
 ghost use Rattle.wm_tree.specs.declared.refusal.TreeRefusal.TheVariants as refusals;
@@ -11,14 +12,29 @@ ghost use Rattle.wm_base.specs.declared.errors.Limit.TheVariants as limits;
 
 use crate::refusal::{TreeRefusal, full};
 use crate::tree::Tree;
+use std::alloc::Global;
 use wm_base::{ConId, Limit, List, Text};
-use wm_forest::{SetMarks, Unmark, copy_texts_and, recency};
+use wm_forest::{EachPart, KeepMark, Part, SetMarks, Unmark, copy_texts_and, recency};
 
 /// How many marks a tree has at most.
 pub(crate) const MAX_MARKS: usize = 1_024;
 
 /// How many marks a container has at most.
 pub(crate) const MAX_MARKS_OF_ONE: usize = 32;
+
+/// Taking all marks from nodes.
+#[derive(Drop)]
+struct Strip {
+    alloc: Global,
+}
+
+impl EachPart for Strip {
+    ghost word = { λ x. bare_part };
+
+    fn change(&self, part: &mut Part) {
+        part.strip(self.alloc);
+    }
+}
 
 impl Tree {
     /// Puts the mark, of 1 to 256 bytes, last among the container's.
@@ -64,6 +80,25 @@ impl Tree {
     {
         let alloc = self.alloc;
         drop(self.nodes.change(con, Unmark { alloc, name: n }));
+    }
+
+    /// Takes all marks but this one from the container, or all.
+    pub fn keep_mark(&mut self, con: ConId, kept: Option<&Text>)
+        ensures tree { self.new ≡ with_marks con (only_mark (option_copied kept.entry) (marks_in con self.old.nodes)) self.old }
+        ensures sound { IsSound self.old → IsSound self.new }
+    {
+        let alloc = self.alloc;
+        drop(self.nodes.change(con, KeepMark { alloc, name: kept }));
+    }
+
+    /// Takes all marks from all nodes.
+    #[tactic(auto, using(crate::proofs::EachLemmas::mapped_bare))]
+    pub fn strip(&mut self)
+        ensures tree { self.new ≡ record self.old { nodes = bare self.old.nodes } }
+        ensures sound { IsSound self.old → IsSound self.new }
+    {
+        let alloc = self.alloc;
+        self.nodes.change_each(&Strip { alloc });
     }
 
     /// Puts the window, which is not urgent, last among the urgent ones.

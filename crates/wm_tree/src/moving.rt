@@ -1,7 +1,7 @@
 //! Moving, wrapping and exchanging containers.
 ghost use Rattle.std.specs.Prelude.{◌≡◌, ◌≢◌, ◌≤◌, false, true, Err, None, IfOk, IfErr, OnOk, OnErr, IfSome, MatchOption, IsOk, is_some};
 ghost use Rattle.wm_forest.specs.Look.{has, only};
-ghost use Rattle.wm_tree.specs.Move.{IsExchange, IsMove, apart, exchanged, is_too_deep, moved, moved_share, passed_by_move, passed_by_wrap, same_space, share_in, wrap_word, wrapped, IsExchangeCause, IsMoveCause, IsWrapCause};
+ghost use Rattle.wm_tree.specs.Move.{IsExchange, IsMove, IsOutside, apart, exchanged, is_too_deep, moved, moved_share, passed_by_move, passed_by_wrap, same_space, share_in, wrap_word, wrapped, IsExchangeCause, IsMoveCause, IsWrapCause};
 ghost use Rattle.wm_forest.specs.Place.{IsTiled, named, put};
 ghost use Rattle.wm_base.specs.declared.ids.ConId.{ConId};
 ghost use Rattle.wm_tree.specs.Sound.{IsSound};
@@ -46,11 +46,11 @@ impl Tree {
     /// where it comes to another workspace or to the scratchpad. The id that the place names is neither the container
     /// nor in its subtree.
     pub fn move_to(&mut self, con: ConId, at: Place) -> Result<(), TreeRefusal>
+        requires { IsOutside con at self.old.nodes }
         ensures ok { OnOk result (self.new ≡ moved con at self.old) }
         ensures err { OnErr result (self.new ≡ self.old) }
         ensures sound { IsMove con at self.old.nodes → IsSound self.old → IsSound self.new }
-        ensures kept { has (named at) (only con self.old.nodes) ≡ false →
-            OnOk result ((i : ConId) → tally i self.new.nodes ≡ tally i self.old.nodes) }
+        ensures kept { OnOk result ((i : ConId) → tally i self.new.nodes ≡ tally i self.old.nodes) }
         ensures missing { has con self.old.nodes ≡ false → result ≡ Err (Missing con) }
         ensures no_place { has con self.old.nodes ≡ true → has (named at) self.old.nodes ≡ false →
             result ≡ Err (Missing (named at)) }

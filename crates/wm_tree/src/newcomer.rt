@@ -3,9 +3,10 @@ ghost use Rattle.std.specs.Prelude.{◌≡◌, true};
 ghost use Rattle.wm_forest.specs.Look.{has};
 ghost use Rattle.wm_forest.specs.Place.{IsPlace, named};
 ghost use Rattle.wm_tree.specs.Sound.{IsSound};
-ghost use Rattle.wm_tree.specs.TreeValue.{newcomer_place};
+ghost use Rattle.wm_tree.specs.TreeValue.{newcomer_place, tiling_place};
 
 use crate::tree::Tree;
+use wm_base::ConId;
 use wm_forest::Place;
 
 impl Tree {
@@ -30,11 +31,18 @@ impl Tree {
         if self.is_tiled(focused) {
             return Place::After(focused);
         }
-        let leaf = self.leaf(shown).unwrap_or(shown);
+        self.tiling_place(shown)
+    }
+
+    /// The place after the leaf of the workspace, or last in it where nothing is tiled.
+    pub fn tiling_place(&self, w: ConId) -> Place
+        ensures { result ≡ tiling_place w self.now }
+    {
+        let leaf = self.leaf(w).unwrap_or(w);
         if self.is_tiled(leaf) {
             Place::After(leaf)
         } else {
-            Place::Last(shown)
+            Place::Last(w)
         }
     }
 }

@@ -5,6 +5,7 @@ ghost use Rattle.wm_forest.specs.Forest.{end};
 ghost use Rattle.wm_forest.specs.Look.{has};
 ghost use Rattle.wm_tree.specs.Outputs.{IsOutput, IsOutputCause, handed_on, new_output, passed_by_output, with_output, without_output, yielded};
 ghost use Rattle.wm_forest.specs.SoundRow.{IsOutputRect};
+ghost use Rattle.wm_forest.specs.Taking.{heir};
 ghost use Rattle.wm_tree.specs.Sound.{IsSound};
 ghost use Rattle.wm_forest.specs.RootId.{id};
 ghost use Rattle.wm_tree.specs.declared.refusal.TreeRefusal.TheVariants.{Full, Missing};
@@ -77,6 +78,13 @@ impl Tree {
         Ok(())
     }
 
+    /// The first of the other outputs.
+    pub fn heir(&self, o: ConId) -> Option<ConId>
+        ensures { result ≡ heir o self.now.nodes }
+    {
+        self.nodes.heir(o)
+    }
+
     /// Removes the output. Its workspaces come last on the first of the others, which keeps what it shows and is
     /// current where the removed one was. The id, where it is there, is that of an output, and not of the only one.
     pub fn remove_output(&mut self, o: ConId) -> Result<(), TreeRefusal>
@@ -89,7 +97,7 @@ impl Tree {
         if !self.nodes.has(o) {
             return Err(TreeRefusal::Missing(o));
         }
-        if let Some(heir) = self.nodes.heir(o) {
+        if let Some(heir) = self.heir(o) {
             self.yield_to(o, heir);
             self.hand_on(o, heir);
         }

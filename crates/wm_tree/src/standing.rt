@@ -1,7 +1,8 @@
 //! What a node is and where it stands, at one look.
 ghost use Rattle.std.specs.Prelude.{◌≡◌};
+ghost use Rattle.wm_forest.specs.Look.{has, only};
 ghost use Rattle.wm_tree.specs.Standing.{IsSpotted, IsStanding};
-ghost use Rattle.wm_tree.specs.TreeValue.{is_con_kind, is_tiled_con};
+ghost use Rattle.wm_tree.specs.TreeValue.{is_tiled_con};
 
 use crate::tree::Tree;
 use wm_base::ConId;
@@ -39,12 +40,22 @@ impl Tree {
         }
     }
 
+    /// Whether the node b is the node a or below it.
+    pub fn is_within(&self, a: ConId, b: ConId) -> bool
+        ensures { result ≡ has b (only a self.now.nodes) }
+    {
+        match self.nodes.find(a) {
+            Some(cell) => cell.holds(b),
+            None => false,
+        }
+    }
+
     /// Whether this is a tiled container.
     pub fn is_tiled(&self, con: ConId) -> bool
         ensures { result ≡ is_tiled_con self.now con }
     {
         match self.nodes.stand(TOP, con) {
-            Some((cell, spot)) => is_con(&cell.part.kind) && spot.tiled,
+            Some((cell, spot)) => cell.part.kind.is_con() && spot.tiled,
             None => false,
         }
     }
@@ -68,14 +79,5 @@ fn container_at(spot: Spot, part: &ConPart) -> Standing<'_>
             tiled,
         }),
         None => Standing::Away(part, tiled),
-    }
-}
-
-fn is_con(kind: &NodeKind) -> bool
-    ensures { result ≡ is_con_kind kind.now }
-{
-    match kind {
-        NodeKind::Con(_) => true,
-        NodeKind::Root { .. } | NodeKind::Output(_) | NodeKind::Space(_) => false,
     }
 }

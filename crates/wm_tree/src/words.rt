@@ -1,7 +1,7 @@
 //! Taking containers out of the tree, changing them, raising and settling.
 ghost use Rattle.std.specs.Prelude.{◌≡◌, ◌≢◌, ◌≤◌, ◌+◌, false, true, Err, IsOk, None, Some, slice_get};
 ghost use Rattle.wm_forest.specs.Look.{con_kind, has, kind_of, only};
-ghost use Rattle.wm_tree.specs.Words.{detached, edited, settled, with_raised};
+ghost use Rattle.wm_tree.specs.Words.{AreShares, detached, edited, settled, with_raised, with_shares};
 ghost use Rattle.wm_forest.specs.Place.{IsTiled};
 ghost use Rattle.wm_forest.specs.Recency.{inside, lists, without_id};
 ghost use Rattle.wm_forest.specs.Settle.{is_settled, vacated};
@@ -14,7 +14,7 @@ ghost use Rattle.wm_tree.specs.declared.refusal.TreeRefusal.TheVariants.{Missing
 use crate::refusal::TreeRefusal;
 use crate::tree::Tree;
 use wm_base::{ConId, Layout};
-use wm_forest::{KindEdit, Row, recency};
+use wm_forest::{KindEdit, Row, SetShares, Sibling, recency};
 
 impl Tree {
     /// Takes the container out with all that is below it. The id, where it is there, is that of a container.
@@ -51,6 +51,15 @@ impl Tree {
         ensures sound { IsTiled con self.old.nodes → 1 ≤ s → s ≤ 1048576 → IsSound self.old → IsSound self.new }
     {
         self.edit(con, KindEdit::Share(s));
+    }
+
+    /// Gives those children of the container that are listed, in the order in which they stand, other shares, from 1 to
+    /// 1,048,576.
+    pub fn set_shares(&mut self, con: ConId, siblings: &[Sibling])
+        ensures tree { self.new ≡ with_shares con siblings.now self.old }
+        ensures sound { AreShares siblings.now → IsSound self.old → IsSound self.new }
+    {
+        drop(self.nodes.change(con, SetShares(siblings)));
     }
 
     /// Puts the container or workspace first in the order of recency and takes its urgency. A floating window comes

@@ -1,5 +1,6 @@
 pub mod FocusLemmas
 pub mod MapLemmas
+pub mod MergeLemmas
 pub mod NodeLemmas
 pub mod OrderLemmas
 pub mod PlaceLemmas

@@ -1,36 +1,23 @@
--- What maps keep of the parts of a node, and whether they have an id.
-use Rattle.std.proofs.Common.{◌≡◌, ℕ, Bool, true, false, cond, ◌||◌, List, Option, Some, None, is_some, refl, ap, sym, ◌∙◌}
+-- What maps keep of the parts of a node.
+use Rattle.std.proofs.Common.{◌≡◌, ℕ, Bool, true, false, cond, List, Option, Some, None, refl, ap, ◌∙◌}
 use Rattle.std.proofs.lemmas.Bool.{eqb-true}
-use Rattle.std.specs.BTreeMap.{insert_entry, is_at}
+use Rattle.std.specs.BTreeMap.{is_at}
 use Rattle.std.specs.Map.{lookup}
 use Rattle.std.specs.Option.{option_or}
 use Rattle.std.specs.Ordering.{nat_cmp}
 use Rattle.wm_arrange.specs.declared.parts.Placed.{Placed}
-pub use Rattle.wm_arrange.proofs.MapLemmas.{find_insert}
+pub use Rattle.wm_arrange.proofs.MapLemmas.{any_assoc, find_insert, holds_insert}
 use Rattle.wm_base.specs.declared.ids.ConId.{ConId}
 use Rattle.wm_forest.specs.Look.{same}
 use Rattle.wm_views.specs.declared.maps.NodeRects.{NodeRects}
 use Rattle.wm_views.specs.declared.maps.Wanted.{Wanted}
 use Rattle.wm_views.specs.declared.maps.Wanted.TheVariants.{Areas, Contents, Titles}
-use Rattle.wm_views.specs.Maps.{holds, of_node, or_unplaced, rect_in, rect_kept, rect_of, value_at}
+use Rattle.wm_views.specs.Maps.{of_node, or_unplaced, rect_in, rect_kept, rect_of, value_at}
 
 -- the first of three is the first of the first two, or else the third
 pub or_assoc : {X : Type 0} (a b c : Option X) → option_or (option_or a b) c ≡ option_or a (option_or b c)
 or_assoc None b c = refl
 or_assoc (Some x) b c = refl
-
-some_cond : {X : Type 0} (b : Bool) (x : X) (o : Option X) → is_some (cond b (Some x) o) ≡ is_some o || b
-some_cond true x None = refl
-some_cond true x (Some y) = refl
-some_cond false x None = refl
-some_cond false x (Some y) = refl
-
-pub holds_insert : {X : Type 0} (a v : ConId) (w : X) (map : List (ℕ × X)) → holds (insert_entry nat_cmp map a.0 w) v ≡ holds map v || same a v
-holds_insert a v w map = ap is_some (find_insert a v w map) ∙ some_cond (same a v) w (value_at map v)
-
-pub any_assoc : (a b c : Bool) → (a || b) || c ≡ a || (b || c)
-any_assoc true b c = refl
-any_assoc false b c = refl
 
 -- ---- what a map keeps where a node is given a rectangle
 

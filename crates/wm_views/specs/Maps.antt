@@ -1,8 +1,8 @@
--- What is looked up by id: the rectangles of parts, and whether an id is listed.
-use Rattle.std.specs.Prelude.{ℕ, Bool, true, false, if◌then◌else◌, List, [], ◌∷◌, Option, None, Some, is_some}
+-- What is looked up by id: the rectangles of parts.
+use Rattle.std.specs.Prelude.{Bool, true, false, if◌then◌else◌, List, [], ◌∷◌, Option, None, Some}
 use Rattle.std.specs.Option.{option_or}
 use Rattle.wm_arrange.specs.AreaOf.{or_nowhere}
-pub use Rattle.wm_arrange.specs.Choices.{value_at}
+pub use Rattle.wm_arrange.specs.Maps.{holds, value_at}
 use Rattle.wm_arrange.specs.declared.parts.Placed.{Placed}
 use Rattle.wm_arrange.specs.declared.parts.PlacedPart.{PlacedPart}
 use Rattle.wm_arrange.specs.declared.parts.PlacedPart.TheVariants.{Area, Title, Content}
@@ -55,10 +55,6 @@ or_unplaced (Some r) = r
 abbrev pub rect_kept : Wanted → Option NodeRects → Option Rect
 rect_kept w None = None
 rect_kept w (Some r) = rect_in w r
-
--- whether a map has c
-abbrev pub holds : {A : Type 0} → List (ℕ × A) → ConId → Bool
-holds map c = is_some (value_at map c)
 
 -- what c has after the node was given a value
 abbrev pub put_at : {A : Type 0} → ConId → A → ConId → Option A → Option A

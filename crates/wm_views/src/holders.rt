@@ -13,7 +13,8 @@ use crate::cons::space_view;
 use crate::nodes::outlined;
 use crate::order::least_place;
 use crate::outputs::name_in;
-use crate::rows::{Below, list_node, place_nodes, push_over};
+use crate::placing::place_nodes;
+use crate::rows::{Below, list_node, push_over};
 use crate::setting::{set_output, set_place};
 use crate::sight::Sight;
 use crate::spaces::has_urgent;
@@ -48,7 +49,7 @@ fn push_spaces(
         least = least.min(list_node(&mut nodes, sight, part.id, kids, floats)?);
         left = left.rest();
     }
-    place_nodes(placed, nodes)?;
+    place_nodes(placed, alloc, nodes)?;
     Ok(least)
 }
 
@@ -164,7 +165,7 @@ pub fn push_outputs(
         first = false;
         left = left.rest();
     }
-    place_nodes(placed, nodes)
+    place_nodes(placed, alloc, nodes)
 }
 
 /// Adds the row's first node over its workspaces, where it is an output, and tells the least place of an id among these.

@@ -9,6 +9,7 @@ mod nodes;
 mod numbers;
 mod order;
 mod outputs;
+mod placing;
 mod root;
 mod rows;
 mod scratchpad;

@@ -1,10 +1,8 @@
 //! Maps from ids to what is looked up.
-ghost use Rattle.std.specs.Prelude.{◌≡◌, ◌||◌, IfOk, OnOk};
+ghost use Rattle.std.specs.Prelude.{◌≡◌, IfOk, OnOk};
 ghost use Rattle.std.specs.Option.{option_or};
 ghost use Rattle.wm_base.specs.declared.ids.ConId.{ConId};
-ghost use Rattle.wm_forest.specs.Look.{same};
-ghost use Rattle.wm_forest.specs.Recency.{lists};
-ghost use Rattle.wm_views.specs.Maps.{holds, is_wanted, of_node, or_unplaced, put_at, rect_at, rect_in, rect_kept, rect_of, value_at};
+ghost use Rattle.wm_views.specs.Maps.{is_wanted, of_node, or_unplaced, put_at, rect_at, rect_in, rect_kept, rect_of, value_at};
 ghost use Rattle.wm_views.specs.declared.maps.Wanted.{Wanted};
 ghost use Rattle.wm_views.specs.declared.maps.Wanted.TheVariants.{Areas, Contents, Titles};
 
@@ -126,25 +124,4 @@ fn is_wanted(wanted: Wanted, part: &PlacedPart) -> bool
         | (Wanted::Contents, PlacedPart::Content) => true,
         _ => false,
     }
-}
-
-/// The ids of a list.
-#[tactic(auto, using(crate::proofs::MapLemmas::any_assoc))]
-pub fn ids(alloc: Global, list: &[ConId]) -> Result<IdMap<()>, NoMemory>
-    ensures { IfOk result (λ map. (c : ConId) → holds map c ≡ lists c list.now) }
-{
-    let mut map = IdMap::new(alloc);
-    let mut rest = list;
-    while let [id, after @ ..] = rest {
-        add(&mut map, *id)?;
-        rest = after;
-    }
-    Ok(map)
-}
-
-fn add(map: &mut IdMap<()>, id: ConId) -> Result<(), NoMemory>
-    ensures { (c : ConId) → OnOk result (holds map.new c ≡ (holds map.old c || same id c)) }
-{
-    map.insert(id.0, ())?;
-    Ok(())
 }

@@ -9,9 +9,9 @@ ghost use Rattle.wm_views.specs.declared.maps.Wanted.TheVariants.{Areas, Content
 ghost use Rattle.wm_views.specs.Recency.{place_of};
 ghost use Rattle.wm_views.specs.Sight.{IsSight};
 
-use crate::maps::{NodeRects, Wanted, ids, rect_at, rects};
+use crate::maps::{NodeRects, Wanted, rect_at, rects};
 use std::alloc::Global;
-use wm_arrange::{Arrangement, places_of};
+use wm_arrange::{Arrangement, id_set, places_of};
 use wm_base::{ConId, NoMemory, Rect};
 use wm_ids::IdMap;
 use wm_tree::Tree;
@@ -46,7 +46,7 @@ impl<'a> Sight<'a> {
         ensures tree { IfOk result (λ sight. sight.tree.now ≡ tree.now) }
         ensures parts { IfOk result (λ sight. sight.arrangement.now ≡ arrangement.now) }
     {
-        let urgent = ids(alloc, tree.urgent_ids())?;
+        let urgent = id_set(alloc, tree.urgent_ids())?;
         Ok(Sight {
             tree,
             arrangement,

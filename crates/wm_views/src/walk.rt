@@ -9,7 +9,8 @@ ghost use Rattle.wm_views.specs.Sight.{IsSight};
 
 use crate::cons::{Above, con_view};
 use crate::order::least_place;
-use crate::rows::{Below, list_node, place_nodes, push_over};
+use crate::placing::place_nodes;
+use crate::rows::{Below, list_node, push_over};
 use crate::sight::Sight;
 use std::alloc::Global;
 use wm_base::{ConId, NoMemory, Rect};
@@ -67,7 +68,7 @@ pub fn push_cons(
         least = least.min(list_node(&mut nodes, sight, part.id, kids, floats)?);
         left = left.rest();
     }
-    place_nodes(placed, nodes)?;
+    place_nodes(placed, alloc, nodes)?;
     Ok(least)
 }
 

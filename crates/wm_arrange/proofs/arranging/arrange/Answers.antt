@@ -5,7 +5,7 @@ use Rattle.wm_forest.specs.Look.{first_kids}
 use Rattle.wm_arrange.proofs.arranging.arrange.Goals as goal
 
 pub returns-clause-parts : goal.returns-clause-parts
-returns-clause-parts c = c.of.ensures ∙ rw (c.in_ok-place_outputs.ensures, c.new-parts.ensures.items, c.kids-row.ensures, c.nodes.ensures, c.focused-focused.ensures.value) refl
+returns-clause-parts c = c.of.ensures ∙ rw (c.in_ok-place_outputs.ensures, c.new-parts.ensures.items, c.kids.ensures, c.nodes.ensures, c.focused.ensures.value) refl
 
 pub returns-clause-covers : goal.returns-clause-covers
 returns-clause-covers c con gap splits =

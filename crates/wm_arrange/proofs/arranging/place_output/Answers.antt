@@ -1,6 +1,6 @@
 use Rattle.std.proofs.Common.{◌∙◌, ap, sym}
 use Rattle.std.specs.Option.{option_copied}
-use Rattle.wm_arrange.specs.Choices.{value_at}
+use Rattle.wm_arrange.specs.Maps.{value_at}
 use Rattle.wm_arrange.proofs.ChoiceLemmas.{output_first}
 use Rattle.wm_arrange.proofs.TreeLemmas.{output_spaces}
 use Rattle.wm_arrange.proofs.arranging.place_output.Goals as goal
@@ -11,4 +11,4 @@ place_space-requires-clause-sound c = rw (c.row_from-space.ensures, c.kids.ensur
 pub place_space-requires-clause-known : goal.place_space-requires-clause-known
 place_space-requires-clause-known c =
     rw (c.row_from-space.ensures, c.kids.ensures)
-    (output_first c.args.tree.now.recency (value_at c.args.chosen.now) c.args.row.now c.in-Some.part.now c.in-Output.output (sym c.part.ensures ∙ ap option_copied c.in-Some.is) c.in-Output.is c.requires.known)
+    (output_first c.args.scene.now.tree.now.recency (value_at c.args.scene.now.chosen.now) c.args.row.now c.in-Some.part.now c.in-Output.output (sym c.part.ensures ∙ ap option_copied c.in-Some.is) c.in-Output.is c.requires.known)

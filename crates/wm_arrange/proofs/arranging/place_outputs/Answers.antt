@@ -6,7 +6,7 @@ pub loop-parts-preserved : goal.loop-parts-preserved
 loop-parts-preserved c =
     let kept = c.loop-parts.invariant in
     record {
-      placed = outputs_on c.args.tree.now c.args.focused c.loop-parts.left c.rest-left.result _ _ _ c.in_ok-place_output.ensures c.rest-left.ensures kept.placed;
+      placed = outputs_on c.args.scene.now.tree.now c.args.scene.now.focused c.loop-parts.left c.rest-left.result _ _ _ c.in_ok-place_output.ensures c.rest-left.ensures kept.placed;
       sound = rw c.rest-left.ensures (outputs_behind c.loop-parts.left kept.sound);
-      known = rw c.rest-left.ensures (outputs_rest c.args.tree.now.recency _ c.loop-parts.left kept.known);
+      known = rw c.rest-left.ensures (outputs_rest c.args.scene.now.tree.now.recency _ c.loop-parts.left kept.known);
     }

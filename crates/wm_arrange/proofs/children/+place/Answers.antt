@@ -3,7 +3,7 @@ use Rattle.std.specs.Option.{option_copied}
 use Rattle.wm_forest.specs.Counts.{share_of, share_sum}
 use Rattle.wm_forest.specs.Forest.{node_count}
 use Rattle.wm_forest.specs.Look.{first_kids}
-use Rattle.wm_arrange.specs.Choices.{value_at}
+use Rattle.wm_arrange.specs.Maps.{value_at}
 use Rattle.wm_arrange.specs.Slots.{HasSlots}
 use Rattle.wm_arrange.specs.Scene.{seen}
 use Rattle.wm_arrange.proofs.ChoiceLemmas.{known_turn}
@@ -16,7 +16,7 @@ place_row-place_child-requires t c =
     let first = sym c.part.ensures ∙ ap option_copied c.in-Some.is in
     let found = turn c.loop-part.left c.in-Some.part.now first kept.sound in
     let known = known_turn c.args.scene.now.tree.now.recency (value_at c.args.scene.now.chosen.now) c.loop-part.left c.in-Some.part.now first kept.known in
-    (omega (arith, found.below, kept.left, c.decreases), (found.few, (found.kids, (known.0, c.slot-slot.ensures.area))))
+    (omega (arith, found.below, kept.left, c.decreases), (c.requires.scene, (found.few, (found.kids, (known.0, c.slot-slot.ensures.area)))))
 
 pub place_row-loop-part-preserved : goal.place_row-loop-part-preserved
 place_row-loop-part-preserved t c =

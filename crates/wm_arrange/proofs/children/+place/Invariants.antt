@@ -2,7 +2,8 @@ use Rattle.std.proofs.Common.{◌≡◌, ◌+◌, ◌*◌, ◌≤◌, ◌++◌, 
 use Rattle.wm_forest.specs.Counts.{share_sum}
 use Rattle.wm_forest.specs.Forest.{node_count}
 use Rattle.wm_forest.specs.Look.{first_kids}
-use Rattle.wm_arrange.specs.Choices.{value_at, KnowsRow}
+use Rattle.wm_arrange.specs.Choices.{KnowsRow}
+use Rattle.wm_arrange.specs.Maps.{value_at}
 use Rattle.wm_arrange.specs.Scene.{seen}
 use Rattle.wm_arrange.specs.Slots.{parts_from, HasSlots, IsTiledRow}
 use Rattle.wm_arrange.proofs.children.+place.Given as goal

@@ -3,7 +3,8 @@ use Rattle.std.specs.Option.{option_or}
 use Rattle.wm_base.specs.declared.ids.ConId.{ConId}
 use Rattle.wm_forest.specs.Forest.{node_count}
 use Rattle.wm_forest.specs.SoundRow.{tally}
-use Rattle.wm_arrange.specs.Choices.{choice_in, nearest, sooner, value_at}
+use Rattle.wm_arrange.specs.Choices.{choice_in, nearest, sooner}
+use Rattle.wm_arrange.specs.Maps.{value_at}
 use Rattle.wm_arrange.proofs.choosing.+choose.Given as goal
 
 abbrev pub decreases-choose : goal.decreases-choose

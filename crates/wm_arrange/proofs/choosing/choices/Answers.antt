@@ -1,6 +1,7 @@
 use Rattle.std.proofs.Common.{◌∙◌, ap, subst}
 use Rattle.wm_forest.specs.Look.{first_kids}
-use Rattle.wm_arrange.specs.Choices.{value_at, KnowsOutputs}
+use Rattle.wm_arrange.specs.Choices.{KnowsOutputs}
+use Rattle.wm_arrange.specs.Maps.{value_at}
 use Rattle.wm_arrange.proofs.choosing.choices.Goals as goal
 
 pub returns : goal.returns

@@ -1,6 +1,7 @@
 use Rattle.std.proofs.Common.{◌∙◌, ap}
 use Rattle.std.proofs.lemmas.Result.{on_ok_weaker}
-use Rattle.wm_arrange.specs.Choices.{shows_one, value_at}
+use Rattle.wm_arrange.specs.Choices.{shows_one}
+use Rattle.wm_arrange.specs.Maps.{value_at}
 use Rattle.wm_arrange.proofs.ChoiceLemmas.{kept_put}
 use Rattle.wm_arrange.proofs.choosing.keep.Goals as goal
 

@@ -1,7 +1,7 @@
 use Rattle.std.proofs.Common.{◌≡◌, ap, sym, ◌∙◌, None}
 use Rattle.std.proofs.lemmas.Result.{on_ok_weaker}
 use Rattle.std.specs.Option.{option_copied}
-use Rattle.wm_arrange.specs.Choices.{value_at}
+use Rattle.wm_arrange.specs.Maps.{value_at}
 use Rattle.wm_arrange.proofs.MapLemmas.{or_new}
 use Rattle.wm_arrange.proofs.places.keep_place.Goals as goal
 

@@ -2,7 +2,7 @@ use Rattle.std.proofs.Common.{◌≡◌, ◌+◌, length}
 use Rattle.std.specs.Option.{option_or}
 use Rattle.wm_base.specs.declared.ids.ConId.{ConId}
 use Rattle.wm_forest.specs.Recency.{place_from}
-use Rattle.wm_arrange.specs.Choices.{value_at}
+use Rattle.wm_arrange.specs.Maps.{value_at}
 use Rattle.wm_arrange.proofs.places.places_of.Given as goal
 
 -- the place that the map has, or else that in the rest, is the place in the list

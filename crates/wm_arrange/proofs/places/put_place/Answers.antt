@@ -1,5 +1,5 @@
 use Rattle.std.proofs.Common.{ap, ◌∙◌}
-use Rattle.wm_arrange.specs.Choices.{value_at}
+use Rattle.wm_arrange.specs.Maps.{value_at}
 use Rattle.wm_arrange.proofs.MapLemmas.{find_insert}
 use Rattle.wm_arrange.proofs.places.put_place.Goals as goal
 

@@ -6,7 +6,7 @@ use Rattle.wm_criteria.proofs.groups.keys_hold.Given as goal
 -- all keys hold where those that are left do, and the forms that are left are theirs
 abbrev pub invariant-loop-rest : goal.invariant-loop-rest
 invariant-loop-rest l = record {
-  held : holds l.tree l.rest l.con ≡ holds l.tree l.keys l.con;
+  held : holds l.asked.focus.tree.now l.rest l.subject.id ≡ holds l.asked.focus.tree.now l.asked.keys.now l.subject.id;
   forms : AreFormsOf l.rest l.forms;
 }
 

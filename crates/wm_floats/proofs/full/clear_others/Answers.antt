@@ -15,7 +15,7 @@ loop-other-preserved c =
     let k = one_less c.args.w c.args.con c.in-Some.other c.loop-other.t c.set_full.new.t c.loop-other.invariant.0 found c.set_full.ensures.tree in
     (c.set_full.ensures.sound c.loop-other.invariant.0, k.0 ∙ c.loop-other.invariant.1)
 
-pub returns-clause-tree : goal.returns-clause-tree
-returns-clause-tree c =
+pub returns-clause-made : goal.returns-clause-made
+returns-clause-made c =
     let none : full_in c.args.w c.args.con c.loop-other.t.nodes ≡ None = first_of (search rules, grind (arith, common_steps)) in
-    sym (none_left c.args.w c.args.con c.loop-other.t none) ∙ c.loop-other.invariant.1
+    record { tree = sym (none_left c.args.w c.args.con c.loop-other.t none) ∙ c.loop-other.invariant.1; sound = λ s. c.loop-other.invariant.0 }

@@ -4,7 +4,7 @@ use Rattle.wm_forest.proofs.recency.first_sieved.Given as goal
 
 -- the first in all of the list is the first in what is left of it
 abbrev pub invariant-loop-rest : goal.invariant-loop-rest
-invariant-loop-rest l = first_held l.row.row.now l.rest ≡ first_held l.row.row.now l.ids
+invariant-loop-rest g l = first_held (g.H.Holds.nodes l.sieved.holder.now) l.rest ≡ first_held (g.H.Holds.nodes l.sieved.holder.now) l.ids
 
 abbrev pub decreases-loop-rest : goal.decreases-loop-rest
-decreases-loop-rest l = length l.rest
+decreases-loop-rest g l = length l.rest

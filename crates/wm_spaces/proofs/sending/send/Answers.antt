@@ -1,8 +1,13 @@
-use Rattle.std.proofs.Common.{◌≡◌, true, arith, rules}
-use Rattle.std.proofs.lemmas.Grind.{common_steps}
-use Rattle.wm_spaces.proofs.SendLemmas.{is_move, ready_by, send_cause}
+use Rattle.std.proofs.Common.{◌≡◌, true, rules}
+use Rattle.wm_spaces.proofs.SendLemmas.{far_by, is_move, ready_by, send_cause}
 use Rattle.wm_tree.specs.Move.{apart}
 use Rattle.wm_spaces.proofs.sending.send.Goals as goal
+
+pub move_to-requires : goal.move_to-requires
+move_to-requires c =
+    let far : apart c.args.t.now c.args.con c.args.w ≡ true = far_by c.args.con c.args.w c.spot_of-space.result.0 c.workspace_of.result c.args.t.now c.spot_of-space.ensures.0 c.workspace_of.ensures c.if-eq.ensures in
+    let r = ready_by c.args.con c.args.w c.sent_place-at.result c.args.t.now c.sent_place-at.ensures c.requires.sound c.requires.con c.requires.space far in
+    λ h k. r.outside
 
 pub returns-in-Ok : goal.returns-in-Ok
 returns-in-Ok c = record {
@@ -11,7 +16,7 @@ returns-in-Ok c = record {
   err = search rules;
   cause = search rules;
   sound =
-      let far : apart c.args.t.now c.args.con c.args.w ≡ true = first_of (search rules, grind (arith, common_steps)) in
+      let far : apart c.args.t.now c.args.con c.args.w ≡ true = far_by c.args.con c.args.w c.spot_of-space.result.0 c.workspace_of.result c.args.t.now c.spot_of-space.ensures.0 c.workspace_of.ensures c.if-eq.ensures in
       let r = ready_by c.args.con c.args.w c.sent_place-at.result c.args.t.now c.sent_place-at.ensures c.requires.sound c.requires.con c.requires.space far in
       c.move_to.ensures.sound (is_move c.args.con c.sent_place-at.result c.args.t.now c.requires.con r) c.requires.sound;
 }
@@ -22,7 +27,7 @@ returns-in-Err c = record {
   fine = search rules;
   err = search rules;
   cause =
-      let far : apart c.args.t.now c.args.con c.args.w ≡ true = first_of (search rules, grind (arith, common_steps)) in
+      let far : apart c.args.t.now c.args.con c.args.w ≡ true = far_by c.args.con c.args.w c.spot_of-space.result.0 c.workspace_of.result c.args.t.now c.spot_of-space.ensures.0 c.workspace_of.ensures c.if-eq.ensures in
       let r = ready_by c.args.con c.args.w c.sent_place-at.result c.args.t.now c.sent_place-at.ensures c.requires.sound c.requires.con c.requires.space far in
       rw c.refused.ensures (send_cause c.args.con c.args.w c.sent_place-at.result c.args.t.now c.in-Err.error c.sent_place-at.ensures far c.requires.con r c.in-Err.ensures.cause);
   sound = search rules;

@@ -3,7 +3,7 @@ use Rattle.wm_apply.proofs.GroupLemmas.{keys_first, done_step, few_step, group_s
 use Rattle.wm_apply.proofs.batches.Running.groups.Goals as goal
 
 pub targets-requires : goal.targets-requires
-targets-requires c = record { built = c.requires.built; keys = keys_first c.args.p.now.verdict c.group-item.result _ c.loop-rest.rest.now c.args.groups.now c.loop-rest.number c.requires.groups c.in-len1-up.len_at_least c.group-item.is c.loop-rest.invariant.numbered }
+targets-requires c = record { built = c.requires.built; keys = keys_first c.args.p.now.verdict c.group-item.result _ c.loop-rest.rest.now c.args.groups.now c.loop-rest.number c.requires.groups c.in-len1-up.len_at_least c.group-item.is c.loop-rest.invariant.numbered; sound = c.loop-rest.invariant.sound }
 
 pub loop-rest-preserved : goal.loop-rest-preserved
 loop-rest-preserved c =

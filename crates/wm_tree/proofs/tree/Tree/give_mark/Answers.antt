@@ -14,6 +14,6 @@ returns-clause-ok c =
 pub returns-clause-sound : goal.returns-clause-sound
 returns-clause-sound c =
     let there = c.in_ok-marks.ensures.there in
-    let off : IsSound (freed c.args.con c.args.n.now c.args.self.now) = subst IsSound c.take_mark.ensures.tree c.take_mark.ensures.sound in
+    let off : IsSound (freed c.args.con c.args.n.now c.args.self.now) = subst IsSound c.take_mark.ensures.tree (c.take_mark.ensures.sound c.requires.sound) in
     as_is (with_marks c.args.con (all_or_none c.args.add (marks_in c.args.con c.args.self.now.nodes) ++ c.args.n.now ∷ []) (freed c.args.con c.args.n.now c.args.self.now)) _ (first_of (search rules, grind (arith, common_steps)))
     (given_sound c.args.con c.args.n.now c.args.add c.args.self.now c.requires.kind there.0 c.requires.other there.1 off)

@@ -11,4 +11,4 @@ returns-in-Some-clause-sound c =
 
 pub returns-in-Some-clause-kept : goal.returns-in-Some-clause-kept
 returns-in-Some-clause-kept c =
-    λ outside i. ones_moved_by c.args.con c.args.at c.args.self.now _ c.in_ok-share.ensures.ok.1 outside (first_of (search rules, grind (arith, common_steps))) i
+    λ i. let k = c.in_ok-share.ensures.ok in ones_moved_by c.args.con c.args.at c.args.self.now _ k.1 (c.requires k.0 k.1) (first_of (search rules, grind (arith, common_steps))) i
