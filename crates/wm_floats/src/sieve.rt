@@ -64,7 +64,9 @@ fn first_taken(t: &Tree, wanted: Wanted, sieve: &Sieve, ids: Recent<'_>) -> Opti
     None
 }
 
-/// The most recent container of this kind in the workspace.
+/// The most recent container of this kind in the workspace, by a sieve. It stands by itself, since a function makes room
+/// for a sieve as it begins.
+#[inline(never)]
 pub(crate) fn latest_sieved(t: &Tree, kind: Kind, w: ConId) -> Option<ConId>
     ensures { result ≡ latest kind (Some w) t.now }
 {

@@ -27,8 +27,9 @@ impl Row {
     pub(crate) fn push(&mut self, mut cell: Box<Cell>)
         ensures { self.new ≡ con cell.value.part cell.value.kids cell.value.floats self.old }
     {
-        cell.rest = mem::replace(self, Row::new());
-        *self = Row { first: Some(cell) };
+        let behind = mem::replace(&mut cell.rest.first, self.first.take());
+        let_go(behind);
+        let_go(mem::replace(&mut self.first, Some(cell)));
     }
 
     /// Takes the first node, where there is one, to the front of another row.
@@ -71,4 +72,19 @@ impl Row {
         *self = row;
         self.hang(done);
     }
+}
+
+/// Drops a cell where there is one. What is inlined looks whether there is, and no more.
+#[inline(always)]
+fn let_go(cell: Option<Box<Cell>>) {
+    if let Some(cell) = cell {
+        let_one_go(cell);
+    }
+}
+
+/// Drops a cell.
+#[cold]
+#[inline(never)]
+fn let_one_go(cell: Box<Cell>) {
+    drop(cell);
 }

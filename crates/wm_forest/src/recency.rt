@@ -1,10 +1,14 @@
 //! The list of ids by recency, the most recent first.
-ghost use Rattle.std.specs.Prelude.{◌≡◌, ◌<◌, length, IfSome};
+ghost use Rattle.std.specs.Prelude.{◌≡◌, ◌<◌, length, true, IfSome};
+ghost use Rattle.wm_base.specs.declared.ids.ConId.{ConId};
+ghost use Rattle.wm_forest.specs.Look.{has};
 ghost use Rattle.wm_forest.specs.Row.{alone};
 ghost use Rattle.wm_forest.specs.Recency.{first_held, outside, place_from, raised, without_id};
+ghost use Rattle.wm_forest.specs.Sieve.{is_taken};
 
+use crate::holds::Holds;
 use crate::row::{Cell, Row};
-use crate::sieved::{Holds, Sieved};
+use crate::sieve::Sieve;
 use wm_base::ConId;
 
 /// The place of the id in the list, from 0. `None` exactly where it is not there.
@@ -54,6 +58,9 @@ pub fn remove(ids: &mut Vec<ConId>, gone: ConId)
 /// How many ids are asked for one by one before a sieve is made.
 pub const SOON: u32 = 8;
 
+/// For how many ids, or fewer, no sieve is made.
+const FEW: usize = 24;
+
 /// The first of the ids that is in the row, at any depth. An empty row is not looked for.
 #[tactic(auto, using(crate::proofs::ForestLemmas::first_held_end))]
 pub fn first_held(ids: &[ConId], row: &Row) -> Option<ConId>
@@ -73,32 +80,43 @@ pub fn first_below(ids: &[ConId], cell: &Cell) -> Option<ConId>
     first_of(ids, cell)
 }
 
-/// The first of the ids that is held. The first few are asked for one by one.
+/// The first of the ids that is held. The first few are asked for one by one, and so are the last.
 fn first_of<H: Holds>(ids: &[ConId], holder: &H) -> Option<ConId>
     ensures { result ≡ first_held (H.nodes holder.now) ids.now }
 {
     let mut left = SOON;
     let mut rest = ids;
     while let [first, after @ ..] = rest {
-        if left == 0 {
-            return first_sieved(rest, &Sieved::over(holder));
+        if left == 0 && rest.len() > FEW {
+            return first_sieved(rest, holder);
         }
         if holder.has_node(*first) {
             return Some(*first);
         }
-        left -= 1;
+        left = left.saturating_sub(1);
         rest = after;
     }
     None
 }
 
-/// The first of the ids that is held, by a sieve.
-fn first_sieved<H: Holds>(ids: &[ConId], sieved: &Sieved<'_, H>) -> Option<ConId>
-    ensures { result ≡ first_held (H.nodes sieved.now.holder.now) ids.now }
+/// The first of the ids that is held, by a sieve. It stands by itself, since a function makes room for a sieve as it begins.
+#[inline(never)]
+fn first_sieved<H: Holds>(ids: &[ConId], holder: &H) -> Option<ConId>
+    ensures { result ≡ first_held (H.nodes holder.now) ids.now }
+{
+    let mut sieve = Sieve::new();
+    holder.put_into(&mut sieve);
+    first_taken(ids, holder, &sieve)
+}
+
+/// The first of the ids that is held, where the places of all that are held are taken.
+fn first_taken<H: Holds>(ids: &[ConId], holder: &H, sieve: &Sieve) -> Option<ConId>
+    requires { (c : ConId) → has c (H.nodes holder.now) ≡ true → is_taken c sieve.now ≡ true }
+    ensures { result ≡ first_held (H.nodes holder.now) ids.now }
 {
     let mut rest = ids;
     while let [first, after @ ..] = rest {
-        if sieved.has(*first) {
+        if sieve.has_taken(*first) && holder.has_node(*first) {
             return Some(*first);
         }
         rest = after;

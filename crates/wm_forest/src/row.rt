@@ -8,6 +8,7 @@ ghost use Rattle.wm_forest.specs.Row.{alone, row_of};
 use crate::part::Part;
 use std::alloc::{AllocError, Global};
 use std::marker::Model;
+use std::mem;
 use wm_base::ConId;
 
 /// A row of nodes, from its first cell on.
@@ -47,19 +48,13 @@ impl Model for Row {
 
 /// Goes along the row, and down at each of its nodes, so that a long row takes no more of the stack than a short one.
 impl Drop for Row {
+    #[cycle(drop)]
     fn drop(mut self) {
         loop {
             let Row { first } = self;
-            let Some(cell) = first else { return };
-            let Cell {
-                part: _,
-                kids,
-                floats,
-                rest,
-            } = Box::into_inner(cell);
-            drop(kids);
-            drop(floats);
-            self = rest;
+            let Some(mut cell) = first else { return };
+            self = mem::replace(&mut cell.rest, Row::new());
+            drop(cell);
         }
     }
 }

@@ -34,8 +34,19 @@ impl Tree {
     }
 
     /// Takes the mark off all nodes but the one to be kept.
-    #[tactic(auto, using(crate::proofs::EachLemmas::mapped_off))]
+    #[tactic(auto, using(crate::proofs::BearerLemmas::off_none))]
     pub fn take_mark(&mut self, keep: Option<ConId>, n: &Text)
+        ensures tree { self.new ≡ record self.old { nodes = taken_off keep n.now self.old.nodes } }
+        ensures sound { IsSound self.old → IsSound self.new }
+    {
+        if self.bearer(keep, n).is_some() {
+            self.take_borne(keep, n);
+        }
+    }
+
+    /// Takes the mark, which others have, off all nodes but the one to be kept.
+    #[tactic(auto, using(crate::proofs::EachLemmas::mapped_off))]
+    fn take_borne(&mut self, keep: Option<ConId>, n: &Text)
         ensures tree { self.new ≡ record self.old { nodes = taken_off keep n.now self.old.nodes } }
         ensures sound { IsSound self.old → IsSound self.new }
     {

@@ -79,7 +79,6 @@ impl Tree {
     }
 
     /// Removes splits without children, and then workspaces without containers that are not shown.
-    #[tactic(auto, using(wm_forest::proofs::ForestLemmas::append_end))]
     pub fn settle(&mut self)
         ensures tree { self.new ≡ settled self.old }
         ensures sound { IsSound self.old → IsSound self.new }
@@ -92,6 +91,24 @@ impl Tree {
         // What is taken out and what is left make the whole, and the order of recency keeps what is left.
         ensures taken { (i : ConId) → tally i self.new.nodes + tally i (vacated None self.old.nodes) ≡ tally i self.old.nodes }
         ensures left { IsSound self.old → self.new.recency ≡ inside self.new.nodes self.old.recency }
+    {
+        self.take_vacant();
+    }
+
+    /// Removes what is vacant, where anything is.
+    #[tactic(auto, using(crate::proofs::SettledLaws::settled_same))]
+    fn take_vacant(&mut self)
+        ensures { self.new ≡ settled self.old }
+    {
+        if !self.nodes.is_settled(None) {
+            self.take_all_vacant();
+        }
+    }
+
+    /// Removes what is vacant.
+    #[tactic(auto, using(wm_forest::proofs::ForestLemmas::append_end))]
+    fn take_all_vacant(&mut self)
+        ensures { self.new ≡ settled self.old }
     {
         let mut taken = Row::new();
         self.nodes.settle(None, &mut taken);

@@ -3,7 +3,7 @@ use Rattle.std.proofs.lemmas.Grind.{common_steps}
 use Rattle.wm_tree.specs.Marks.{taken_off}
 use Rattle.wm_tree.proofs.EachLemmas.{mapped_off, sound-off}
 use Rattle.wm_tree.proofs.SoundLemmas.{as_is}
-use Rattle.wm_tree.proofs.tree.Tree.take_mark.Goals as goal
+use Rattle.wm_tree.proofs.tree.Tree.take_borne.Goals as goal
 
 pub returns-clause-sound : goal.returns-clause-sound
 returns-clause-sound c =
