@@ -1,7 +1,9 @@
 -- How many events are told at most.
 use Rattle.std.proofs.Common.{◌≡◌, ◌≤◌, ℕ, suc, ◌+◌, ◌*◌, Bool, true, false, cond, not, List, [], ◌∷◌, Option, Some, None, option_map, length, length-append, arith}
 use Rattle.std.specs.List.{flat_map}
+use Rattle.std.specs.BTreeMap.{insert_entry}
 use Rattle.std.specs.Map.{values_of}
+use Rattle.std.specs.Ordering.{nat_cmp}
 use Rattle.wm_arrange.specs.declared.parts.Placed.{Placed}
 use Rattle.wm_base.specs.declared.ids.ConId.{ConId}
 use Rattle.wm_changes.specs.declared.standing.Standing.{Standing}
@@ -79,30 +81,30 @@ first_few : (f : Forest) → space_count (first_kids f) ≤ space_count f
 first_few end = omega arith
 first_few (con part kids floats rest) = omega arith
 
-put_few : (ws : List WindowFact) → length (values_of (put_windows ws [])) ≤ length ws
-put_few [] = omega arith
-put_few (w ∷ ws) =
-    let rest : length (values_of (put_windows ws [])) ≤ length ws = put_few ws in
-    let one : length (values_of (put_windows (w ∷ ws) [])) ≤ suc (length (values_of (put_windows ws []))) = length_insert w.part.id.0 w (put_windows ws []) in
+put_few : (ws : List WindowFact) (done : List (ℕ × WindowFact)) → length (values_of (put_windows ws done)) ≤ length ws + length (values_of done)
+put_few [] done = omega arith
+put_few (w ∷ ws) done =
+    let rest : length (values_of (put_windows (w ∷ ws) done)) ≤ length ws + length (values_of (insert_entry nat_cmp done w.part.id.0 w)) = put_few ws (insert_entry nat_cmp done w.part.id.0 w) in
+    let one : length (values_of (insert_entry nat_cmp done w.part.id.0 w)) ≤ suc (length (values_of done)) = length_insert w.part.id.0 w done in
     omega (arith, rest, one)
 
-put_few_spaces : (ss : List SpaceFact) → length (values_of (put_spaces ss [])) ≤ length ss
-put_few_spaces [] = omega arith
-put_few_spaces (s ∷ ss) =
-    let rest : length (values_of (put_spaces ss [])) ≤ length ss = put_few_spaces ss in
-    let one : length (values_of (put_spaces (s ∷ ss) [])) ≤ suc (length (values_of (put_spaces ss []))) = length_insert s.part.id.0 s (put_spaces ss []) in
+put_few_spaces : (ss : List SpaceFact) (done : List (ℕ × SpaceFact)) → length (values_of (put_spaces ss done)) ≤ length ss + length (values_of done)
+put_few_spaces [] done = omega arith
+put_few_spaces (s ∷ ss) done =
+    let rest : length (values_of (put_spaces (s ∷ ss) done)) ≤ length ss + length (values_of (insert_entry nat_cmp done s.part.id.0 s)) = put_few_spaces ss (insert_entry nat_cmp done s.part.id.0 s) in
+    let one : length (values_of (insert_entry nat_cmp done s.part.id.0 s)) ≤ suc (length (values_of done)) = length_insert s.part.id.0 s done in
     omega (arith, rest, one)
 
 windows_few : (t : TreeValue) → IsSound t → length (values_of (windows t)) ≤ 4096
 windows_few t sound =
-    let put : length (values_of (windows t)) ≤ length (windows_in top t.nodes) = put_few (windows_in top t.nodes) in
+    let put : length (values_of (windows t)) ≤ length (windows_in top t.nodes) + 0 = put_few (windows_in top t.nodes) [] in
     let all : length (windows_in top t.nodes) ≤ con_count t.nodes = few_windows top t.nodes in
     let few : con_count t.nodes ≤ 4096 = sound.few in
     omega (arith, put, all, few)
 
 spaces_few : (t : TreeValue) → IsSound t → length (values_of (spaces t)) ≤ 256
 spaces_few t sound =
-    let put : length (values_of (spaces t)) ≤ length (spaces_in (first_kids t.nodes)) = put_few_spaces (spaces_in (first_kids t.nodes)) in
+    let put : length (values_of (spaces t)) ≤ length (spaces_in (first_kids t.nodes)) + 0 = put_few_spaces (spaces_in (first_kids t.nodes)) [] in
     let all : length (spaces_in (first_kids t.nodes)) ≤ space_count (first_kids t.nodes) = few_spaces_in (first_kids t.nodes) in
     let first : space_count (first_kids t.nodes) ≤ space_count t.nodes = first_few t.nodes in
     let few : space_count t.nodes ≤ 256 = sound.few_spaces in

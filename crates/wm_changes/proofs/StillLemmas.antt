@@ -2,7 +2,7 @@
 use Rattle.std.proofs.Common.{◌≡◌, ℕ, ◌==◌, Bool, true, false, not, ◌&&◌, ◌||◌, List, [], ◌∷◌, Option, Some, None, is_some, refl, ap, sym, ◌∙◌}
 use Rattle.std.proofs.lemmas.Bool.Decides.{Decides-eqb, Decides-int_eq}
 use Rattle.std.proofs.lemmas.Slice.Eq.{bytes_eq-Decides}
-use Rattle.std.specs.BTreeMap.{is_at}
+use Rattle.std.specs.BTreeMap.{insert_entry, is_at}
 use Rattle.std.specs.Cmp.Lexicographic.{pointwise}
 use Rattle.std.specs.List.{flat_map}
 use Rattle.std.specs.List.Sorted.{IsStrictlySortedBy}
@@ -109,14 +109,20 @@ closed_still t a (e ∷ es) found keyed =
     let here : value_at (windows t) e.1.part.id ≡ Some e.1 = ap (λ n. lookup (is_at (nat_cmp n)) (windows t)) (sym keyed.0) ∙ found.0 in
     rw (gone_not (windows t) e.1.part.id e.1 _ Close here) (closed_still t a es found.1 keyed.1)
 
+sorted_put : (ws : List WindowFact) (done : List (ℕ × WindowFact)) → IsStrictlySortedBy nat_cmp (keys_of done) → IsStrictlySortedBy nat_cmp (keys_of (put_windows ws done))
+sorted_put [] done h = h
+sorted_put (w ∷ ws) done h = sorted_put ws (insert_entry nat_cmp done w.part.id.0 w) (sorted_insert w.part.id.0 w done h)
+
 sorted_windows : (ws : List WindowFact) → IsStrictlySortedBy nat_cmp (keys_of (put_windows ws []))
 unfolding IsStrictlySortedBy
-sorted_windows [] = tt
-sorted_windows (w ∷ ws) = sorted_insert w.part.id.0 w (put_windows ws []) (sorted_windows ws)
+sorted_windows ws = sorted_put ws [] tt
+
+keyed_put : (ws : List WindowFact) (done : List (ℕ × WindowFact)) → Keyed (λ w. w.part.id.0) done → Keyed (λ w. w.part.id.0) (put_windows ws done)
+keyed_put [] done h = h
+keyed_put (w ∷ ws) done h = keyed_put ws (insert_entry nat_cmp done w.part.id.0 w) (keyed_insert (λ w. w.part.id.0) w done h)
 
 keyed_windows : (ws : List WindowFact) → Keyed (λ w. w.part.id.0) (put_windows ws [])
-keyed_windows [] = tt
-keyed_windows (w ∷ ws) = keyed_insert (λ w. w.part.id.0) w (put_windows ws []) (keyed_windows ws)
+keyed_windows ws = keyed_put ws [] tt
 
 -- ---- workspaces
 
@@ -135,14 +141,20 @@ emptied_still t a (e ∷ es) found keyed =
     let here : value_at (spaces t) e.1.part.id ≡ Some e.1 = ap (λ n. lookup (is_at (nat_cmp n)) (spaces t)) (sym keyed.0) ∙ found.0 in
     rw (gone_not (spaces t) e.1.part.id e.1 _ Empty here) (emptied_still t a es found.1 keyed.1)
 
+sorted_put_spaces : (ss : List SpaceFact) (done : List (ℕ × SpaceFact)) → IsStrictlySortedBy nat_cmp (keys_of done) → IsStrictlySortedBy nat_cmp (keys_of (put_spaces ss done))
+sorted_put_spaces [] done h = h
+sorted_put_spaces (s ∷ ss) done h = sorted_put_spaces ss (insert_entry nat_cmp done s.part.id.0 s) (sorted_insert s.part.id.0 s done h)
+
 sorted_spaces : (ss : List SpaceFact) → IsStrictlySortedBy nat_cmp (keys_of (put_spaces ss []))
 unfolding IsStrictlySortedBy
-sorted_spaces [] = tt
-sorted_spaces (s ∷ ss) = sorted_insert s.part.id.0 s (put_spaces ss []) (sorted_spaces ss)
+sorted_spaces ss = sorted_put_spaces ss [] tt
+
+keyed_put_spaces : (ss : List SpaceFact) (done : List (ℕ × SpaceFact)) → Keyed (λ s. s.part.id.0) done → Keyed (λ s. s.part.id.0) (put_spaces ss done)
+keyed_put_spaces [] done h = h
+keyed_put_spaces (s ∷ ss) done h = keyed_put_spaces ss (insert_entry nat_cmp done s.part.id.0 s) (keyed_insert (λ s. s.part.id.0) s done h)
 
 keyed_spaces : (ss : List SpaceFact) → Keyed (λ s. s.part.id.0) (put_spaces ss [])
-keyed_spaces [] = tt
-keyed_spaces (s ∷ ss) = keyed_insert (λ s. s.part.id.0) s (put_spaces ss []) (keyed_spaces ss)
+keyed_spaces ss = keyed_put_spaces ss [] tt
 
 -- ---- all
 

@@ -95,14 +95,14 @@ spaces_in (con part kids floats rest) = spaces_of part.id (output_kind part.kind
 
 -- ---- by rising id
 
--- those of a list put in under their ids, the last first
+-- those of a list put in under their ids, one after another
 abbrev pub put_windows : List WindowFact → List (ℕ × WindowFact) → List (ℕ × WindowFact)
 put_windows [] done = done
-put_windows (w ∷ ws) done = insert_entry nat_cmp (put_windows ws done) w.part.id.0 w
+put_windows (w ∷ ws) done = put_windows ws (insert_entry nat_cmp done w.part.id.0 w)
 
 abbrev pub put_spaces : List SpaceFact → List (ℕ × SpaceFact) → List (ℕ × SpaceFact)
 put_spaces [] done = done
-put_spaces (s ∷ ss) done = insert_entry nat_cmp (put_spaces ss done) s.part.id.0 s
+put_spaces (s ∷ ss) done = put_spaces ss (insert_entry nat_cmp done s.part.id.0 s)
 
 -- the windows of a tree, those of the scratchpad among them, each under its id
 abbrev pub windows : TreeValue → List (ℕ × WindowFact)

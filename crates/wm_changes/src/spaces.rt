@@ -35,76 +35,65 @@ impl<'a> Model for Site<'a> {
 pub fn spaces(alloc: Global, tree: &Tree) -> Result<BTreeMap<u32, Site<'_>>, NoMemory>
     ensures { IfOk result (λ map. map.entries ≡ spaces tree.now) }
 {
-    let mut sites = Vec::new(alloc);
-    gather_outputs(&mut sites, tree.nodes().kids())?;
     let mut map = BTreeMap::new(alloc);
-    put_all(&mut map, sites)?;
+    gather_outputs(&mut map, tree.nodes().kids())?;
     Ok(map)
 }
 
-/// Puts workspaces in under their ids, the last first.
-fn put_all<'a>(map: &mut BTreeMap<u32, Site<'a>>, sites: Vec<Site<'a>>) -> Result<(), NoMemory>
-    ensures { OnOk result (map.new.entries ≡ put_spaces sites.entry.items map.old.entries) }
-{
-    let mut left = sites;
-    while let Some(site) = left.pop() {
-        map.insert(site.part.id.0, site)?;
-    }
-    Ok(())
-}
-
-/// Gathers the workspaces on a row of outputs.
-fn gather_outputs<'a>(sites: &mut Vec<Site<'a>>, row: Cursor<'a>) -> Result<(), NoMemory>
-    ensures { OnOk result (sites.new.items ≡ sites.old.items ++ spaces_in row.entry) }
+/// Puts in the workspaces on a row of outputs, in the order in which they stand.
+#[tactic(auto, using(crate::proofs::FactLemmas::spaces_both))]
+fn gather_outputs<'a>(map: &mut BTreeMap<u32, Site<'a>>, row: Cursor<'a>) -> Result<(), NoMemory>
+    ensures { OnOk result (map.new.entries ≡ put_spaces (spaces_in row.entry) map.old.entries) }
 {
     let mut left = row;
     while let Some(part) = left.part() {
-        gather_output(sites, part, left.kids())?;
+        gather_output(map, part, left.kids())?;
         left = left.rest();
     }
     Ok(())
 }
 
-/// Gathers the workspaces of a node, where it is an output.
+/// Puts in the workspaces of a node, where it is an output.
 fn gather_output<'a>(
-    sites: &mut Vec<Site<'a>>,
+    map: &mut BTreeMap<u32, Site<'a>>,
     part: &'a Part,
     row: Cursor<'a>,
 ) -> Result<(), NoMemory>
-    ensures { OnOk result (sites.new.items ≡ sites.old.items ++ spaces_of part.now.id (output_kind part.now.kind) row.entry) }
+    ensures { OnOk result (map.new.entries ≡ put_spaces (spaces_of part.now.id (output_kind part.now.kind) row.entry) map.old.entries) }
 {
     match &part.kind {
-        NodeKind::Output(output) => gather(sites, part.id, output, row),
+        NodeKind::Output(output) => gather(map, part.id, output, row),
         NodeKind::Root { .. } | NodeKind::Space(_) | NodeKind::Con(_) => Ok(()),
     }
 }
 
-/// Gathers the workspaces of an output.
+/// Puts in the workspaces of an output.
+#[tactic(auto, using(crate::proofs::FactLemmas::spaces_both))]
 fn gather<'a>(
-    sites: &mut Vec<Site<'a>>,
+    map: &mut BTreeMap<u32, Site<'a>>,
     id: ConId,
     output: &'a OutputPart,
     row: Cursor<'a>,
 ) -> Result<(), NoMemory>
-    ensures { OnOk result (sites.new.items ≡ sites.old.items ++ spaces_on id output.now row.entry) }
+    ensures { OnOk result (map.new.entries ≡ put_spaces (spaces_on id output.now row.entry) map.old.entries) }
 {
     let mut left = row;
     while let Some(part) = left.part() {
-        push(sites, id, output, part, &left)?;
+        put(map, id, output, part, &left)?;
         left = left.rest();
     }
     Ok(())
 }
 
-/// Gathers the first node of a row, where it is a workspace.
-fn push<'a>(
-    sites: &mut Vec<Site<'a>>,
+/// Puts the first node of a row in, where it is a workspace.
+fn put<'a>(
+    map: &mut BTreeMap<u32, Site<'a>>,
     id: ConId,
     output: &'a OutputPart,
     part: &'a Part,
     row: &Cursor<'a>,
 ) -> Result<(), NoMemory>
-    ensures { OnOk result (sites.new.items ≡ sites.old.items ++ space_here id output.now part.now (space_kind part.now.kind) (first_kids row.now) (first_floats row.now)) }
+    ensures { OnOk result (map.new.entries ≡ put_spaces (space_here id output.now part.now (space_kind part.now.kind) (first_kids row.now) (first_floats row.now)) map.old.entries) }
 {
     let NodeKind::Space(state) = &part.kind else {
         return Ok(());
@@ -117,6 +106,6 @@ fn push<'a>(
         kids: row.kids(),
         floats: row.floats(),
     };
-    sites.push(site)?;
+    map.insert(part.id.0, site)?;
     Ok(())
 }

@@ -37,47 +37,36 @@ pub fn windows(alloc: Global, tree: &Tree) -> Result<BTreeMap<u32, Found<'_>>, N
     requires { IsSound tree.now }
     ensures { IfOk result (λ map. map.entries ≡ windows tree.now) }
 {
-    let mut found = Vec::new(alloc);
-    gather(&mut found, TOP, tree.nodes())?;
     let mut map = BTreeMap::new(alloc);
-    put_all(&mut map, found)?;
+    gather(&mut map, TOP, tree.nodes())?;
     Ok(map)
 }
 
-/// Puts windows in under their ids, the last first.
-fn put_all<'a>(map: &mut BTreeMap<u32, Found<'a>>, found: Vec<Found<'a>>) -> Result<(), NoMemory>
-    ensures { OnOk result (map.new.entries ≡ put_windows found.entry.items map.old.entries) }
-{
-    let mut left = found;
-    while let Some(window) = left.pop() {
-        map.insert(window.part.id.0, window)?;
-    }
-    Ok(())
-}
-
-/// Gathers the windows of a row and of what is below it.
+/// Puts in the windows of a row and of what is below it, in the order in which they stand.
 #[cycle(gather)]
+#[tactic(auto, using(crate::proofs::FactLemmas::windows_row))]
 fn gather<'a>(
-    found: &mut Vec<Found<'a>>,
+    map: &mut BTreeMap<u32, Found<'a>>,
     standing: Standing,
     row: Cursor<'a>,
 ) -> Result<(), NoMemory>
     requires { IsNarrow row }
-    ensures { OnOk result (found.new.items ≡ found.old.items ++ windows_in standing row.entry) }
+    ensures { OnOk result (map.new.entries ≡ put_windows (windows_in standing row.entry) map.old.entries) }
 {
     let mut left = row;
     while let Some(part) = left.part() {
-        push(found, standing, part)?;
-        gather_below(found, standing, part, left.kids(), left.floats())?;
+        put(map, standing, part)?;
+        gather_below(map, standing, part, left.kids(), left.floats())?;
         left = left.rest();
     }
     Ok(())
 }
 
-/// Gathers the windows below a node.
+/// Puts in the windows below a node.
 #[cycle(gather)]
+#[tactic(auto, using(crate::proofs::FactLemmas::windows_both))]
 fn gather_below<'a>(
-    found: &mut Vec<Found<'a>>,
+    map: &mut BTreeMap<u32, Found<'a>>,
     standing: Standing,
     part: &Part,
     kids: Cursor<'a>,
@@ -86,25 +75,32 @@ fn gather_below<'a>(
     requires few { row_length kids ≤ 256 }
     requires kids { IsNarrow kids }
     requires floats { IsNarrow floats }
-    ensures { OnOk result (found.new.items ≡ found.old.items ++ windows_in (kid_standing standing part.now kids.entry) kids.entry ++ windows_in (float_standing standing part.now) floats.entry) }
+    ensures { OnOk result (map.new.entries ≡ put_windows (windows_in (kid_standing standing part.now kids.entry) kids.entry ++ windows_in (float_standing standing part.now) floats.entry) map.old.entries) }
 {
-    gather(found, kid_standing(standing, part, &kids), kids)?;
-    gather(found, float_standing(standing, part), floats)
+    gather(map, kid_standing(standing, part, &kids), kids)?;
+    gather(map, float_standing(standing, part), floats)
 }
 
-/// Gathers a node, where it is a window.
-fn push<'a>(found: &mut Vec<Found<'a>>, standing: Standing, part: &'a Part) -> Result<(), NoMemory>
-    ensures { OnOk result (found.new.items ≡ found.old.items ++ window_here standing part.now (con_kind part.now.kind)) }
+/// Puts a node in, where it is a window.
+fn put<'a>(
+    map: &mut BTreeMap<u32, Found<'a>>,
+    standing: Standing,
+    part: &'a Part,
+) -> Result<(), NoMemory>
+    ensures { OnOk result (map.new.entries ≡ put_windows (window_here standing part.now (con_kind part.now.kind)) map.old.entries) }
 {
     let NodeKind::Con(state) = &part.kind else {
         return Ok(());
     };
     if let ConKind::Window { .. } = state.kind {
-        found.push(Found {
-            part,
-            state,
-            standing,
-        })?;
+        map.insert(
+            part.id.0,
+            Found {
+                part,
+                state,
+                standing,
+            },
+        )?;
     }
     Ok(())
 }

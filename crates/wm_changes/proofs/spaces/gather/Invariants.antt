@@ -1,11 +1,11 @@
-use Rattle.std.proofs.Common.{◌≡◌, ◌++◌}
-use Rattle.wm_changes.specs.Facts.{spaces_on}
+use Rattle.std.proofs.Common.{◌≡◌}
+use Rattle.wm_changes.specs.Facts.{put_spaces, spaces_on}
 use Rattle.wm_forest.specs.Forest.{node_count}
 use Rattle.wm_changes.proofs.spaces.gather.Given as goal
 
--- the workspaces so far and those of the rest are those of all
+-- those of the rest, put in behind those so far, give all
 abbrev pub invariant-loop-part : goal.invariant-loop-part
-invariant-loop-part l = l.sites.items ++ spaces_on l.id l.output l.left ≡ l.initial.sites.items ++ spaces_on l.id l.output l.fn.row
+invariant-loop-part l = put_spaces (spaces_on l.id l.output l.left) l.map.entries ≡ put_spaces (spaces_on l.id l.output l.fn.row) l.initial.map.entries
 
 abbrev pub decreases-loop-part : goal.decreases-loop-part
 decreases-loop-part l = node_count l.left
