@@ -1,5 +1,5 @@
 -- Printed answers read back.
-use Rattle.std.proofs.Common.{◌≡◌, refl, ◌≤◌, ◌<◌, List, [], ◌∷◌, ◌++◌, Some, codes, arith}
+use Rattle.std.proofs.Common.{◌≡◌, refl, [], ◌∷◌, ◌++◌, Some, codes, arith}
 use Rattle.std.specs.Fmt.{decimal}
 use Rattle.wm_base.specs.declared.errors.Limit.TheVariants as limits
 use Rattle.wm_history.specs.declared.step.Answer.{Answer}

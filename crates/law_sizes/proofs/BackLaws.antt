@@ -1,8 +1,8 @@
 -- A container that grows and then shrinks by as many hundredths, or the other way round, leaves the tree as it was.
-use Rattle.std.proofs.Common.{◌≡◌, ℕ, ◌≤◌, Bool, true, false, cond, not, ◌&&◌, ◌||◌, List, [], ◌∷◌, Option, None, Some, refl, ap, sym, ◌∙◌, subst, arith}
+use Rattle.std.proofs.Common.{◌≡◌, ℕ, ◌≤◌, Bool, true, false, cond, not, ◌&&◌, ◌||◌, List, [], ◌∷◌, Option, None, Some, refl, ap, sym, ◌∙◌, arith}
 use Rattle.std.proofs.lemmas.Bool.Decides.{nat_tests}
 use Rattle.std.specs.Prelude.{◌==◌, option_and_then}
-use Rattle.law_sizes.proofs.DealLaws.{no_error, row_once}
+use Rattle.law_sizes.proofs.DealLaws.{no_error}
 use Rattle.law_sizes.proofs.EdgeLaws.{found_in}
 use Rattle.law_sizes.proofs.SharelessViews.{AreShared, climb_un, con_un, forest_equal, kids_un, length_un, neighbour_un, only_un, row_un, share_first, tiled_un}
 use Rattle.law_sizes.proofs.SharesKept.{differ, others_kept, set_unshared}
@@ -24,7 +24,7 @@ use Rattle.wm_sizes.proofs.FamilyLemmas.{rung_family}
 use Rattle.wm_sizes.proofs.HandLemmas.{fitting, or_none}
 use Rattle.wm_sizes.proofs.SetLemmas.{family_tiled, set_sound}
 use Rattle.wm_sizes.specs.Climbing.{climb, rung_of, side_axis}
-use Rattle.wm_sizes.specs.Deals.{dealt, fits, fits_all, gained, is_named, is_partner, part, share_after, siblings, turn_after}
+use Rattle.wm_sizes.specs.Deals.{dealt, fits, fits_all, gained, is_named, part, siblings, turn_after}
 use Rattle.wm_sizes.specs.declared.climbing.Climbed.{Climbed}
 use Rattle.wm_sizes.specs.declared.climbing.Rung.{Rung}
 use Rattle.wm_sizes.specs.declared.deals.Deal.{Deal}
@@ -32,7 +32,7 @@ use Rattle.wm_forest.specs.declared.shares.Sibling.{Sibling}
 use Rattle.wm_sizes.specs.declared.tiled.Growth.{Growth}
 use Rattle.wm_sizes.specs.Laws.{SharesAnew, share_among}
 use Rattle.wm_sizes.specs.Resizing.{resize_refusal, resize_tree}
-use Rattle.wm_sizes.specs.Tiled.{HasFamily, cannot, children_of, lacks, length_of, partner_of, partners_of, rung_deal, rung_refusal, rung_tree, shares_set, tiled_refusal, tiled_tree}
+use Rattle.wm_sizes.specs.Tiled.{HasFamily, cannot, children_of, lacks, length_of, partner_of, partners_of, rung_deal, rung_refusal, rung_tree, tiled_refusal, tiled_tree}
 use Rattle.wm_tree.proofs.AttachLemmas.{has_row}
 use Rattle.wm_forest.specs.Counts.{row_length, share_of, share_sum}
 use Rattle.wm_forest.specs.Forest.{Forest, end, con}

@@ -1,12 +1,11 @@
 -- What each child gives or takes in a deal, and that the parts together are the amount.
-use Rattle.std.proofs.Common.{◌≡◌, ℕ, ◌+◌, ◌-◌, ◌≤◌, Bool, true, false, cond, not, ◌&&◌, ◌||◌, List, [], ◌∷◌, Option, None, Some, refl, ap, sym, ◌∙◌, subst, arith}
+use Rattle.std.proofs.Common.{◌≡◌, ℕ, ◌+◌, ◌≤◌, Bool, true, false, cond, not, ◌&&◌, ◌||◌, Option, None, Some, refl, ap, sym, ◌∙◌, subst, arith}
 use Rattle.std.specs.Prelude.{◌==◌}
 use Rattle.law_sizes.specs.Dealing.{AreDealt, AreDealtBy, Changes, ResizeDeals, parts, share_in, turn_of}
 use Rattle.wm_base.specs.declared.errors.ErrorText.TheVariants as texts
 use Rattle.wm_base.specs.declared.errors.Refusal.{Refusal}
 use Rattle.wm_base.specs.declared.errors.Refusal.TheVariants.{NoTarget}
 use Rattle.wm_base.specs.declared.ids.ConId.{ConId}
-use Rattle.wm_language.specs.declared.arguments.Side.{Side}
 use Rattle.wm_shared.proofs.DownLemmas.{Once, not_below, once_kids, once_only, once_rest}
 use Rattle.wm_shared.specs.Subject.{is_hidden, is_space}
 use Rattle.wm_sizes.proofs.AnewLemmas.{anew}
@@ -21,7 +20,7 @@ use Rattle.wm_sizes.specs.declared.climbing.Rung.{Rung}
 use Rattle.wm_sizes.specs.declared.deals.Deal.{Deal}
 use Rattle.wm_forest.specs.declared.shares.Sibling.{Sibling}
 use Rattle.wm_sizes.specs.declared.tiled.Growth.{Growth}
-use Rattle.wm_sizes.specs.Laws.{SharesAnew, share_among}
+use Rattle.wm_sizes.specs.Laws.{share_among}
 use Rattle.wm_sizes.specs.Tiled.{HasFamily, cannot, children_of, lacks, length_of, rung_deal, rung_refusal, rung_tree, tiled_refusal}
 use Rattle.wm_forest.proofs.RecencyLemmas.{same_is, same_self}
 use Rattle.wm_forest.specs.Counts.{share_of, share_sum}

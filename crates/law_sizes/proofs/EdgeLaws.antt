@@ -1,19 +1,16 @@
 -- An output that takes the focus is the current one, and nothing else changes.
-use Rattle.std.proofs.Common.{◌≡◌, ℕ, ◌≤◌, Bool, true, false, cond, ◌||◌, List, Option, None, Some, refl, ap, sym, ◌∙◌, arith}
+use Rattle.std.proofs.Common.{◌≡◌, Bool, true, false, cond, ◌||◌, Option, None, Some, refl, ap, sym, ◌∙◌}
 use Rattle.std.specs.Option.{option_map}
 use Rattle.std.specs.Prelude.{option_and_then}
 use Rattle.law_sizes.specs.Edges.{FocusEnters, IsEntered}
 use Rattle.wm_base.specs.declared.geometry.Dir.{Dir}
 use Rattle.wm_base.specs.declared.ids.ConId.{ConId}
-use Rattle.wm_focus.specs.declared.rungs.Aim.TheVariants.{Around, Beside}
-use Rattle.wm_focus.specs.Direction.{first_goal, gone_to}
-use Rattle.wm_focus.specs.Rungs.{nearest}
 use Rattle.wm_shared.proofs.DownLemmas.{Once, in_rest, once_kids, once_rest}
 use Rattle.wm_shared.proofs.KeyLemmas.{listed_by}
 use Rattle.wm_shared.specs.declared.keys.Key.{Key}
 use Rattle.wm_shared.specs.Keys.{least}
 use Rattle.wm_shared.specs.Outputs.{keys_beyond, nearest_to, output_from, output_in, output_of}
-use Rattle.wm_shared.specs.Showing.{output_focused, remembered, shown_on, space_name, with_current}
+use Rattle.wm_shared.specs.Showing.{output_focused, shown_on, space_name, with_current}
 use Rattle.wm_tree.proofs.AttachLemmas.{has_row}
 use Rattle.wm_tree.proofs.FocusLemmas.{outputs_of}
 use Rattle.wm_forest.proofs.OnceLemmas.{only_kids}
@@ -23,10 +20,9 @@ use Rattle.wm_forest.specs.declared.kind.KindEdit.TheVariants as edits
 use Rattle.wm_forest.specs.declared.part.NodeKind.{NodeKind}
 use Rattle.wm_forest.specs.declared.part.NodeKind.TheVariants.{Root, Output, Space, Con}
 use Rattle.wm_forest.specs.declared.part.OutputPart.{OutputPart}
-use Rattle.wm_forest.specs.declared.part.Part.{Part}
 use Rattle.wm_forest.specs.Forest.{Forest, end, con}
-use Rattle.wm_forest.specs.Kinds.{changed, kind_changed}
-use Rattle.wm_forest.specs.Look.{first_floats, first_kids, first_part, has, in_row, kind_by, kind_of, node_in, only, output_kind, same}
+use Rattle.wm_forest.specs.Kinds.{kind_changed}
+use Rattle.wm_forest.specs.Look.{first_floats, first_kids, first_part, in_row, kind_by, kind_of, node_in, only, output_kind, same}
 use Rattle.wm_forest.specs.RootId.{root}
 use Rattle.wm_forest.specs.SoundRow.{IsNode, IsSoundRow, outputs, roots}
 use Rattle.wm_tree.specs.Sound.{IsSound}

@@ -1,9 +1,9 @@
 -- The output that is found beyond an edge is the nearest one.
-use Rattle.std.proofs.Common.{◌≡◌, ℕ, ◌≤◌, Bool, true, false, cond, ◌||◌, Option, None, Some, refl, ap, sym, ◌∙◌, arith}
+use Rattle.std.proofs.Common.{◌≡◌, ◌≤◌, Bool, true, false, cond, ◌||◌, Option, None, Some, refl, ◌∙◌, arith}
 use Rattle.std.proofs.lemmas.Bool.Decides.{nat_tests}
 use Rattle.std.specs.Option.{option_map}
-use Rattle.std.specs.Prelude.{nat_abs, option_and_then}
-use Rattle.law_sizes.specs.Edges.{IsFoundBeyond, IsNearest, OutputNearest, output_at}
+use Rattle.std.specs.Prelude.{nat_abs}
+use Rattle.law_sizes.specs.Edges.{IsFoundBeyond, OutputNearest, output_at}
 use Rattle.wm_base.specs.declared.geometry.Dir.{Dir}
 use Rattle.wm_base.specs.declared.geometry.Rect.{Rect}
 use Rattle.wm_base.specs.declared.ids.ConId.{ConId}

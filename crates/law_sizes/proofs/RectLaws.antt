@@ -1,14 +1,12 @@
 -- Another rectangle of a container changes nothing else.
-use Rattle.std.proofs.Common.{◌≡◌, ℕ, ℤ, Bool, true, false, cond, ◌||◌, Option, None, Some, refl, ap, sym, ◌∙◌}
+use Rattle.std.proofs.Common.{◌≡◌, Bool, true, false, cond, Option, None, Some, refl, ap}
 use Rattle.std.specs.Option.{option_map}
 use Rattle.std.specs.Prelude.{is_some}
 use Rattle.law_sizes.specs.Rects.{GrowthKeeps, IsPlaced, PlaceKeeps, ShiftKeeps, SizeKeeps, rectless, rectless_kind}
-use Rattle.wm_base.specs.declared.geometry.Dir.{Dir}
 use Rattle.wm_base.specs.declared.geometry.Rect.{Rect}
 use Rattle.wm_base.specs.declared.ids.ConId.{ConId}
 use Rattle.wm_floats.specs.Rounds.{shifted_x, shifted_y}
 use Rattle.wm_floats.specs.Windows.{rect_set, restated}
-use Rattle.wm_language.specs.declared.arguments.Side.{Side}
 use Rattle.wm_shared.specs.Rects.{rect_of, state_rect}
 use Rattle.wm_shared.specs.Subject.{is_container}
 use Rattle.wm_sizes.proofs.SetLemmas.{edited_stays}
@@ -20,7 +18,6 @@ use Rattle.wm_forest.specs.declared.part.ConPart.{ConPart}
 use Rattle.wm_forest.specs.declared.part.ConState.{ConState}
 use Rattle.wm_forest.specs.declared.part.NodeKind.{NodeKind}
 use Rattle.wm_forest.specs.declared.part.NodeKind.TheVariants.{Root, Output, Space, Con}
-use Rattle.wm_forest.specs.declared.part.Part.{Part}
 use Rattle.wm_forest.specs.Forest.{Forest, end, con}
 use Rattle.wm_forest.specs.Kinds.{changed, kind_changed}
 use Rattle.wm_forest.specs.Look.{con_kind, first_part, has, kind_by, kind_of, only, same}

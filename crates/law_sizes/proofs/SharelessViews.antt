@@ -1,17 +1,16 @@
 -- What is seen of a forest without its shares, and that shares are all that is missing there.
-use Rattle.std.proofs.Common.{◌≡◌, ℕ, ◌+◌, ◌≤◌, Bool, true, false, cond, ◌||◌, ◌&&◌, Option, None, Some, refl, ap, sym, ◌∙◌, subst}
+use Rattle.std.proofs.Common.{◌≡◌, ℕ, ◌≤◌, Bool, true, false, cond, Option, None, Some, refl, ap, sym, ◌∙◌, subst}
 use Rattle.law_sizes.specs.Shares.{unshared, unshared_kind}
 use Rattle.wm_base.specs.declared.geometry.Axis.{Axis}
 use Rattle.wm_base.specs.declared.geometry.Dir.{Dir}
 use Rattle.wm_base.specs.declared.ids.ConId.{ConId}
 use Rattle.wm_shared.proofs.DownLemmas.{Once, down_floats, down_kids, down_rest, once_floats, once_kids, once_rest}
 use Rattle.wm_shared.proofs.KidLemmas.{tiled_in}
-use Rattle.wm_shared.specs.Neighbours.{after, before, first_id, is_forward, neighbour}
-use Rattle.wm_sizes.specs.Climbing.{climb, has_two, rung_at, runs, up_kids}
+use Rattle.wm_shared.specs.Neighbours.{after, before, first_id, neighbour}
+use Rattle.wm_sizes.specs.Climbing.{climb, has_two, runs, up_kids}
 use Rattle.wm_sizes.specs.declared.climbing.Climbed.{Climbed}
 use Rattle.wm_forest.proofs.ForestLemmas.{only_absent}
 use Rattle.wm_forest.proofs.RecencyLemmas.{same_self}
-use Rattle.wm_forest.specs.Change.{is_id}
 use Rattle.wm_forest.specs.Counts.{row_length, share_of}
 use Rattle.wm_forest.specs.declared.part.ConPart.{ConPart}
 use Rattle.wm_forest.specs.declared.part.NodeKind.{NodeKind}

@@ -1,8 +1,7 @@
 -- Shares that are set change nothing else.
-use Rattle.std.proofs.Common.{◌≡◌, ℕ, Bool, true, false, cond, ◌||◌, List, [], ◌∷◌, Option, None, Some, refl, ap, sym, ◌∙◌}
-use Rattle.law_sizes.specs.Shares.{DifferInShares, ResizeKeeps, shares_anew, unshared, unshared_kind}
+use Rattle.std.proofs.Common.{◌≡◌, ℕ, Bool, true, false, cond, List, [], ◌∷◌, Option, None, Some, refl, ap, sym, ◌∙◌}
+use Rattle.law_sizes.specs.Shares.{DifferInShares, ResizeKeeps, unshared, unshared_kind}
 use Rattle.wm_base.specs.declared.ids.ConId.{ConId}
-use Rattle.wm_language.specs.declared.arguments.Side.{Side}
 use Rattle.wm_sizes.proofs.SetLemmas.{edited_stays}
 use Rattle.wm_sizes.proofs.ShareLaws.{or_false}
 use Rattle.wm_sizes.specs.Climbing.{rung_of, side_axis}
@@ -19,7 +18,6 @@ use Rattle.wm_forest.specs.declared.kind.KindEdit.{KindEdit}
 use Rattle.wm_forest.specs.declared.kind.KindEdit.TheVariants as edits
 use Rattle.wm_forest.specs.declared.part.NodeKind.{NodeKind}
 use Rattle.wm_forest.specs.declared.part.NodeKind.TheVariants.{Root, Output, Space, Con}
-use Rattle.wm_forest.specs.declared.part.Part.{Part}
 use Rattle.wm_forest.specs.Forest.{Forest, end, con}
 use Rattle.wm_forest.specs.Kinds.{changed, kind_changed}
 use Rattle.wm_forest.specs.Look.{first_part, has, in_row, only, same}

@@ -1,6 +1,6 @@
 -- What a line says is within the limits of a plan.
 use Rattle.std.proofs.Common.{◌≡◌, refl, Bool, true, false, ◌&&◌, cond, ℕ, ◌≤◌, List, [], ◌∷◌, length, Option, None, Some, Result, Ok, Err, arith}
-use Rattle.std.specs.Prelude.{IsTrue, codes, nat_le, take_while, drop}
+use Rattle.std.specs.Prelude.{codes, nat_le, take_while, drop}
 use Rattle.std.specs.Char.{is_ascii_digit}
 use Rattle.std.specs.Str.{bytes_eq}
 use Rattle.std.proofs.lemmas.Bool.{leb-true}
@@ -9,12 +9,11 @@ use Rattle.serde_json.specs.Read.{read as read_text}
 use Rattle.wm_base.specs.declared.errors.Limit.{Limit}
 use Rattle.wm_base.specs.declared.geometry.Rect.{Rect}
 use Rattle.wm_base.specs.declared.plan.Border.TheVariants as border
-use Rattle.wm_layouts.specs.Plan.{IsFitBorder, IsFitOutput, is_fit_rect}
+use Rattle.wm_layouts.specs.Plan.{is_fit_rect}
 use Rattle.wm_saved.specs.Answers.{◌>>=◌}
 use Rattle.wm_saved.specs.Limits as saved
 use Rattle.wm_saved.specs.Reading.{trees_at}
 use Rattle.wm_saved.specs.declared.refusal.LayoutRefusal.{LayoutRefusal}
-use Rattle.wm_saved.specs.declared.saved.SavedLayout.{SavedLayout}
 use Rattle.wm_saved.specs.declared.saved.SavedNode.{SavedNode}
 use Rattle.wm_saved.proofs.FitLemmas.{trees_fit}
 use Rattle.wm_fields.specs.Fields.{behind, decimal_value, if_end, number_at, or_else, or_none}
@@ -23,8 +22,7 @@ use Rattle.wm_fields.specs.Quoted.{quoted_at}
 use Rattle.wm_binds.specs.Lines.{bind_at, border_at, command_of, entry_of, first_word, gaps_at, home_at, if_read, is_bar, is_passed, last_number, layout_at, layout_of, mode_at, on_output, other_of, output_at, plan_of, rect_at, said_of, says_nothing, width_at}
 use Rattle.wm_binds.specs.Fit.{IsFitEntry, IsFitLayout}
 use Rattle.wm_binds.specs.Words.{command_word_at, gap_at, name_at, passed_word, past_blanks, text_of, word_then}
-use Rattle.wm_binds.specs.declared.entry.Entry.{Entry}
-use Rattle.wm_binds.specs.declared.entry.Entry.TheVariants.{Nothing, Passed, Bar, Mode, Close, Border, Inner, Outer, Home, Output, Layout}
+use Rattle.wm_binds.specs.declared.entry.Entry.TheVariants.{Nothing, Passed, Bar, Mode, Close, Border, Home, Output}
 
 abbrev pub If : {A : Type 0} → (A → Type 0) → Option A → Type 0
 If P None = Unit {0}

@@ -5,7 +5,7 @@ use Rattle.std.specs.Str.{bytes_eq, is_utf8}
 use Rattle.std.proofs.lemmas.Bool.{ltb-true}
 use Rattle.std.proofs.lemmas.Slice.Eq.{bytes_eq-Decides}
 use Rattle.wm_base.specs.declared.plan.OutputPlan.{OutputPlan}
-use Rattle.wm_layouts.specs.Plan.{FitLayouts, FitOutputs, IsFitBorder, IsFitEdges, IsFitOutput, IsSound, NamesDiffer, is_taken}
+use Rattle.wm_layouts.specs.Plan.{FitLayouts, FitOutputs, IsFitEdges, IsFitOutput, IsSound, NamesDiffer, is_taken}
 use Rattle.wm_saved.specs.declared.saved.SavedLayout.{SavedLayout}
 use Rattle.wm_fields.specs.Split.{lines_of}
 use Rattle.wm_binds.specs.Letters.{end}

@@ -9,7 +9,6 @@ use Rattle.wm_binds.specs.Letters.{Letters, end}
 use Rattle.wm_binds.specs.LettersReading.{read_by, text_by}
 use Rattle.wm_binds.specs.Reading.{go_on}
 use Rattle.wm_binds.specs.Blocks.{blank_draft}
-use Rattle.wm_binds.specs.declared.config.ConfigRefusal.{ConfigRefusal}
 use Rattle.wm_binds.specs.declared.draft.Draft.{Draft}
 use Rattle.wm_binds.specs.declared.draft.LineRefusal.{LineRefusal}
 use Rattle.wm_binds.specs.declared.draft.LineRefusal.TheVariants as faults

@@ -1,5 +1,5 @@
 -- What a line adds to what was read before it: at the top, in a block of a mode, and in one of a bar.
-use Rattle.std.specs.Prelude.{◌≡◌, ◌||◌, nat_lt, if◌then◌else◌, ℕ, List, [], ◌∷◌, ◌++◌, length, Result, Ok, Err, codes}
+use Rattle.std.specs.Prelude.{◌≡◌, nat_lt, if◌then◌else◌, ℕ, List, [], ◌∷◌, ◌++◌, length, Result, Ok, Err, codes}
 use Rattle.std.specs.List.{list_any}
 use Rattle.std.specs.Str.{bytes_eq}
 use Rattle.wm_base.specs.declared.plan.Border.TheVariants as border

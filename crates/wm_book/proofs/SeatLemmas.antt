@@ -17,7 +17,6 @@ use Rattle.wm_layouts.specs.declared.plan.Plan.{Plan}
 use Rattle.std.proofs.lemmas.List.Elements.{All-cons}
 use Rattle.std.specs.List.{All}
 use Rattle.wm_turn.specs.Pass.{Gate, IsLegal, Pass, new_passes}
-use Rattle.wm_turn.specs.declared.view.Mark.{Mark}
 use Rattle.wm_turn.specs.declared.view.Mark.TheVariants.{Wrote, Read}
 use Rattle.wm_history.specs.declared.step.Step.{Step}
 use Rattle.wm_turn.specs.History as turn

@@ -1,5 +1,5 @@
 -- What a caller carries by a seat.
-use Rattle.std.specs.Prelude.{◌≡◌, false, Option}
+use Rattle.std.specs.Prelude.{◌≡◌, false}
 use Rattle.wm_core.proofs.EntryLemmas.{history_legal}
 use Rattle.wm_core.specs.Entries.{history_of}
 use Rattle.wm_core.specs.Passes as passes

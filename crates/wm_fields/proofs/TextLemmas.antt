@@ -1,5 +1,5 @@
 -- Texts that are UTF-8, or are not.
-use Rattle.std.proofs.Common.{◌≡◌, ◌∙◌, refl, ap, ℕ, List, None, Some, Bool, true, false, leb, length, ◌≤◌, ◌<◌, ⊎_elim, arith}
+use Rattle.std.proofs.Common.{◌≡◌, refl, ℕ, List, None, Some, Bool, true, false, leb, length, ◌≤◌, ◌<◌, ⊎_elim, arith}
 use Rattle.std.specs.Str.{is_utf8, IsUtf8}
 use Rattle.std.proofs.lemmas.Bool.Decides.{leb_tells}
 use Rattle.std.proofs.lemmas.Str.{IsUtf8-from_is_utf8, is_utf8-from_IsUtf8}

@@ -1,5 +1,5 @@
 -- Focusing the parent and the child of a container.
-use Rattle.std.specs.Prelude.{Option, None, Some, is_none}
+use Rattle.std.specs.Prelude.{Option, None, is_none}
 use Rattle.wm_base.specs.declared.errors.ErrorText.TheVariants as texts
 use Rattle.wm_base.specs.declared.errors.Refusal.{Refusal}
 use Rattle.wm_base.specs.declared.ids.ConId.{ConId}

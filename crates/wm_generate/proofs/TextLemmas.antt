@@ -3,7 +3,7 @@ use Rattle.std.proofs.Common.{◌≡◌, ℕ, ◌%◌, ◌/◌, Bool, true, fals
 use Rattle.std.specs.Prelude.{IfOk, IsTrue, ◌==◌, ◌||◌, if◌then◌else◌, is_some, option_map, unwrap_or, codes}
 use Rattle.wm_language.specs.declared.batch.Batch.{Batch}
 use Rattle.wm_language.specs.declared.batch.Group.{Group}
-use Rattle.wm_grammar.specs.Reading.{batch_of, groups_of}
+use Rattle.wm_grammar.specs.Reading.{groups_of}
 use Rattle.wm_criteria.specs.Forms.{are_plain, has_forms}
 use Rattle.wm_criteria.specs.Verdict.{IsVerdict, OnRefusal}
 use Rattle.wm_criteria.specs.declared.prepared.Prepared.{Prepared}

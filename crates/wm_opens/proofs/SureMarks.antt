@@ -1,5 +1,5 @@
 -- Giving marks and taking them off keep a sound tree sound, what is known, and containers without floating windows.
-use Rattle.std.proofs.Common.{◌≡◌, ℕ, ◌≤◌, zero, suc, Bool, true, false, cond, ◌&&◌, ◌||◌, inl, List, [], ◌∷◌, ◌++◌, length, filter, Option, None, Some, refl, ap, subst, sym, ◌∙◌, arith}
+use Rattle.std.proofs.Common.{◌≡◌, ℕ, ◌≤◌, suc, Bool, true, false, cond, ◌&&◌, ◌||◌, inl, List, [], ◌∷◌, ◌++◌, length, filter, Option, None, Some, refl, ap, subst, sym, ◌∙◌, arith}
 use Rattle.std.specs.List.{list_any}
 use Rattle.std.specs.Str.{bytes_eq}
 use Rattle.wm_base.specs.declared.errors.Limit.TheVariants as limits
@@ -8,7 +8,7 @@ use Rattle.wm_base.specs.declared.ids.ConId.{ConId}
 use Rattle.wm_tree.proofs.EachLemmas.{sound-bare, sound-off}
 use Rattle.wm_focus.proofs.GiveLemmas.{in_place, ready_kind}
 use Rattle.wm_tree.proofs.GivingLemmas.{cleared_is}
-use Rattle.wm_focus.specs.Marks.{bare, bearer, bears, cleared, freed, full_of_marks, give_refusal, given_mark, is_marked, kept_marks, mark_tree, taken_off, that_mark, unmark_tree, with_mark}
+use Rattle.wm_focus.specs.Marks.{bare, bears, cleared, freed, full_of_marks, give_refusal, given_mark, is_marked, kept_marks, mark_tree, taken_off, that_mark, unmark_tree, with_mark}
 use Rattle.wm_tree.specs.Marks.{all_or_none}
 use Rattle.wm_opens.proofs.KeptLemmas.{kept_count, kept_unmarked, kept_with_marks}
 use Rattle.wm_opens.proofs.SureLemmas.{Sure, sure_by, sure_trans}

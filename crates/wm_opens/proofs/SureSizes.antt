@@ -39,7 +39,6 @@ use Rattle.wm_sizes.specs.Windows.{border_set}
 use Rattle.wm_shared.specs.Rects.{rect_of}
 use Rattle.wm_shared.specs.Subject.{is_hidden, is_space}
 use Rattle.wm_tree.proofs.SoundLemmas.{sound-edited}
-use Rattle.wm_forest.specs.declared.kind.KindEdit.{KindEdit}
 use Rattle.wm_forest.specs.declared.kind.KindEdit.TheVariants as edits
 use Rattle.wm_forest.specs.declared.part.ConState.{ConState}
 use Rattle.wm_forest.specs.declared.part.SpacePart.{SpacePart}

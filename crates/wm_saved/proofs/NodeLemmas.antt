@@ -9,7 +9,7 @@ use Rattle.wm_saved.specs.Limits.{all_marks, is_wide, is_wide_own}
 use Rattle.wm_saved.specs.declared.saved.SavedKind.{SavedKind}
 use Rattle.wm_saved.specs.declared.saved.SavedKind.TheFolds.{fold-SavedKind, fold-SavedNode, fold_out-SavedKind, fold_out-SavedNode, map-SavedKind}
 use Rattle.wm_saved.specs.declared.saved.SavedKind.TheOpen as open_kinds
-use Rattle.wm_saved.specs.declared.saved.SavedKind.TheOpen.{SavedKind-F, SavedNode-F}
+use Rattle.wm_saved.specs.declared.saved.SavedKind.TheOpen.{SavedKind-F}
 use Rattle.wm_saved.specs.declared.saved.SavedKind.TheViews.{out-SavedKind}
 use Rattle.wm_saved.specs.declared.saved.SavedNode.{SavedNode}
 

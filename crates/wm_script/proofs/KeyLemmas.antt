@@ -1,5 +1,5 @@
 -- The last binding of a chord in a mode.
-use Rattle.std.proofs.Common.{◌≡◌, refl, ap, Bool, true, false, cond, ℕ, List, [], ◌∷◌, Option, None, Some}
+use Rattle.std.proofs.Common.{◌≡◌, refl, ap, true, false, ℕ, List, ◌∷◌, Option, None, Some}
 use Rattle.wm_binds.specs.declared.config.Bind.{Bind}
 use Rattle.wm_script.specs.Lines.{or}
 use Rattle.wm_script.specs.Out.{is_of, last_bind, where_of}

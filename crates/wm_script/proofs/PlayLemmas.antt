@@ -1,9 +1,7 @@
 -- The lines of a script can be played.
-use Rattle.std.proofs.Common.{◌≡◌, ◌∙◌, refl, ap, sym, subst, ℕ, ◌<◌, ◌≤◌, ◌^◌, List, [], ◌∷◌, length, Option, None, Some, arith}
+use Rattle.std.proofs.Common.{List, [], ◌∷◌, Some, arith}
 use Rattle.std.specs.List.{AllByRecursion}
 use Rattle.wm_binds.specs.declared.config.Bind.{Bind}
-use Rattle.wm_core.specs.DeskValue.{DeskValue, Stands}
-use Rattle.wm_history.specs.History.{History, opening_of}
 use Rattle.wm_history.specs.declared.step.Step.{Step}
 use Rattle.wm_history.specs.declared.step.Step.TheVariants.{Map}
 use Rattle.wm_lines.specs.Lines as lines

@@ -1,5 +1,5 @@
 -- A script is read line by line, and what is read is within the limits.
-use Rattle.std.proofs.Common.{◌≡◌, ◌∙◌, refl, ap, sym, subst, Bool, true, false, ◌||◌, ◌&&◌, cond, is_some, ℕ, ◌+◌, ◌≤◌, List, [], ◌∷◌, ◌++◌, length, length-append, Option, None, Some, Result, Ok, Err, arith}
+use Rattle.std.proofs.Common.{◌≡◌, ◌∙◌, refl, ap, sym, subst, Bool, true, false, ◌&&◌, cond, is_some, ℕ, ◌+◌, ◌≤◌, List, [], ◌∷◌, ◌++◌, length, length-append, Option, None, Some, Result, Ok, Err, arith}
 use Rattle.std.specs.Prelude.{nat_lt, option_map}
 use Rattle.std.specs.List.{AllByRecursion}
 use Rattle.wm_base.specs.declared.errors.NoMemory.{NoMemory}
@@ -7,17 +7,16 @@ use Rattle.wm_base.specs.declared.plan.OutputPlan.{OutputPlan}
 use Rattle.wm_binds.proofs.EntryLemmas.{If}
 use Rattle.wm_binds.proofs.SoundLemmas.{IfRead, blank_fit, layouts_more, no_edges, output_keeps}
 use Rattle.wm_binds.specs.Binds.{has_key_of, with_bind}
-use Rattle.wm_binds.specs.Blocks.{bound, listed, with_output}
+use Rattle.wm_binds.specs.Blocks.{bound, with_output}
 use Rattle.wm_binds.specs.Fit.{IsFitDraft}
 use Rattle.wm_binds.specs.declared.config.Bind.{Bind}
 use Rattle.wm_binds.specs.declared.draft.Draft.{Draft}
 use Rattle.wm_binds.specs.declared.draft.LineRefusal.{LineRefusal}
 use Rattle.wm_binds.specs.declared.draft.LineRefusal.TheVariants as faults
 use Rattle.wm_grammar.specs.Reading.{batch_of}
-use Rattle.wm_layouts.specs.Plan.{FitOutputs, IsFitOutput, IsSound, NamesDiffer, is_taken}
-use Rattle.wm_script.specs.Lines.{IsFitSaid, said_of}
-use Rattle.wm_script.specs.Script.{IsFirstBad, IsFitBind, IsFitLine, IsFitReading, IsFitScript, IsTaken, OnTaken, at_first, bound_in, drafted, first_draft, go_on, is_mode, or_standard, plan_of, planned, reading_from, reading_on, script_from, script_of, where_done, with_said, with_text, with_text_said}
-use Rattle.wm_script.specs.declared.line.Line.{Line}
+use Rattle.wm_layouts.specs.Plan.{FitOutputs, NamesDiffer, is_taken}
+use Rattle.wm_script.specs.Lines.{IsFitSaid}
+use Rattle.wm_script.specs.Script.{IsFirstBad, IsFitBind, IsFitLine, IsFitReading, IsFitScript, IsTaken, OnTaken, at_first, bound_in, drafted, go_on, is_mode, or_standard, planned, reading_from, reading_on, script_from, script_of, where_done, with_said, with_text}
 use Rattle.wm_script.specs.declared.reading.Reading.{Reading}
 use Rattle.wm_script.specs.declared.said.Said.{Said}
 use Rattle.wm_script.specs.declared.said.Said.TheVariants.{Nothing, Version, Output, Border, Inner, Outer, Mode, Bind as Binds, Layout, Does}

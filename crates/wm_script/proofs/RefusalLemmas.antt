@@ -1,7 +1,6 @@
 -- What preparing a text says of its refusal.
-use Rattle.std.proofs.Common.{◌≡◌, ◌∙◌, refl, ap, sym, subst, ℕ, zero, suc, ◌+◌, ◌<◌, ◌≤◌, ◌⊎◌, inl, inr, Bool, true, false, cond, List, [], ◌++◌, length, take, Option, None, Some, is_some, arith}
+use Rattle.std.proofs.Common.{◌≡◌, ◌∙◌, refl, ap, sym, subst, ℕ, zero, suc, ◌<◌, ◌≤◌, ◌⊎◌, inl, inr, Bool, true, false, cond, List, [], length, take, Option, None, Some, is_some, arith}
 use Rattle.std.specs.Prelude.{slice_get, IsTrue, option_and_then, option_map}
-use Rattle.std.specs.Option.{option_to_list}
 use Rattle.std.proofs.lemmas.List.{append-nil}
 use Rattle.wm_history.specs.Act.{text_of}
 use Rattle.wm_criteria.specs.Building.{Grew, Log, Tells}

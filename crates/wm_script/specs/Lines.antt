@@ -7,7 +7,6 @@ use Rattle.wm_base.specs.declared.plan.Border.TheVariants as border
 use Rattle.wm_binds.specs.Fit.{IsFitLayout}
 use Rattle.wm_binds.specs.Lines.{layout_of}
 use Rattle.wm_binds.specs.Words.{text_of}
-use Rattle.wm_history.specs.declared.look.Query.{Query}
 use Rattle.wm_history.specs.declared.look.Query.TheVariants as query
 use Rattle.wm_fields.specs.Fields.{behind, gap_at, if_end, number_at, or_else, or_none, serial_at, word_then}
 use Rattle.wm_fields.specs.Quoted.{name_at}

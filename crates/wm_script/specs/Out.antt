@@ -1,7 +1,6 @@
 -- What lines of a script do on a desk, and what is written for them.
 use Rattle.std.specs.Prelude.{ℕ, Bool, ◌&&◌, if◌then◌else◌, List, [], ◌∷◌, ◌++◌, length, Option, None, Some, Result, Ok, Err, codes}
 use Rattle.std.specs.List.{flat_map}
-use Rattle.std.specs.Option.{option_map}
 use Rattle.std.specs.Str.{bytes_eq}
 use Rattle.wm_binds.specs.declared.config.Bind.{Bind}
 use Rattle.wm_history.specs.Act.{Act, CommandText, KeyChoice, act_of}

@@ -1,5 +1,5 @@
 -- What a rehearsal was.
-use Rattle.std.specs.Prelude.{◌≡◌, ◌*◌, ◌+◌, ◌++◌, ◌<◌, ℕ, List, [], length, take, drop, Option, IfSome, IfNone}
+use Rattle.std.specs.Prelude.{◌≡◌, ◌*◌, ◌+◌, ◌++◌, ◌<◌, ℕ, List, length, take, drop, Option, IfSome, IfNone}
 use Rattle.wm_actors.specs.Pictured.{Screen}
 use Rattle.wm_book.specs.Recorded.{IsRecord, RecordedValue}
 use Rattle.wm_core.specs.Entries.{history_of}

@@ -1,7 +1,7 @@
 -- What stands at a place of a history that a caller has seen.
 use Rattle.std.specs.Prelude.{ℕ, ◌+◌, ◌-◌, List, [], ◌∷◌, ◌++◌, length, drop, Option, None, Some}
 use Rattle.wm_criteria.specs.Verdict.{refused_patterns}
-use Rattle.wm_history.specs.Act.{Act, CommandText}
+use Rattle.wm_history.specs.Act.{Act}
 use Rattle.wm_history.specs.Act as act
 use Rattle.wm_history.specs.History.{Entry, History}
 use Rattle.wm_core.specs.declared.asked.Asked.{Asked}

@@ -1,5 +1,5 @@
 -- Other shares of several children keep what holds of every tree.
-use Rattle.std.proofs.Common.{◌≡◌, ℕ, ◌+◌, ◌≤◌, Bool, true, false, cond, ◌||◌, inl, List, [], ◌∷◌, refl, ap, sym, ◌∙◌, arith}
+use Rattle.std.proofs.Common.{◌≡◌, ℕ, ◌+◌, Bool, true, false, cond, ◌||◌, inl, List, [], ◌∷◌, refl, ap, sym, ◌∙◌, arith}
 use Rattle.wm_base.specs.declared.ids.ConId.{ConId}
 use Rattle.wm_forest.specs.declared.kind.KindEdit.TheVariants as edits
 use Rattle.wm_forest.specs.declared.part.NodeKind.{NodeKind}
@@ -11,7 +11,7 @@ use Rattle.wm_forest.specs.Change.{at, nobody}
 use Rattle.wm_forest.specs.Counts.{con_of, count, marks_of, row_length, row_with, space_of}
 use Rattle.wm_forest.specs.Forest.{Forest, end, con}
 use Rattle.wm_forest.specs.Kinds.{changed}
-use Rattle.wm_forest.specs.Look.{in_row, only, same}
+use Rattle.wm_forest.specs.Look.{in_row, same}
 use Rattle.wm_forest.specs.RootId.{root}
 use Rattle.wm_forest.specs.Shares.{first_shared, left_behind, shared, shared_part, shares_word}
 use Rattle.wm_forest.specs.SoundRow.{Level, roots, outputs, spaces, containers, below, HasShare, IsNode, IsSoundRow, one_of, rank_of}

@@ -1,5 +1,5 @@
 -- The value of a tree, its opening, and what is seen in it.
-use Rattle.std.specs.Prelude.{Bool, true, false, ◌&&◌, ℕ, ◌+◌, ◌*◌, List, [], ◌∷◌, length, Option, None, Some, option_and_then, refl, if◌then◌else◌}
+use Rattle.std.specs.Prelude.{Bool, false, ◌&&◌, ℕ, ◌+◌, ◌*◌, List, [], ◌∷◌, length, Option, None, Some, option_and_then, refl, if◌then◌else◌}
 use Rattle.std.specs.Coded.{Coded, code_by, coded×, coded_ℕ, coded_list, coded_option}
 use Rattle.wm_base.specs.contracts.ids.ConId as con_id
 use Rattle.wm_base.specs.contracts.plan.Border as border_of
@@ -8,8 +8,7 @@ use Rattle.wm_base.specs.declared.plan.Border.{Border}
 use Rattle.wm_base.specs.declared.plan.Layout.TheVariants.{SplitH}
 use Rattle.wm_base.specs.declared.plan.OutputPlan.{OutputPlan}
 use Rattle.wm_forest.specs.declared.part.Part.{Part}
-use Rattle.wm_forest.specs.declared.part.NodeKind.{NodeKind}
-use Rattle.wm_forest.specs.declared.part.NodeKind.TheVariants.{Root, Output, Space, Con}
+use Rattle.wm_forest.specs.declared.part.NodeKind.TheVariants.{Root, Output, Space}
 use Rattle.wm_forest.specs.declared.place.Place.{Place}
 use Rattle.wm_forest.specs.declared.place.Place.TheVariants.{After, Last}
 use Rattle.wm_forest.specs.declared.spot.Spot.{Spot}

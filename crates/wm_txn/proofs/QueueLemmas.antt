@@ -1,14 +1,12 @@
 -- The queue of the windows that are awaited: how it comes, and that it stays one while they answer and close.
-use Rattle.std.proofs.Common.{◌≡◌, ◌≤◌, ◌<◌, ℕ, zero, suc, ◌+◌, ◌==◌, Bool, true, false, cond, ◌&&◌, List, [], ◌∷◌, length, drop, Option, Some, None, refl, ap, sym, subst, ◌∙◌, arith, nat_le, nat_lt}
+use Rattle.std.proofs.Common.{◌≡◌, ◌≤◌, ◌<◌, ℕ, suc, ◌+◌, ◌==◌, Bool, true, false, cond, ◌&&◌, List, [], ◌∷◌, length, Option, Some, None, refl, ap, sym, subst, ◌∙◌, arith, nat_le, nat_lt}
 use Rattle.std.proofs.Math.ListN.{get_or}
 use Rattle.std.proofs.lemmas.Bool.Decides.{nat_tests}
 use Rattle.std.proofs.lemmas.List.Sorted.{sum_by-IsPermutation}
 use Rattle.std.proofs.lemmas.List.Sums.{sum_by-cons}
-use Rattle.std.specs.BTreeMap.{is_at}
 use Rattle.std.specs.List.{list_any, sum_by}
 use Rattle.std.specs.List.Sorted.{IsNonDecreasingBy, IsPermutation}
 use Rattle.std.specs.Option.{option_map}
-use Rattle.std.specs.Ordering.{nat_cmp}
 use Rattle.wm_arrange.specs.declared.parts.Placed.{Placed}
 use Rattle.wm_arrange.specs.Sizes.{is_content}
 use Rattle.wm_base.specs.declared.ids.Buffer.{Buffer}
@@ -16,7 +14,7 @@ use Rattle.wm_base.specs.declared.ids.ConId.{ConId}
 use Rattle.wm_forest.specs.Look.{same}
 use Rattle.wm_txn.specs.Commits.{least, lesser}
 use Rattle.wm_txn.specs.Queue.{AreFewer, IsQueue, IsQueued, first_left, lefts}
-use Rattle.wm_txn.specs.Windows.{Windows, acked_with, close_all, find, held_of, is_left, is_unanswered, least_left, one_if, open_fresh, put}
+use Rattle.wm_txn.specs.Windows.{Windows, close_all, find, held_of, is_left, is_unanswered, least_left, one_if, open_fresh, put}
 use Rattle.wm_txn.specs.declared.held.Held.{Held}
 use Rattle.wm_txn.specs.declared.held.Pending.{Pending}
 use Rattle.wm_txn.proofs.CloseLemmas.{close_if, find_closed}

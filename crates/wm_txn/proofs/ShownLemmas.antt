@@ -13,7 +13,7 @@ use Rattle.wm_txn.specs.History.{Opening, Entry, gave, is_open, under_up_to}
 use Rattle.wm_txn.specs.Machine.{TxnValue}
 use Rattle.wm_txn.specs.Windows.{find, left_of}
 use Rattle.wm_txn.specs.Schedule.{Transaction, answered, configure, configures, contents, ended, first_when, is_named, is_new, last_parts, may_end, or_here, past, same_size}
-use Rattle.wm_txn.specs.Shown.{HasConfiguredSize, Showing, ShowsAnswer, ShowsOpening}
+use Rattle.wm_txn.specs.Shown.{HasConfiguredSize, ShowsAnswer, ShowsOpening}
 use Rattle.wm_txn.specs.Stands.{IsHeld, IsKept, Stands, serial_of}
 use Rattle.wm_txn.specs.declared.held.Held.{Held}
 use Rattle.wm_txn.proofs.AnswerLemmas.{configure_le, each_passes, new_some}

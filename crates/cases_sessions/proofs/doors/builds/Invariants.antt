@@ -1,4 +1,4 @@
-use Rattle.std.proofs.Common.{◌≡◌, ◌+◌, length}
+use Rattle.std.proofs.Common.{◌≡◌, length}
 use Rattle.cases_sessions.proofs.doors.builds.Given as goal
 
 abbrev pub invariant-loop : goal.invariant-loop

@@ -1,6 +1,4 @@
 use Rattle.std.proofs.Common.{◌∙◌, ap, sym, None, Some}
-use Rattle.wm_fields.specs.Fields.{or_none}
-use Rattle.wm_fields.specs.Properties.{props_of}
 use Rattle.wm_fields.proofs.PropertyLemmas.{window_is}
 use Rattle.wm_fields.proofs.properties.window_properties.Goals as goal
 

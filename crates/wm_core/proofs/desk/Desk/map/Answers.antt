@@ -1,6 +1,5 @@
-use Rattle.std.proofs.Common.{rules, ◌≡◌, true, false, Some, None, ap, ap₂, ◌∙◌, refl, sym, subst}
+use Rattle.std.proofs.Common.{◌≡◌, true, false, Some, None, ap, ap₂, ◌∙◌, refl, sym, subst}
 use Rattle.wm_tree.specs.Sound.{IsSound}
-use Rattle.wm_tree.specs.TreeValue.{TreeValue}
 use Rattle.wm_history.specs.Act.{Map, text_if_some}
 use Rattle.wm_core.specs.DeskValue.{DeskValue}
 use Rattle.wm_history.specs.Follows.{Follows}

@@ -1,4 +1,4 @@
-use Rattle.std.proofs.Common.{◌≡◌, ◌++◌, Err, Ok, ap, refl, subst, sym, ◌∙◌}
+use Rattle.std.proofs.Common.{◌++◌, Err, Ok, ap, refl, subst, sym, ◌∙◌}
 use Rattle.wm_kept.specs.Log.{Log, kept_of}
 use Rattle.wm_core.specs.DeskValue.{DeskValue, in_mode}
 use Rattle.wm_history.specs.Effect.{changing, mode_after}

@@ -1,4 +1,4 @@
-use Rattle.std.proofs.Common.{◌≡◌, None, Some, false, ap, sym}
+use Rattle.std.proofs.Common.{None, Some, false, ap, sym}
 use Rattle.wm_json.specs.declared.views.EventBody.TheVariants as body
 use Rattle.wm_history.specs.Act.{Tick}
 use Rattle.wm_history.specs.Effect.{passing}
