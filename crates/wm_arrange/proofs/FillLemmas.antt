@@ -8,7 +8,7 @@ use Rattle.std.proofs.lemmas.Bool.{ne_eqb}
 use Rattle.std.proofs.lemmas.List.{length-append}
 use Rattle.std.proofs.lemmas.Str.Pattern.{IsSplitOnceResult, split_parts, starts_text}
 use Rattle.wm_base.specs.declared.properties.Props.{Props}
-use Rattle.wm_arrange.specs.TitleText.{filled, named, put, IsAtSign, IsBehind}
+use Rattle.wm_arrange.specs.TitleText.{filled, marks_text, named, put, IsAtSign, IsBehind}
 
 otherwise : (b : Bool) (x y : List ℕ) → b ≡ false → cond b x y ≡ y
 otherwise true x y h = cc
@@ -63,3 +63,8 @@ machine_is p after behind e f g h = put_is p after behind p.machine 7 (rw (e, f,
 pub none_is : (p : Props) (after : List ℕ) → starts_with eqb after (codes "title") ≡ false → starts_with eqb after (codes "class") ≡ false → starts_with eqb after (codes "instance") ≡ false → starts_with eqb after (codes "machine") ≡ false
     → filled p (37 ∷ after) ≡ codes "%" ++ filled p after
 none_is p after e f g h = rw (e, f, g, h) refl
+
+-- ---- a format that is the title alone, and no marks
+
+pub only_title : (p : Props) (format : List ℕ) (marks : List (List ℕ)) → format ≡ codes "%title" → marks ≡ [] → filled p format ++ marks_text marks ≡ p.title
+only_title p format marks f m = ap (λ l. filled p l ++ marks_text marks) f ∙ (ap (λ l. (p.title ++ []) ++ marks_text l) m ∙ (append-nil (p.title ++ []) ∙ append-nil p.title))

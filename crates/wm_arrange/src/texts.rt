@@ -1,22 +1,62 @@
 //! The texts of titles.
-ghost use Rattle.std.specs.Prelude.{◌≡◌, ◌++◌, ◌≤◌, ◌<◌, codes, length, string_bytes, IfOk, OnOk};
-ghost use Rattle.wm_arrange.specs.TitleText.{con_text, cut_place, fitted, is_hidden, letter, mark_text, marks_text, node_text, title_text};
+ghost use Rattle.std.specs.Prelude.{◌≡◌, ◌++◌, ◌≤◌, ◌<◌, codes, length, string_bytes, List, ℕ, IfOk, IfSome, OnOk};
+ghost use Rattle.wm_arrange.specs.TitleText.{con_text, cut_place, filled, fitted, is_hidden, letter, mark_text, marks_text, node_text, title_text};
 ghost use Rattle.wm_forest.specs.Counts.{row_length};
+ghost use Rattle.wm_forest.specs.Forest.{Forest};
+ghost use Rattle.wm_forest.specs.declared.part.ConPart.{ConPart};
 ghost use Rattle.std.specs.Fmt.{decimal};
 ghost use Rattle.std.specs.String.Boundary.{IsSplitPoint};
 
 use crate::filling::fill;
 use crate::rows::count;
 use std::alloc::Global;
-use wm_base::{Layout, NoMemory, Text};
+use wm_base::{Layout, NoMemory, Props, Text};
 use wm_tree::{ConKind, ConPart, Cursor, NodeKind, Part};
 
 /// How many bytes a title has at most.
 const MAX_TITLE: usize = 1024;
 
-/// The text of a container's title: of at most 1,024 bytes.
-#[tactic(auto, unfolding(crate::specs::TitleText::title_text))]
+/// The text of a container's title: of at most 1,024 bytes. It shares those of the title where that is the whole text.
+#[tactic(auto, unfolding(crate::specs::TitleText::title_text), using(crate::proofs::CutLemmas::fits))]
 pub fn title_text(alloc: Global, part: &Part, kids: &Cursor<'_>) -> Result<Text, NoMemory>
+    requires { row_length kids.now ≤ 256 }
+    ensures { IfOk result (λ text. text ≡ title_text part.now kids.now) }
+{
+    match whole_title(part) {
+        Some(title) => Ok(title.clone()?),
+        None => made_text(alloc, part, kids),
+    }
+}
+
+/// The title that is the whole text: of a window or placeholder without marks whose format is `%title`.
+#[tactic(auto, using(crate::proofs::FillLemmas::only_title))]
+fn whole_title(part: &Part) -> Option<&Text>
+    ensures { IfSome result (λ title. (kids : Forest) → node_text part.now.kind part.now.marks kids ≡ title.now) }
+{
+    let NodeKind::Con(con) = &part.kind else {
+        return None;
+    };
+    let props = props_of(&con.kind)?;
+    match (part.marks.items(), con.title_format.as_str()) {
+        ([], "%title") => Some(&props.title),
+        _ => None,
+    }
+}
+
+/// The properties of a window or placeholder, which its format is filled in with.
+fn props_of(kind: &ConKind) -> Option<&Props>
+    ensures { IfSome result (λ props. (c : ConPart) (marks : List (List ℕ)) (kids : Forest) →
+        con_text c kind.now marks kids ≡ filled props.now c.title_format ++ marks_text marks) }
+{
+    match kind {
+        ConKind::Split { .. } => None,
+        ConKind::Window { props, .. } | ConKind::Placeholder { props, .. } => Some(props),
+    }
+}
+
+/// The text of a title that is put together.
+#[tactic(auto, unfolding(crate::specs::TitleText::title_text))]
+fn made_text(alloc: Global, part: &Part, kids: &Cursor<'_>) -> Result<Text, NoMemory>
     requires { row_length kids.now ≤ 256 }
     ensures { IfOk result (λ text. text ≡ title_text part.now kids.now) }
 {
