@@ -51,10 +51,10 @@ row_sync : IsSync (Row.the_field).row
 row_sync = search (row.sync-Row, known) depth 20
 
 cell_send : IsSend (Cell.the_field).row
-cell_send = row.send-Cell part.the_field_send row_send
+cell_send = search (row.send-Cell, part.the_field_send, row_send) depth 6
 
 cell_sync : IsSync (Cell.the_field).row
-cell_sync = row.sync-Cell part.the_field_sync row_sync
+cell_sync = search (row.sync-Cell, part.the_field_sync, row_sync) depth 6
 
 tree_send : IsSend Tree.the_row
 tree_send = search (row_send, cell_send, known) depth 20

@@ -21,10 +21,10 @@ pub struct Row {
 #[cycle(row)]
 #[derive(Drop)]
 pub struct Cell {
-    pub part: Part,
+    pub rest: Row,
     pub kids: Row,
     pub floats: Row,
-    pub rest: Row,
+    pub part: Part,
 }
 
 impl Model for Row {
@@ -117,7 +117,13 @@ impl Row {
     {
         let mut row = self;
         while let Some(cell) = &row.first {
-            if cell.part.id == id || cell.kids.has(id) || cell.floats.has(id) {
+            if cell.part.id == id {
+                return true;
+            }
+            if !cell.kids.is_end() && cell.kids.has(id) {
+                return true;
+            }
+            if !cell.floats.is_end() && cell.floats.has(id) {
                 return true;
             }
             row = &cell.rest;

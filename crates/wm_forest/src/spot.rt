@@ -109,10 +109,14 @@ impl Row {
             if cell.part.id == id {
                 return Some((cell, row.of(&cell.part)));
             }
-            if let Some(found) = cell.kids.stand(row.below(true, &cell.part), id) {
+            if !cell.kids.is_end()
+                && let Some(found) = cell.kids.stand(row.below(true, &cell.part), id)
+            {
                 return Some(found);
             }
-            if let Some(found) = cell.floats.stand(row.below(false, &cell.part), id) {
+            if !cell.floats.is_end()
+                && let Some(found) = cell.floats.stand(row.below(false, &cell.part), id)
+            {
                 return Some(found);
             }
             left = &cell.rest;
