@@ -1,12 +1,13 @@
 #!/usr/bin/env python3
 """Takes the processor's time of arranging 16 and 64 tabbed containers side by side with 16 windows each, by the program cases_tree, the
-time of opening them taken off, and prints how it grows.
+time of opening them taken off, and prints how it grows: the median of rounds in which both are taken one behind the other.
 usage: bench/arranged.py CASES_TREE
 """
 import os, subprocess, sys, tempfile
+from statistics import median
 
-CALLS = {16: 8000, 64: 2000}
-RUNS = 20
+CALLS = {16: 4000, 64: 1000}
+ROUNDS = 40
 
 
 def opened(containers):
@@ -28,17 +29,19 @@ def seconds(program, folder, lines):
     return usage.ru_utime + usage.ru_stime
 
 
+def cost(program, folder, containers, calls):
+    """What it costs to arrange so many containers once, in microseconds."""
+    took = [seconds(program, folder, opened(containers) + ["again"] * count) for count in (calls, 0)]
+    return (took[0] - took[1]) / calls * 1e6
+
+
 def main():
     program, = sys.argv[1:]
-    least = {}
     with tempfile.TemporaryDirectory() as folder:
-        for _ in range(RUNS):
-            for containers, calls in CALLS.items():
-                for count in [0, calls]:
-                    took = seconds(program, folder, opened(containers) + ["again"] * count)
-                    least[containers, count] = min(took, least.get((containers, count), took))
-    few, many = [(least[containers, calls] - least[containers, 0]) / calls for containers, calls in CALLS.items()]
-    print("arranging: %.0f and %.0f microseconds over 16 and over 64 tabbed containers, %.2f times as long" % (few * 1e6, many * 1e6, many / few))
+        rounds = [{containers: cost(program, folder, containers, calls) for containers, calls in CALLS.items()} for _ in range(ROUNDS)]
+    few, many = (median(costs[containers] for costs in rounds) for containers in CALLS)
+    print("arranging: %.0f and %.0f microseconds over 16 and over 64 tabbed containers, %.2f times as long" % (
+        few, many, median(costs[64] / costs[16] for costs in rounds)))
 
 
 main()

@@ -1,15 +1,17 @@
 #!/usr/bin/env python3
-"""Takes the processor's time of commands over few and over many windows, the time of opening them taken off, and prints commands a
-second and how the cost of one grows. With a second program both run in turn, and what a command costs by it is printed beside, so
-that two builds are held against each other in one run.
+"""Takes the processor's time of commands over few and over many windows, and prints what a command costs and how that grows. Each
+size is a process of its own, and so is each where a second program is named, which opens its windows once. Then all of them take
+rounds of commands in turn, one running while the others are held still, so that a machine whose speed changes meets all of them
+alike: a ratio is the median of those within a round. What the filler of a round takes is measured behind it and taken off.
 usage: bench/rows.py commands|floats|spaces|tabs I3REPLAY [OTHER_I3REPLAY]
 """
-import sys, tempfile
+import os, sys, tempfile
+from statistics import median
 
 sys.dont_write_bytecode = True
-from measure import measured, replayed
+from measure import Rounds, opened_side_by_side
 
-COMMANDS = 20000
+ROUNDS = 30
 OUTPUTS = 8
 
 
@@ -79,39 +81,69 @@ TABLES = {
 }
 
 
-def least(programs, folder, lines, runs=2):
-    """The least processor time of each program over these lines, the programs in turn."""
-    times = [[measured(program, "replay", folder, lines, 1)[0] for program in programs] for _ in range(runs)]
-    return [min(column) for column in zip(*times)]
+def count_over(size):
+    """How many commands make a round over so many windows: an even number, since commands come in pairs."""
+    return max(2, min(600, 12000 // size // 2 * 2))
 
 
-def costs(programs, folder, begin, base, text, size):
-    """What a command costs by each program, in seconds."""
-    count = COMMANDS if size <= 256 else COMMANDS // 10
-    lines = begin + ["run " + text(n, size) for n in range(count)]
-    if b'"error"' in replayed(programs[0], lines):
-        sys.exit("a command is refused")
-    return [(whole - opened) / count for whole, opened in zip(least(programs, folder, lines), base)]
+def script(begin, kinds, size):
+    """The rounds of a script: the opening, then for each kind of command rounds of it with an empty one behind each."""
+    count = count_over(size)
+    rounds = [begin]
+    for text in kinds.values():
+        for first in range(0, count * (ROUNDS + 1), count):
+            rounds += [["run " + text(n, size) for n in range(first, first + count)], []]
+    return rounds
+
+
+def cost(run, size):
+    """What a command of the next round costs, in microseconds."""
+    return (run.turn() - run.turn()) / count_over(size) * 1e6
+
+
+def measured(runs):
+    """What a command of a kind costs in each run, round by round, each second round backwards. The first one is to warm up."""
+    turns = list(runs.items())
+    rounds = []
+    for _ in range(ROUNDS + 1):
+        rounds.append({key: cost(run, key[1]) for key, run in turns})
+        turns.reverse()
+    return rounds[1:]
+
+
+def growth(rounds, key, other):
+    """How many times as much a command costs in one run as in another."""
+    return median(costs[key] / costs[other] for costs in rounds)
 
 
 def listed(pattern, numbers):
     return ", ".join(pattern.format(number) for number in numbers)
 
 
+def row(kind, rounds, programs, sizes):
+    mine = [(programs[0], size) for size in sizes]
+    line = "%s: %s microseconds over %s; %s times as long as over %d" % (
+        kind, listed("{:,.1f}", (median(costs[key] for costs in rounds) for key in mine)), listed("{:,}", sizes),
+        listed("{:.1f}", (growth(rounds, key, mine[0]) for key in mine[1:])), sizes[0])
+    if len(programs) > 1:
+        line += "; by the other program %s times as long" % listed("{:.2f}", (growth(rounds, (programs[1], size), (programs[0], size)) for size in sizes))
+    return line
+
+
 def main():
     table, *programs = sys.argv[1:]
     opened, sizes, kinds = TABLES[table]
     with tempfile.TemporaryDirectory() as folder:
-        bases = {size: least(programs, folder, opened(size)) for size in sizes}
-        for kind, text in kinds.items():
-            both = [costs(programs, folder, opened(size), bases[size], text, size) for size in sizes]
-            mine = [cost[0] for cost in both]
-            line = "%s: %s commands a second over %s; %s times the cost of %d" % (
-                kind, listed("{:,.0f}", (1 / cost for cost in mine)), listed("{:,}", sizes),
-                listed("{:.1f}", (cost / mine[0] for cost in mine[1:])), sizes[0])
-            if len(programs) > 1:
-                line += "; by the other program a command costs %s times as much" % listed("{:.2f}", (cost[1] / cost[0] for cost in both))
-            print(line, flush=True)
+        runs = {}
+        for number, (program, size) in enumerate((program, size) for program in programs for size in sizes):
+            runs[program, size] = Rounds(program, os.path.join(folder, str(number)), script(opened(size), kinds, size))
+        try:
+            opened_side_by_side(runs.values())
+            for kind in kinds:
+                print(row(kind, measured(runs), programs, sizes), flush=True)
+        finally:
+            for run in runs.values():
+                run.end()
 
 
 main()
