@@ -1,5 +1,5 @@
 -- Entries by rising key: what was put in is found under its key.
-use Rattle.std.proofs.Common.{◌≡◌, ℕ, suc, ◌<◌, ◌≤◌, true, false, cond, List, [], ◌∷◌, Some, length, refl, ap, ◌∙◌, arith}
+use Rattle.std.proofs.Common.{◌≡◌, ℕ, suc, ◌<◌, ◌≤◌, true, false, cond, List, [], ◌∷◌, None, Some, length, refl, ap, ◌∙◌, arith}
 use Rattle.std.proofs.lemmas.Bool.Decides.{nat_tests}
 use Rattle.std.specs.BTreeMap.{insert_entry, is_at}
 use Rattle.std.specs.List.{AllByRecursion}
@@ -9,26 +9,32 @@ use Rattle.std.specs.Ordering.{nat_cmp, match_ordering}
 use Rattle.std.specs.declared.cmp.Ordering.{Ordering}
 use Rattle.std.specs.declared.cmp.Ordering.TheVariants.{Less, Equal, Greater}
 
-at_own : (a : ℕ) → is_at (nat_cmp a) a ≡ true
+pub at_own : (a : ℕ) → is_at (nat_cmp a) a ≡ true
 at_own a = grind (arith, nat_tests)
+
+pub at_above : (x k l : ℕ) → is_at (nat_cmp k) x ≡ true → x < l → is_at (nat_cmp k) l ≡ false
+at_above x k l is h = grind (arith, nat_tests)
 
 at_greater : (a b : ℕ) → b < a → is_at (nat_cmp a) b ≡ false
 at_greater a b h = grind (arith, nat_tests)
 
-less_is : (a b : ℕ) → nat_cmp a b ≡ Less → a < b
+pub less_is : (a b : ℕ) → nat_cmp a b ≡ Less → a < b
 less_is a b h = grind (arith, nat_tests)
 
-greater_is : (a b : ℕ) → nat_cmp a b ≡ Greater → b < a
+pub equal_is : (a b : ℕ) → nat_cmp a b ≡ Equal → a ≡ b
+equal_is a b h = grind (arith, nat_tests)
+
+pub greater_is : (a b : ℕ) → nat_cmp a b ≡ Greater → b < a
 greater_is a b h = grind (arith, nat_tests)
 
-cmp_less : (a b : ℕ) → a < b → nat_cmp a b ≡ Less
+pub cmp_less : (a b : ℕ) → a < b → nat_cmp a b ≡ Less
 cmp_less a b h = grind (arith, nat_tests)
 
 -- the keys are all above this one
 abbrev pub Above : ℕ → List ℕ → Type 0
 Above k ks = AllByRecursion (λ y. nat_cmp k y ≡ Less) ks
 
-above_all : (k l : ℕ) (ks : List ℕ) → k < l → Above l ks → Above k ks
+pub above_all : (k l : ℕ) (ks : List ℕ) → k < l → Above l ks → Above k ks
 above_all k l [] lt h = tt
 above_all k l (x ∷ ks) lt h = let next : l < x = less_is l x h.0 in (cmp_less k x (omega arith), above_all k l ks lt h.1)
 
@@ -74,6 +80,12 @@ module _ {V : Type 0} where
   unfolding IsStrictlySortedBy
   found_all [] h = tt
   found_all (e ∷ es) h = (ap (λ b. cond b (Some e.1) (lookup (is_at (nat_cmp e.0)) es)) (at_own e.0), found_behind e es es h.0 (found_all es h.1))
+
+  -- under a key below all of them nothing is found
+  pub above_none : (x k : ℕ) (es : List (ℕ × V)) → Above x (keys_of es) → is_at (nat_cmp k) x ≡ true → lookup (is_at (nat_cmp k)) es ≡ None
+  above_none x k [] above is = refl
+  above_none x k (e ∷ es) above is =
+      ap (λ b. cond b (Some e.1) (lookup (is_at (nat_cmp k)) es)) (at_above x k e.0 is (less_is x e.0 above.0)) ∙ above_none x k es above.1 is
 
   -- ---- keys
 

@@ -1,5 +1,5 @@
 -- Windows and workspaces put in under their ids, and sums of shares.
-use Rattle.std.proofs.Common.{◌≡◌, ℕ, ◌*◌, ◌≤◌, Bool, true, false, List, [], ◌∷◌, ◌++◌, refl, ap, sym, ◌∙◌, arith}
+use Rattle.std.proofs.Common.{◌≡◌, ℕ, ◌*◌, ◌≤◌, Bool, true, false, List, [], ◌∷◌, ◌++◌, refl, ap, ◌∙◌, arith}
 use Rattle.std.specs.BTreeMap.{insert_entry}
 use Rattle.std.specs.Ordering.{nat_cmp}
 use Rattle.wm_base.specs.declared.ids.ConId.{ConId}
@@ -18,12 +18,9 @@ pub windows_both : (vs ws : List WindowFact) (done : List (ℕ × WindowFact)) �
 windows_both [] ws done = refl
 windows_both (v ∷ vs) ws done = windows_both vs ws (insert_entry nat_cmp done v.part.id.0 v)
 
--- a row's windows are put in: the node, those below it, and those behind it
-pub windows_row : (here kids floats rest : List WindowFact) (done : List (ℕ × WindowFact)) → put_windows rest (put_windows (kids ++ floats) (put_windows here done)) ≡ put_windows (here ++ kids ++ floats ++ rest) done
-windows_row here kids floats rest done =
-    let below : put_windows (kids ++ floats) (put_windows here done) ≡ put_windows floats (put_windows kids (put_windows here done)) = sym (windows_both kids floats (put_windows here done)) in
-    let both : put_windows floats (put_windows kids (put_windows here done)) ≡ put_windows (here ++ kids ++ floats) done = ap (put_windows floats) (windows_both here kids done) ∙ windows_both (here ++ kids) floats done in
-    ap (put_windows rest) (below ∙ both) ∙ windows_both (here ++ kids ++ floats) rest done
+-- those of three lists likewise
+pub windows_three : (here kids floats : List WindowFact) (done : List (ℕ × WindowFact)) → put_windows floats (put_windows kids (put_windows here done)) ≡ put_windows (here ++ kids ++ floats) done
+windows_three here kids floats done = ap (put_windows floats) (windows_both here kids done) ∙ windows_both (here ++ kids) floats done
 
 pub spaces_both : (vs ws : List SpaceFact) (done : List (ℕ × SpaceFact)) → put_spaces ws (put_spaces vs done) ≡ put_spaces (vs ++ ws) done
 spaces_both [] ws done = refl

@@ -5,6 +5,7 @@ use Rattle.std.specs.Option.{option_or}
 use Rattle.std.specs.Ordering.{nat_cmp}
 use Rattle.wm_base.specs.declared.ids.ConId.{ConId}
 use Rattle.wm_changes.specs.declared.standing.Standing.{Standing}
+use Rattle.wm_changes.specs.Differing.{last_of, listed}
 use Rattle.wm_changes.specs.FactLaws.{IsFound, StandsAt}
 use Rattle.wm_forest.specs.Change.{is_window_kind}
 use Rattle.wm_changes.specs.Facts.{WindowFact, float_standing, kid_standing, put_windows, top, window_by, window_here, windows, windows_in}
@@ -23,16 +24,11 @@ use Rattle.wm_forest.specs.Spot.{spot_below, spot_in, spot_of}
 use Rattle.wm_forest.specs.Spot as spots
 use Rattle.wm_tree.specs.Sound.{IsSound}
 use Rattle.wm_tree.specs.TreeValue.{TreeValue, spot}
-use Rattle.wm_views.proofs.MapLemmas.{find_insert, or_none}
+use Rattle.wm_views.proofs.MapLemmas.{find_insert, or_assoc, or_none}
 use Rattle.wm_views.specs.Maps.{value_at}
 
--- the last window of a list with this id
-abbrev last_of : ConId → List WindowFact → Option WindowFact
-last_of c [] = None
-last_of c (w ∷ ww) = option_or (last_of c ww) (cond (same w.part.id c) (Some w) None)
-
--- that is what is found of all that were put in, or else what was there
-put_last : (c : ConId) (ww : List WindowFact) (done : List (ℕ × WindowFact)) → value_at (put_windows ww done) c ≡ option_or (last_of c ww) (value_at done c)
+-- the last window of a list with an id is what is found of all that were put in, or else what was there
+pub put_last : (c : ConId) (ww : List WindowFact) (done : List (ℕ × WindowFact)) → value_at (put_windows ww done) c ≡ option_or (last_of c ww) (value_at done c)
 put_last c [] done = refl
 put_last c (w ∷ ww) done =
     put_last c ww (insert_entry nat_cmp done w.part.id.0 w) ∙ (ap (option_or (last_of c ww)) (find_insert w.part.id c w done) ∙ by_cases (last_of c ww) (same w.part.id c) (value_at done c))
@@ -42,7 +38,7 @@ put_last c (w ∷ ww) done =
     by_cases None true was = refl
     by_cases None false was = refl
 
-last_append : (c : ConId) (xs ys : List WindowFact) → last_of c (xs ++ ys) ≡ option_or (last_of c ys) (last_of c xs)
+pub last_append : (c : ConId) (xs ys : List WindowFact) → last_of c (xs ++ ys) ≡ option_or (last_of c ys) (last_of c xs)
 last_append c [] ys = or_none (last_of c ys)
 last_append c (x ∷ xs) ys = ap (λ o. option_or o (cond (same x.part.id c) (Some x) None)) (last_append c xs ys) ∙ regroup (last_of c ys) (last_of c xs) (cond (same x.part.id c) (Some x) None)
   where
@@ -50,10 +46,45 @@ last_append c (x ∷ xs) ys = ap (λ o. option_or o (cond (same x.part.id c) (So
     regroup (Some y) p q = refl
     regroup None p q = refl
 
+-- that of three lists is that of the last one that has it
+pub last_three : (c : ConId) (here kids floats : List WindowFact) → option_or (option_or (last_of c floats) (last_of c kids)) (last_of c here) ≡ last_of c (here ++ kids ++ floats)
+last_three c here kids floats =
+    or_assoc (last_of c floats) (last_of c kids) (last_of c here)
+    ∙ sym (last_append c (here ++ kids) floats ∙ ap (option_or (last_of c floats)) (last_append c here kids))
+
+-- that behind a list comes before what was found so far
+pub last_more : (c : ConId) (here rest : List WindowFact) (found : Option WindowFact) → option_or (last_of c rest) (option_or (last_of c here) found) ≡ option_or (last_of c (here ++ rest)) found
+last_more c here rest found = sym (ap (λ o. option_or o found) (last_append c here rest) ∙ or_assoc (last_of c rest) (last_of c here) found)
+
+-- that of all is what the map has
+pub last_found : (t : TreeValue) (c : ConId) → last_of c (windows_in top t.nodes) ≡ value_at (windows t) c
+last_found t c = or_none (last_of c (windows_in top t.nodes)) ∙ sym (put_last c (windows_in top t.nodes) [])
+
 -- ---- one node
 
+none_listed : (o : Option WindowFact) → listed o ≡ [] → o ≡ None
+none_listed None h = refl
+none_listed (Some w) h = cc
+
+one_listed : (o : Option WindowFact) (w : WindowFact) → listed o ≡ w ∷ [] → o ≡ Some w
+one_listed None w h = cc
+one_listed (Some v) w h = let same : v ≡ w = cc in ap Some same
+
+-- what there is of a node with this id is its window
+pub last_own : (c : ConId) (s : Standing) (part : Part) (kind : NodeKind) (found : Option WindowFact) → same part.id c ≡ true → listed found ≡ window_here s part (con_kind kind)
+    → found ≡ last_of c (window_here s part (con_kind kind))
+last_own c s part (Root d) found h is = none_listed found is
+last_own c s part (Output o) found h is = none_listed found is
+last_own c s part (Space w) found h is = none_listed found is
+last_own c s part (Con k) found h is = by_kind k.kind is
+  where
+    by_kind : (kind : ConKind) → listed found ≡ window_by s part k kind → found ≡ last_of c (window_by s part k kind)
+    by_kind (Split layout last) is = none_listed found is
+    by_kind (Window props owner natural) is = rw (h) (one_listed found (record { part = part; state = k; standing = s }) is)
+    by_kind (Placeholder props swallows) is = none_listed found is
+
 -- a node of another id is not found
-other_here : (c : ConId) (s : Standing) (part : Part) (kind : NodeKind) → same part.id c ≡ false → last_of c (window_here s part (con_kind kind)) ≡ None
+pub other_here : (c : ConId) (s : Standing) (part : Part) (kind : NodeKind) → same part.id c ≡ false → last_of c (window_here s part (con_kind kind)) ≡ None
 other_here c s part (Root d) h = refl
 other_here c s part (Output o) h = refl
 other_here c s part (Space w) h = refl
@@ -179,4 +210,4 @@ found_in c s p (con part kids floats rest) once at =
 
 -- each window of a sound tree is found, as it is and where it stands, and nothing else is
 pub windows_found : (t : TreeValue) (c : ConId) → IsSound t → IsFound (value_at (windows t) c) (kind_of con_kind c t.nodes) (spot t c)
-windows_found t c sound = rw (put_last c (windows_in top t.nodes) [], ← or_none (last_of c (windows_in top t.nodes))) (found_in c top spots.top t.nodes (sound.once c) (refl, refl, refl))
+windows_found t c sound = rw (← last_found t c) (found_in c top spots.top t.nodes (sound.once c) (refl, refl, refl))

@@ -1,9 +1,10 @@
 pub mod CameLemmas
+pub mod DifferingLemmas
 pub mod EntryLemmas
 pub mod FactLemmas
 pub mod FewLemmas
 pub mod FoundLemmas
 pub mod FoundSpaceLemmas
-pub mod SameLemmas
+pub mod RowLemmas
 pub mod StillLemmas
 pub mod ToldLemmas

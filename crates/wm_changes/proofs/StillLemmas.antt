@@ -100,7 +100,7 @@ windows_still t a (e ∷ es) found keyed =
     rw (window_found t (value_at (windows t) e.1.part.id) e.1 _ here) (windows_still t a es found.1 keyed.1)
 
 -- a window that is there is not gone
-gone_not : {V : Type 0} (m : List (ℕ × V)) (c : ConId) (v : V) (event : Change → EventBody) (change : Change) → value_at m c ≡ Some v → told event ((not (holds m c), change) ∷ []) ≡ []
+pub gone_not : {V : Type 0} (m : List (ℕ × V)) (c : ConId) (v : V) (event : Change → EventBody) (change : Change) → value_at m c ≡ Some v → told event ((not (holds m c), change) ∷ []) ≡ []
 gone_not m c v event change is = rw (ap is_some is) refl
 
 closed_still : (t : TreeValue) (a : List Placed) (es : List (ℕ × WindowFact)) → Found (windows t) es → Keyed (λ w. w.part.id.0) es → flat_map (close_line t a t) (values_of es) ≡ []
@@ -109,11 +109,11 @@ closed_still t a (e ∷ es) found keyed =
     let here : value_at (windows t) e.1.part.id ≡ Some e.1 = ap (λ n. lookup (is_at (nat_cmp n)) (windows t)) (sym keyed.0) ∙ found.0 in
     rw (gone_not (windows t) e.1.part.id e.1 _ Close here) (closed_still t a es found.1 keyed.1)
 
-sorted_put : (ws : List WindowFact) (done : List (ℕ × WindowFact)) → IsStrictlySortedBy nat_cmp (keys_of done) → IsStrictlySortedBy nat_cmp (keys_of (put_windows ws done))
+pub sorted_put : (ws : List WindowFact) (done : List (ℕ × WindowFact)) → IsStrictlySortedBy nat_cmp (keys_of done) → IsStrictlySortedBy nat_cmp (keys_of (put_windows ws done))
 sorted_put [] done h = h
 sorted_put (w ∷ ws) done h = sorted_put ws (insert_entry nat_cmp done w.part.id.0 w) (sorted_insert w.part.id.0 w done h)
 
-sorted_windows : (ws : List WindowFact) → IsStrictlySortedBy nat_cmp (keys_of (put_windows ws []))
+pub sorted_windows : (ws : List WindowFact) → IsStrictlySortedBy nat_cmp (keys_of (put_windows ws []))
 unfolding IsStrictlySortedBy
 sorted_windows ws = sorted_put ws [] tt
 
@@ -178,7 +178,7 @@ gone_still t a =
     rw (closed_still t a (windows t) windows_there windows_keyed, emptied_still t a (spaces t) spaces_there spaces_keyed) refl
 
 -- of trees with the same nodes and the same urgent windows only what is focused is told
-pub only_focus : (t u : TreeValue) (a b : List Placed) → t.nodes ≡ u.nodes → t.urgent ≡ u.urgent → changes t a u b ≡ focus_events t a u b
+only_focus : (t u : TreeValue) (a b : List Placed) → t.nodes ≡ u.nodes → t.urgent ≡ u.urgent → changes t a u b ≡ focus_events t a u b
 only_focus t u a b nodes urgent =
     let here : here_events t u b ≡ [] =
     ap (λ n. here_events (record t { nodes = n }) u b) nodes

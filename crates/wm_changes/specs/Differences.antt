@@ -1,5 +1,5 @@
 -- What differs in a window or in a workspace from what it was, and the words for it.
-use Rattle.std.specs.Prelude.{ℕ, Bool, true, false, ◌&&◌, not, List, [], ◌∷◌, Option, None, Some, codes}
+use Rattle.std.specs.Prelude.{ℕ, Bool, true, false, ◌&&◌, ◌||◌, not, List, [], ◌∷◌, Option, None, Some, codes}
 use Rattle.std.specs.Cmp.Lexicographic.{pointwise}
 use Rattle.std.specs.Str.{bytes_eq}
 use Rattle.wm_base.specs.declared.ids.ConId.{ConId}
@@ -55,6 +55,10 @@ is_urged t u c = not (same_flag (lists c t.urgent) (lists c u.urgent))
 -- it has other marks
 abbrev pub is_marked : WindowFact → WindowFact → Bool
 is_marked v w = not (pointwise bytes_eq v.part.marks w.part.marks)
+
+-- something differs in it
+abbrev pub differs : TreeValue → TreeValue → WindowFact → WindowFact → Bool
+differs t u v w = is_filled v w || is_floated v w || is_moved v w || is_urged t u w.part.id || is_marked v w || is_retitled v w
 
 -- ---- words
 

@@ -1,5 +1,6 @@
 pub mod Changes
 pub mod Differences
+pub mod Differing
 pub mod FactCode
 pub mod FactLaws
 pub mod Facts

@@ -1,14 +1,15 @@
 //! The events of two trees.
 ghost use Rattle.std.specs.Prelude.{◌≡◌, ◌++◌, IfOk, OnOk};
 ghost use Rattle.wm_changes.specs.Changes.{changes, gone_events, here_events, output_events};
+ghost use Rattle.wm_changes.specs.Differing.{IsDiffering};
 ghost use Rattle.wm_changes.specs.Scene.{IsScene};
 ghost use Rattle.wm_tree.specs.Sound.{IsSound};
 
+use crate::differing::{Differing, differing_windows};
+use crate::focusing::tell_focus;
 use crate::lines::{tell_closed, tell_emptied, tell_spaces, tell_windows};
 use crate::outputs::outputs_differ;
-use crate::refocusing::{focus_changes, tell_focus};
 use crate::scene::Scene;
-use crate::still::are_still;
 use crate::viewer::Viewer;
 use std::alloc::Global;
 use wm_arrange::Arrangement;
@@ -28,9 +29,6 @@ pub fn changes(
     requires after { IsSound after.now }
     ensures { IfOk result (λ events. events.items ≡ changes before.now a.now.parts after.now b.now.parts) }
 {
-    if are_still(before, after) {
-        return focus_changes(alloc, before, a, after, b);
-    }
     match Scene::new(alloc, before) {
         Ok(old) => changes_from(alloc, &old, a, after, b),
         Err(error) => Err(error),
@@ -125,9 +123,10 @@ fn tell_changes(
     requires new_tree { after.old.tree ≡ new.now.tree.now }
     ensures { OnOk result (events.new.items ≡ events.old.items ++ changes old.now.tree.now before.old.parts new.now.tree.now after.old.parts) }
 {
-    tell_here(events, alloc, after, old, new)?;
-    tell_gone(events, alloc, before, old, new)?;
-    tell_focus(events, alloc, before, after, old.tree, &old.spaces, new)
+    let found = differing_windows(alloc, old, new)?;
+    tell_here(events, alloc, after, old, new, &found)?;
+    tell_gone(events, alloc, before, old, new, &found)?;
+    tell_focus(events, alloc, before, after, old, new)
 }
 
 /// Tells of outputs, workspaces and windows that are new or differ.
@@ -137,16 +136,18 @@ fn tell_here(
     viewer: &mut Viewer<'_>,
     old: &Scene<'_>,
     new: &Scene<'_>,
+    found: &Differing<'_, '_>,
 ) -> Result<(), NoMemory>
     requires old { IsScene old.now }
     requires new { IsScene new.now }
+    requires found { IsDiffering old.now.tree.now new.now.tree.now found.now }
     requires tree { viewer.old.tree ≡ new.now.tree.now }
     ensures events { OnOk result (events.new.items ≡ events.old.items ++ here_events old.now.tree.now new.now.tree.now viewer.old.parts) }
     ensures viewer { viewer.new ≡ viewer.old }
 {
     tell_outputs(events, old.tree, new.tree)?;
     tell_spaces(events, alloc, viewer, old, new)?;
-    tell_windows(events, alloc, viewer, old, new)
+    tell_windows(events, alloc, viewer, old, new, found)
 }
 
 /// Tells of windows and of workspaces that are gone.
@@ -156,14 +157,16 @@ fn tell_gone(
     viewer: &mut Viewer<'_>,
     old: &Scene<'_>,
     new: &Scene<'_>,
+    found: &Differing<'_, '_>,
 ) -> Result<(), NoMemory>
     requires old { IsScene old.now }
     requires new { IsScene new.now }
+    requires found { IsDiffering old.now.tree.now new.now.tree.now found.now }
     requires tree { viewer.old.tree ≡ old.now.tree.now }
     ensures events { OnOk result (events.new.items ≡ events.old.items ++ gone_events old.now.tree.now viewer.old.parts new.now.tree.now) }
     ensures viewer { viewer.new ≡ viewer.old }
 {
-    tell_closed(events, alloc, viewer, old, new)?;
+    tell_closed(events, alloc, viewer, old.tree, new.tree, found)?;
     tell_emptied(events, alloc, viewer, old, new)
 }
 

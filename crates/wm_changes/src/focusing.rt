@@ -1,46 +1,64 @@
 //! The events of what is focused.
 ghost use Rattle.std.specs.Prelude.{◌≡◌, ◌++◌, Some, IfOk, OnOk};
 ghost use Rattle.std.specs.Option.{option_copied, option_map};
-ghost use Rattle.wm_changes.specs.Changes.{focus_event, space_focus, space_view, window_focus};
-ghost use Rattle.wm_changes.specs.Facts.{spaces};
+ghost use Rattle.wm_changes.specs.Changes.{focus_event, focus_events, space_focus, space_view, window_focus};
 ghost use Rattle.wm_changes.specs.Scene.{IsScene};
+ghost use Rattle.wm_tree.specs.Sound.{IsSound};
 
 use crate::scene::Scene;
 use crate::spaces::Site;
 use crate::telling::tell_window;
 use crate::viewer::Viewer;
+use crate::windows::window_at;
 use crate::words::Change;
 use std::alloc::Global;
-use std::collections::BTreeMap;
 use wm_base::NoMemory;
 use wm_json::{EventBody, NodeView};
 use wm_tree::Tree;
 
-/// Tells of the focused workspace, where it is another one, with the one that was focused as it was.
-pub fn tell_space_focus(
+/// Tells of what is focused.
+pub fn tell_focus(
     events: &mut Vec<EventBody>,
     alloc: Global,
     old: &mut Viewer<'_>,
     new: &mut Viewer<'_>,
-    before: &Tree,
-    sites: &BTreeMap<u32, Site<'_>>,
+    before: &Scene<'_>,
     after: &Scene<'_>,
 ) -> Result<(), NoMemory>
-    requires before { sites.now.entries ≡ spaces before.now }
+    requires before { IsScene before.now }
     requires after { IsScene after.now }
-    requires old_tree { old.old.tree ≡ before.now }
+    requires old_tree { old.old.tree ≡ before.now.tree.now }
     requires new_tree { new.old.tree ≡ after.now.tree.now }
-    ensures events { OnOk result (events.new.items ≡ events.old.items ++ space_focus before.now old.old.parts after.now.tree.now new.old.parts) }
+    ensures { OnOk result (events.new.items ≡ events.old.items ++ focus_events before.now.tree.now old.old.parts after.now.tree.now new.old.parts) }
+{
+    tell_space_focus(events, alloc, old, new, before, after)?;
+    tell_window_focus(events, alloc, new, before.tree, after.tree)
+}
+
+/// Tells of the focused workspace, where it is another one, with the one that was focused as it was.
+fn tell_space_focus(
+    events: &mut Vec<EventBody>,
+    alloc: Global,
+    old: &mut Viewer<'_>,
+    new: &mut Viewer<'_>,
+    before: &Scene<'_>,
+    after: &Scene<'_>,
+) -> Result<(), NoMemory>
+    requires before { IsScene before.now }
+    requires after { IsScene after.now }
+    requires old_tree { old.old.tree ≡ before.now.tree.now }
+    requires new_tree { new.old.tree ≡ after.now.tree.now }
+    ensures events { OnOk result (events.new.items ≡ events.old.items ++ space_focus before.now.tree.now old.old.parts after.now.tree.now new.old.parts) }
     ensures viewer { new.new ≡ new.old }
 {
-    let left = before.shown();
+    let left = before.tree.shown();
     let shown = after.tree.shown();
     if left == shown {
         return Ok(());
     }
     match after.spaces.get(&shown.0) {
         None => Ok(()),
-        Some(site) => tell_focused(events, alloc, old, new, sites.get(&left.0), site),
+        Some(site) => tell_focused(events, alloc, old, new, before.spaces.get(&left.0), site),
     }
 }
 
@@ -125,23 +143,23 @@ fn push_views(
 }
 
 /// Tells of the focused container, where it is another one, and a window.
-pub fn tell_window_focus(
+fn tell_window_focus(
     events: &mut Vec<EventBody>,
     alloc: Global,
     viewer: &mut Viewer<'_>,
     before: &Tree,
-    after: &Scene<'_>,
+    after: &Tree,
 ) -> Result<(), NoMemory>
-    requires after { IsScene after.now }
-    requires tree { viewer.old.tree ≡ after.now.tree.now }
-    ensures { OnOk result (events.new.items ≡ events.old.items ++ window_focus before.now after.now.tree.now viewer.old.parts) }
+    requires after { IsSound after.now }
+    requires tree { viewer.old.tree ≡ after.now }
+    ensures { OnOk result (events.new.items ≡ events.old.items ++ window_focus before.now after.now viewer.old.parts) }
 {
-    let focused = after.tree.focused();
+    let focused = after.focused();
     if before.focused() == focused {
         return Ok(());
     }
-    match after.windows.get(&focused.0) {
+    match window_at(after, focused) {
         None => Ok(()),
-        Some(window) => tell_window(events, alloc, viewer, window, &[(true, Change::Focus)]),
+        Some(window) => tell_window(events, alloc, viewer, &window, &[(true, Change::Focus)]),
     }
 }

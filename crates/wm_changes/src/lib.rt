@@ -3,15 +3,14 @@
 
 mod changing;
 mod comparing;
+mod differing;
 mod focusing;
 mod laws;
 mod lines;
 mod outputs;
-mod refocusing;
 mod scene;
 mod spaces;
 mod standing;
-mod still;
 mod telling;
 mod viewer;
 mod windows;

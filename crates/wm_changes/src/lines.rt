@@ -3,11 +3,13 @@ ghost use Rattle.std.specs.Prelude.{◌≡◌, ◌++◌, OnOk, flat_map};
 ghost use Rattle.std.specs.BTreeMap.{values};
 ghost use Rattle.std.specs.Map.{values_of};
 ghost use Rattle.wm_changes.specs.Changes.{close_line, empty_line, space_line, told, window_event, window_line, window_view};
-ghost use Rattle.wm_changes.specs.Differences.{differences, is_urged};
+ghost use Rattle.wm_changes.specs.Differences.{differences};
+ghost use Rattle.wm_changes.specs.Differing.{IsDiffering, here_line, lost_line};
 ghost use Rattle.wm_changes.specs.Facts.{spaces, windows};
 ghost use Rattle.wm_changes.specs.Scene.{IsScene};
 
-use crate::comparing::{is_filled, is_floated, is_marked, is_moved, is_retitled, same_flag};
+use crate::comparing::{is_filled, is_floated, is_marked, is_moved, is_retitled};
+use crate::differing::{Differing, is_urged};
 use crate::scene::Scene;
 use crate::spaces::Site;
 use crate::telling::{tell_space, tell_window};
@@ -15,8 +17,9 @@ use crate::viewer::Viewer;
 use crate::windows::Found;
 use crate::words::Change;
 use std::alloc::Global;
-use wm_base::{ConId, NoMemory};
+use wm_base::NoMemory;
 use wm_json::EventBody;
+use wm_tree::Tree;
 
 /// Tells of the workspaces that are new, or have another name or output.
 #[tactic(auto, using(crate::proofs::ToldLemmas::lines_more))]
@@ -63,22 +66,43 @@ fn tell_site(
 }
 
 /// Tells of the windows that are new, or differ from what they were.
-#[tactic(auto, using(crate::proofs::ToldLemmas::lines_more))]
+#[tactic(auto, using(crate::proofs::DifferingLemmas::here_lines))]
 pub fn tell_windows(
     events: &mut Vec<EventBody>,
     alloc: Global,
     viewer: &mut Viewer<'_>,
     before: &Scene<'_>,
     after: &Scene<'_>,
+    found: &Differing<'_, '_>,
 ) -> Result<(), NoMemory>
     requires before { IsScene before.now }
     requires after { IsScene after.now }
+    requires found { IsDiffering before.now.tree.now after.now.tree.now found.now }
     requires tree { viewer.old.tree ≡ after.now.tree.now }
     ensures events { OnOk result (events.new.items ≡ events.old.items ++ flat_map (window_line before.now.tree.now after.now.tree.now viewer.old.parts) (values_of (windows after.now.tree.now))) }
     ensures viewer { viewer.new ≡ viewer.old }
 {
-    for window in after.windows.values() {
-        tell_found(events, alloc, viewer, before, after, window)?;
+    tell_differing(events, alloc, viewer, before, after, found)
+}
+
+/// Tells of the windows that may differ, each where it is new, or differs from what it was.
+#[tactic(auto, using(crate::proofs::ToldLemmas::lines_more))]
+fn tell_differing(
+    events: &mut Vec<EventBody>,
+    alloc: Global,
+    viewer: &mut Viewer<'_>,
+    before: &Scene<'_>,
+    after: &Scene<'_>,
+    found: &Differing<'_, '_>,
+) -> Result<(), NoMemory>
+    requires before { IsScene before.now }
+    requires after { IsScene after.now }
+    requires tree { viewer.old.tree ≡ after.now.tree.now }
+    ensures events { OnOk result (events.new.items ≡ events.old.items ++ flat_map (here_line before.now.tree.now after.now.tree.now viewer.old.parts found.now.before.entries) (values_of found.now.after.entries)) }
+    ensures viewer { viewer.new ≡ viewer.old }
+{
+    for window in found.after.values() {
+        tell_found(events, alloc, viewer, before, after, found, window)?;
     }
     Ok(())
 }
@@ -90,15 +114,16 @@ fn tell_found(
     viewer: &mut Viewer<'_>,
     before: &Scene<'_>,
     after: &Scene<'_>,
+    found: &Differing<'_, '_>,
     window: &Found<'_>,
 ) -> Result<(), NoMemory>
     requires before { IsScene before.now }
     requires after { IsScene after.now }
     requires tree { viewer.old.tree ≡ after.now.tree.now }
-    ensures events { OnOk result (events.new.items ≡ events.old.items ++ window_line before.now.tree.now after.now.tree.now viewer.old.parts window.now) }
+    ensures events { OnOk result (events.new.items ≡ events.old.items ++ here_line before.now.tree.now after.now.tree.now viewer.old.parts found.now.before.entries window.now) }
     ensures viewer { viewer.new ≡ viewer.old }
 {
-    match before.windows.get(&window.part.id.0) {
+    match found.before.get(&window.part.id.0) {
         None => tell_window(events, alloc, viewer, window, &[(true, Change::New)]),
         Some(old) => tell_differences(events, alloc, viewer, before, after, old, window),
     }
@@ -131,31 +156,37 @@ fn tell_differences(
     tell_window(events, alloc, viewer, window, &words)
 }
 
-/// Whether a window is urgent now, or no longer is.
-fn is_urged(before: &Scene<'_>, after: &Scene<'_>, id: ConId) -> bool
-    requires before { IsScene before.now }
-    requires after { IsScene after.now }
-    ensures { result ≡ is_urged before.now.tree.now after.now.tree.now id }
-{
-    !same_flag(before.is_urgent(id), after.is_urgent(id))
-}
-
 /// Tells of the windows that are gone.
-#[tactic(auto, using(crate::proofs::ToldLemmas::lines_more))]
+#[tactic(auto, using(crate::proofs::DifferingLemmas::gone_lines))]
 pub fn tell_closed(
     events: &mut Vec<EventBody>,
     alloc: Global,
     viewer: &mut Viewer<'_>,
-    before: &Scene<'_>,
-    after: &Scene<'_>,
+    before: &Tree,
+    after: &Tree,
+    found: &Differing<'_, '_>,
 ) -> Result<(), NoMemory>
-    requires before { IsScene before.now }
-    requires after { IsScene after.now }
-    ensures events { OnOk result (events.new.items ≡ events.old.items ++ flat_map (close_line viewer.old.tree viewer.old.parts after.now.tree.now) (values_of (windows before.now.tree.now))) }
+    requires found { IsDiffering before.now after.now found.now }
+    requires tree { viewer.old.tree ≡ before.now }
+    ensures events { OnOk result (events.new.items ≡ events.old.items ++ flat_map (close_line before.now viewer.old.parts after.now) (values_of (windows before.now))) }
     ensures viewer { viewer.new ≡ viewer.old }
 {
-    for window in before.windows.values() {
-        let gone = after.windows.get(&window.part.id.0).is_none();
+    tell_lost(events, alloc, viewer, found)
+}
+
+/// Tells of the windows that may differ, each where it is gone.
+#[tactic(auto, using(crate::proofs::ToldLemmas::lines_more))]
+fn tell_lost(
+    events: &mut Vec<EventBody>,
+    alloc: Global,
+    viewer: &mut Viewer<'_>,
+    found: &Differing<'_, '_>,
+) -> Result<(), NoMemory>
+    ensures events { OnOk result (events.new.items ≡ events.old.items ++ flat_map (lost_line viewer.old.tree viewer.old.parts found.now.after.entries) (values_of found.now.before.entries)) }
+    ensures viewer { viewer.new ≡ viewer.old }
+{
+    for window in found.before.values() {
+        let gone = found.after.get(&window.part.id.0).is_none();
         tell_window(events, alloc, viewer, window, &[(gone, Change::Close)])?;
     }
     Ok(())

@@ -1,11 +1,10 @@
-//! A tree, and the windows and workspaces that were found in it.
+//! A tree, and the workspaces and urgent windows that were found in it.
 ghost use Rattle.std.specs.Prelude.{◌≡◌, IfOk};
 ghost use Rattle.wm_changes.specs.Scene.{IsScene};
 ghost use Rattle.wm_forest.specs.Recency.{lists};
 ghost use Rattle.wm_tree.specs.Sound.{IsSound};
 
 use crate::spaces::{Site, spaces};
-use crate::windows::{Found, windows};
 use std::alloc::Global;
 use std::collections::BTreeMap;
 use wm_arrange::id_set;
@@ -13,11 +12,10 @@ use wm_base::{ConId, NoMemory};
 use wm_ids::IdMap;
 use wm_tree::Tree;
 
-/// A tree with its windows and its workspaces, each under its id, and the ids of its urgent windows.
+/// A tree with its workspaces, each under its id, and the ids of its urgent windows.
 #[derive(Drop)]
 pub struct Scene<'a> {
     pub tree: &'a Tree,
-    pub windows: BTreeMap<u32, Found<'a>>,
     pub spaces: BTreeMap<u32, Site<'a>>,
     pub urgent: IdMap<()>,
 }
@@ -30,11 +28,9 @@ impl<'a> Scene<'a> {
         ensures tree { IfOk result (λ scene. scene.tree.now ≡ tree.now) }
     {
         let urgent = id_set(alloc, tree.urgent_ids())?;
-        let windows = windows(alloc, tree)?;
         let spaces = spaces(alloc, tree)?;
         Ok(Scene {
             tree,
-            windows,
             spaces,
             urgent,
         })
