@@ -81,8 +81,14 @@ held_in c s (con part kids floats rest) =
     let beside : List WindowFact = windows_in (float_standing s part) floats in
     let behind : List WindowFact = windows_in s rest in
     omega (
-      arith, held_append c (here ++ below ++ beside) behind, held_append c (here ++ below) beside, held_append c here below,
-      held_here c s part part.kind, held_in c (kid_standing s part kids) kids, held_in c (float_standing s part) floats, held_in c s rest,
+      arith,
+      held_append c (here ++ below ++ beside) behind,
+      held_append c (here ++ below) beside,
+      held_append c here below,
+      held_here c s part part.kind,
+      held_in c (kid_standing s part kids) kids,
+      held_in c (float_standing s part) floats,
+      held_in c s rest,
     )
 
 -- the last one with an id has that id
@@ -160,7 +166,8 @@ module _ (t u : TreeValue) (vs ws vs' ws' : List WindowFact) (c : ConId) (once :
       let no_v : last_of c vs' ≡ None = one_then_none vs vs' once some.0 in
       let no_w : last_of c ws' ≡ None = one_then_none ws ws' twice some.1 in
       inr (
-        next.0 ∙ ap (λ o. option_or o x') no_v ∙ first.0, next.1 ∙ ap (λ o. option_or o y') no_w ∙ first.1,
+        next.0 ∙ ap (λ o. option_or o x') no_v ∙ first.0,
+        next.1 ∙ ap (λ o. option_or o y') no_w ∙ first.1,
         rw (first_only vs vs' no_v, first_only ws ws' no_w) first.2,
       )
   put_then x y x' y' x'' y'' (inl first) (inr next) =
@@ -168,7 +175,8 @@ module _ (t u : TreeValue) (vs ws vs' ws' : List WindowFact) (c : ConId) (once :
       let no_v : last_of c vs ≡ None = none_then_one vs vs' once some.0 in
       let no_w : last_of c ws ≡ None = none_then_one ws ws' twice some.1 in
       inr (
-        next.0 ∙ first.0 ∙ ap (λ o. option_or o x) no_v, next.1 ∙ first.1 ∙ ap (λ o. option_or o y) no_w,
+        next.0 ∙ first.0 ∙ ap (λ o. option_or o x) no_v,
+        next.1 ∙ first.1 ∙ ap (λ o. option_or o y) no_w,
         rw (second_only vs vs' no_v, second_only ws ws' no_w) next.2,
       )
   put_then x y x' y' x'' y'' (inr first) (inr next) =

@@ -63,10 +63,7 @@ pub fn put<'a>(
 
 /// Puts in the windows of a row and of what is below it, in the order in which they stand.
 #[cycle(gather)]
-pub fn gather<'a>(
-    map: &mut BTreeMap<u32, Found<'a>>,
-    row: StandingRow<'a>,
-) -> Result<(), NoMemory>
+pub fn gather<'a>(map: &mut BTreeMap<u32, Found<'a>>, row: StandingRow<'a>) -> Result<(), NoMemory>
     requires { IsNarrow row.row }
     ensures { OnOk result (map.new.entries ≡ put_windows (row_windows row.entry) map.old.entries) }
 {

@@ -21,8 +21,8 @@ gather_both-loop-a-preserved-in_ok-gather_pair t c =
       put = λ d rest.
           kept.put d
           (
-            rw (behind_windows c.loop-a.left c.rest-left.result c.in-Some-Some.a a c.rest-left.ensures, behind_windows c.loop-a.right c.rest-right.result c.in-Some-Some.b b c.rest-right.ensures)
-            (put_both _ _ (node_windows c.in-Some-Some.a) (node_windows c.in-Some-Some.b) (row_windows c.rest-left.result) (row_windows c.rest-right.result) c.loop-a.found c.gather_pair.new.found d c.in_ok-gather_pair.ensures rest)
+          rw (behind_windows c.loop-a.left c.rest-left.result c.in-Some-Some.a a c.rest-left.ensures, behind_windows c.loop-a.right c.rest-right.result c.in-Some-Some.b b c.rest-right.ensures)
+          (put_both _ _ (node_windows c.in-Some-Some.a) (node_windows c.in-Some-Some.b) (row_windows c.rest-left.result) (row_windows c.rest-right.result) c.loop-a.found c.gather_pair.new.found d c.in_ok-gather_pair.ensures rest)
           );
     }
 
@@ -43,11 +43,11 @@ gather_both-loop-a-preserved-in_ok-gather_node t c =
       put = λ d rest.
           kept.put d
           (
-            rw (behind_windows c.loop-a.left left c.in-Some-Some.a a behind)
-            (
-              put_both _ _ (node_windows c.in-Some-Some.a) [] (row_windows left) (row_windows c.loop-a.right) c.loop-a.found next d
-              (put_two _ _ (node_windows c.in-Some-Some.a) [] c.loop-a.found next c.in_ok-gather_node.ensures refl) rest
-            )
+          rw (behind_windows c.loop-a.left left c.in-Some-Some.a a behind)
+          (
+          put_both _ _ (node_windows c.in-Some-Some.a) [] (row_windows left) (row_windows c.loop-a.right) c.loop-a.found next d
+          (put_two _ _ (node_windows c.in-Some-Some.a) [] c.loop-a.found next c.in_ok-gather_node.ensures refl) rest
+          )
           );
     }
 
@@ -68,11 +68,11 @@ gather_both-loop-a-preserved t c =
       put = λ d rest.
           kept.put d
           (
-            rw (behind_windows c.loop-a.right right c.in-Some-Some.b b behind)
-            (
-              put_both _ _ [] (node_windows c.in-Some-Some.b) (row_windows c.loop-a.left) (row_windows right) c.loop-a.found next d
-              (put_two _ _ [] (node_windows c.in-Some-Some.b) c.loop-a.found next refl c.in_ok-gather_node-2.ensures) rest
-            )
+          rw (behind_windows c.loop-a.right right c.in-Some-Some.b b behind)
+          (
+          put_both _ _ [] (node_windows c.in-Some-Some.b) (row_windows c.loop-a.left) (row_windows right) c.loop-a.found next d
+          (put_two _ _ [] (node_windows c.in-Some-Some.b) c.loop-a.found next refl c.in_ok-gather_node-2.ensures) rest
+          )
           );
     }
 
@@ -89,7 +89,7 @@ gather_pair-returns t c =
     (λ floats.
     rw (← c.window-was.ensures, ← c.window-is.ensures)
     (
-      put_both _ _ _ _ _ _ c.args.found.now c.gather_both.new.found c.gather_both-2.new.found
-      (put_both _ _ _ _ _ _ c.args.found.now c.put_pair.new.found c.gather_both.new.found c.in_ok-put_pair.ensures (rw (c.below-old_kids.ensures.kids, c.below-new_kids.ensures.kids) at c.in_ok-gather_both.ensures))
-      (rw (c.below-old_kids.ensures.floats, c.below-new_kids.ensures.floats) at floats)
+    put_both _ _ _ _ _ _ c.args.found.now c.gather_both.new.found c.gather_both-2.new.found
+    (put_both _ _ _ _ _ _ c.args.found.now c.put_pair.new.found c.gather_both.new.found c.in_ok-put_pair.ensures (rw (c.below-old_kids.ensures.kids, c.below-new_kids.ensures.kids) at c.in_ok-gather_both.ensures))
+    (rw (c.below-old_kids.ensures.floats, c.below-new_kids.ensures.floats) at floats)
     ))
