@@ -68,7 +68,8 @@ impl Tree {
             }
         };
         let id = ConId(self.next_id);
-        let cell = new.cell(self.alloc, id, share, self.border, at.rect())?;
+        let mut cell = new.cell(self.alloc, id, share, self.border, at.rect())?;
+        self.share_texts(&mut cell.part);
         Ok(Row { first: Some(cell) })
     }
 

@@ -16,6 +16,7 @@ mod outputs;
 mod recent;
 mod refusal;
 mod sets;
+mod sharing;
 mod spaces;
 mod standing;
 mod start;

@@ -119,7 +119,8 @@ impl Tree {
         self.recency.reserve(1)?;
         let id = ConId(self.next_id);
         let new = NewCon::Split { layout };
-        let split = new.cell(self.alloc, id, share, self.border, None)?;
+        let mut split = new.cell(self.alloc, id, share, self.border, None)?;
+        self.share_texts(&mut split.part);
         drop(self.nodes.change(con, Wrap(split)));
         self.recency.push_reserved(id);
         self.next_id += 1;
