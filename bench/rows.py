@@ -82,8 +82,9 @@ TABLES = {
 
 
 def count_over(size):
-    """How many commands make a round over so many windows: an even number, since commands come in pairs."""
-    return max(2, min(600, 12000 // size // 2 * 2))
+    """How many commands make a round over so many windows: an even number, since commands come in pairs, and at least so many that it
+    counts little what the first of them finds out of the caches, since others ran before."""
+    return max(20, min(3000, 60000 // size // 2 * 2))
 
 
 def script(begin, kinds, size):

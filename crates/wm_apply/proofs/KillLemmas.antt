@@ -3,12 +3,14 @@ use Rattle.std.proofs.Common.{◌≡◌, Bool, true, false, cond, ◌||◌, List
 use Rattle.std.specs.Option.{option_or}
 use Rattle.std.specs.Prelude.{is_some}
 use Rattle.wm_base.specs.declared.ids.ConId.{ConId}
-use Rattle.wm_apply.specs.Kills.{asked_of, con_windows, row_at}
+use Rattle.wm_apply.specs.Kills.{asked_from, asked_of, begins_space, row_at, windows_from}
 use Rattle.wm_forest.specs.declared.part.NodeKind.{NodeKind}
 use Rattle.wm_forest.specs.declared.part.NodeKind.TheVariants.{Root, Output, Space, Con}
 use Rattle.wm_forest.specs.Forest.{Forest, end, con}
 use Rattle.wm_forest.specs.Kinds.{is_con_kind}
-use Rattle.wm_forest.specs.Look.{con_kind, first_part, has, kind_by, only, same}
+use Rattle.wm_forest.specs.Look.{con_kind, first_part, has, kind_by, only, same, space_kind}
+use Rattle.wm_forest.proofs.ForestLemmas.{only_absent}
+use Rattle.wm_shared.specs.Subject.{is_space}
 use Rattle.wm_tree.specs.TreeValue.{TreeValue}
 
 -- the row is there where the node is, and begins with what was found
@@ -34,15 +36,22 @@ con_is (Output o) = refl
 con_is (Space s) = refl
 con_is (Con c) = refl
 
--- a container's windows are those of the row's first node, if that is a container
-pub asked_at : (c : ConId) (t : TreeValue) (row : Forest) → row_at c t.nodes ≡ Some row → asked_of c t ≡ con_windows row
-asked_at c t row e =
-    let same : first_part (only c t.nodes) ≡ first_part row = (rw e at (from c t.nodes)).1 in
-    rw (e, same) refl
-
-pub none_asked : (c : ConId) (t : TreeValue) → row_at c t.nodes ≡ None → asked_of c t ≡ []
-none_asked c t e = rw e (by (is_some (kind_by con_kind (first_part (only c t.nodes)))))
+-- a container's windows are those of the first node of the row from it on, if that is a container
+pub asked_at : (c : ConId) (t : TreeValue) → asked_of c t ≡ asked_from (row_at c t.nodes)
+asked_at c t = by (row_at c t.nodes) (has c t.nodes) (only c t.nodes) (from c t.nodes)
   where
-    by : (b : Bool) → ◌≡◌ {A = List ConId} (cond b [] []) []
-    by true = refl
-    by false = refl
+    none : (b : Bool) → ◌≡◌ {A = List ConId} (cond b [] []) []
+    none true = refl
+    none false = refl
+
+    by : (row : Option Forest) (here : Bool) (found : Forest) → IsFrom row here found → cond (is_some (kind_by con_kind (first_part found))) (windows_from row) [] ≡ asked_from row
+    by None here found h = none (is_some (kind_by con_kind (first_part found)))
+    by (Some row) here found h = rw h.1 refl
+
+-- a workspace is what the row from it on begins with
+pub space_at : (c : ConId) (t : TreeValue) → is_space t c ≡ begins_space (row_at c t.nodes)
+space_at c t = by (row_at c t.nodes) (only c t.nodes) (from c t.nodes) (only_absent c t.nodes)
+  where
+    by : (row : Option Forest) (found : Forest) → IsFrom row (has c t.nodes) found → (has c t.nodes ≡ false → found ≡ end) → is_some (kind_by space_kind (first_part found)) ≡ begins_space row
+    by None found h e = rw (e h) refl
+    by (Some row) found h e = rw h.1 refl

@@ -2,6 +2,8 @@ pub mod AppendLemmas
 pub mod GroupLemmas
 pub mod IdLemmas
 pub mod KillLemmas
+pub mod KillingLemmas
 pub mod OutputLemmas
 pub mod QuietLemmas
+pub mod RowLemmas
 pub mod ThereLemmas

@@ -12,7 +12,7 @@ use Rattle.wm_forest.specs.Change.{is_window_kind}
 use Rattle.wm_forest.specs.declared.part.NodeKind.{NodeKind}
 use Rattle.wm_forest.specs.declared.part.NodeKind.TheVariants.{Root, Output, Space, Con}
 use Rattle.wm_forest.specs.Forest.{Forest, end, con}
-use Rattle.wm_forest.specs.Look.{con_kind, first_part, kind_by, same}
+use Rattle.wm_forest.specs.Look.{con_kind, first_part, kind_by, same, space_kind}
 use Rattle.wm_tree.specs.TreeValue.{TreeValue}
 
 abbrev pub is_kill : Command → Bool
@@ -51,6 +51,16 @@ first_windows (con part kids floats rest) = node_window part.id part.kind ++ (wi
 -- the same where that is a container
 abbrev pub con_windows : Forest → List ConId
 con_windows row = if is_some (kind_by con_kind (first_part row)) then first_windows row else []
+
+-- the same of a row that is there
+abbrev pub asked_from : Option Forest → List ConId
+asked_from None = []
+asked_from (Some row) = con_windows row
+
+-- a row that is there begins with a workspace
+abbrev pub begins_space : Option Forest → Bool
+begins_space None = false
+begins_space (Some row) = is_some (kind_by space_kind (first_part row))
 
 abbrev pub windows_from : Option Forest → List ConId
 windows_from None = []

@@ -1,5 +1,6 @@
 pub mod Batches
 pub mod Commands
+pub mod Finding
 pub mod FloatRows
 pub mod Kills
 pub mod Layouts

@@ -53,7 +53,7 @@ impl Running {
         ensures done { OnOk result (self.new ≡ command_done env.now targets.now command.now self.old) }
         ensures sound { OnOk result (IsSound self.new.tree) }
     {
-        gather_kills(&self.tree, targets, command, &mut self.kills)?;
+        gather_kills(alloc, &self.tree, targets, command, &mut self.kills)?;
         let reply = run_command(alloc, &mut self.tree, env, targets, command)?;
         self.replies.push(reply)?;
         renew(&mut self.mode, mode_set(env, command)?);

@@ -6,13 +6,14 @@ ghost use Rattle.wm_shared.specs.Subject.{IsSubject};
 ghost use Rattle.wm_tree.specs.Sound.{IsSound};
 
 use crate::applied::CommandReply;
-use crate::kills::{ask, ask_each, is_kill};
+use crate::killing::kill_each;
+use crate::kills::{FEW, ask, ask_each, is_kill};
 use crate::modes::is_unknown_mode;
 use crate::rows::{How, run_whole};
 use crate::runs::{is_whole, runs_once};
-use crate::subjects::{run_each, run_one, text_of};
+use crate::subjects::{reply_of, run_each, run_one, text_of};
 use crate::targets::Targets;
-use std::alloc::{AllocError, Global};
+use std::alloc::Global;
 use wm_base::{ConId, ErrorText, NoMemory};
 use wm_language::Command;
 use wm_layouts::Env;
@@ -128,6 +129,9 @@ fn run_matched(
     if is_mark(command) && are_many_there(t, cons) {
         return Ok(CommandReply::Error(ErrorText::ManyMatch));
     }
+    if let (Command::Kill, true) = (command, cons.len() > FEW) {
+        return Ok(reply_of(kill_each(alloc, t, env, cons)?));
+    }
     run_each(alloc, t, env, How::Matched, command, cons)
 }
 
@@ -167,19 +171,20 @@ fn run_focused(
 
 /// Adds the windows that the command asks to close.
 pub fn gather_kills(
+    alloc: Global,
     t: &Tree,
     targets: &Targets,
     command: &Command,
     found: &mut Vec<ConId>,
-) -> Result<(), AllocError>
+) -> Result<(), NoMemory>
     ensures { OnOk result (found.new.items ≡ found.old.items ++ command_kills targets.now command.now t.now) }
 {
     if !is_kill(command) {
         return Ok(());
     }
     match targets {
-        Targets::Matched(cons) => ask_each(t, cons.items(), found),
-        Targets::Handed(con) => ask(t, subject(t, *con), found),
-        Targets::Focused => ask(t, t.focused(), found),
+        Targets::Matched(cons) => ask_each(alloc, t, cons.items(), found),
+        Targets::Handed(con) => Ok(ask(t, subject(t, *con), found)?),
+        Targets::Focused => Ok(ask(t, t.focused(), found)?),
     }
 }

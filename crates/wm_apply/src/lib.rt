@@ -4,7 +4,9 @@
 mod applied;
 mod batches;
 mod commands;
+mod finding;
 mod floats;
+mod killing;
 mod kills;
 mod layouts;
 mod modes;

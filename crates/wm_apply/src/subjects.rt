@@ -65,7 +65,7 @@ fn run_there(
 }
 
 /// The reply to a command with this first error.
-fn reply_of(first: Option<ErrorText>) -> CommandReply
+pub fn reply_of(first: Option<ErrorText>) -> CommandReply
     ensures { result ≡ reply_of first }
 {
     match first {
@@ -94,7 +94,7 @@ pub fn run_one(
 }
 
 /// Does a command to one subject where it is still there: gives the error where it is refused.
-fn run_still(
+pub fn run_still(
     alloc: Global,
     t: &mut Tree,
     env: &Env,

@@ -1,6 +1,6 @@
 use Rattle.std.proofs.Common.{◌≡◌, ◌++◌, length}
 use Rattle.wm_apply.specs.Kills.{asked_each}
-use Rattle.wm_apply.proofs.kills.ask_each.Given as goal
+use Rattle.wm_apply.proofs.kills.ask_few.Given as goal
 
 -- those so far and those of the rest are those of all
 abbrev pub invariant-loop-rest : goal.invariant-loop-rest
