@@ -71,6 +71,7 @@ TABLES = {
         "resize grow, resize shrink": in_turn("resize grow width 1 px", "resize shrink width 1 px"),
         "fullscreen toggle": in_turn("fullscreen toggle"),
         "scratchpad show": in_turn("scratchpad show"),
+        "kill of all": in_turn('[class=""] kill'),
     }),
     "spaces": (spread, [16, 256], {
         "workspace": lambda n, size: "workspace w%d" % (7 * n % size),
