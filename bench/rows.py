@@ -11,7 +11,7 @@ from statistics import median
 sys.dont_write_bytecode = True
 from measure import Rounds, opened_side_by_side
 
-ROUNDS = 30
+ROUNDS = 20
 OUTPUTS = 8
 
 
@@ -85,7 +85,7 @@ TABLES = {
 def count_over(size):
     """How many commands make a round over so many windows: an even number, since commands come in pairs, and at least so many that it
     counts little what the first of them finds out of the caches, since others ran before."""
-    return max(20, min(3000, 60000 // size // 2 * 2))
+    return max(20, min(1500, 60000 // size // 2 * 2))
 
 
 def script(begin, kinds, size):
