@@ -3,7 +3,7 @@
 size is a process of its own, and so is each where a second program is named, which opens its windows once. Then all of them take
 rounds of commands in turn, one running while the others are held still, so that a machine whose speed changes meets all of them
 alike: a ratio is the median of those within a round. What the filler of a round takes is measured behind it and taken off.
-usage: bench/rows.py commands|floats|spaces|tabs I3REPLAY [OTHER_I3REPLAY]
+usage: bench/rows.py commands|own|floats|spaces|tabs I3REPLAY [OTHER_I3REPLAY]
 """
 import os, sys, tempfile
 from statistics import median
@@ -24,6 +24,12 @@ def tiled(windows):
     for _ in range(groups - 2):
         lines += ["map ff0000 640x480"] + below + ["run focus parent"]
     return lines + ["run focus child"]
+
+
+def own(windows):
+    """The same windows, each with a class, an instance and a title of its own."""
+    texts = ' class="class-%d" instance="instance-%d" title="a title %d"'
+    return [line + texts % (n, n, n) if line.startswith("map") else line for n, line in enumerate(tiled(windows))]
 
 
 def floating(windows):
@@ -63,6 +69,11 @@ TABLES = {
         "mark --toggle a": in_turn("mark --toggle a"),
         "unmark": in_turn("unmark"),
         "gaps inner all": in_turn("gaps inner all plus 1", "gaps inner all minus 1"),
+        "resize grow, resize shrink": in_turn("resize grow width 1 px", "resize shrink width 1 px"),
+    }),
+    "own": (own, [16, 128, 1024, 4032], {
+        "focus left, focus right": in_turn("focus left", "focus right"),
+        "unmark": in_turn("unmark"),
         "resize grow, resize shrink": in_turn("resize grow width 1 px", "resize shrink width 1 px"),
     }),
     "floats": (floating, [20, 200, 1024, 4090], {
