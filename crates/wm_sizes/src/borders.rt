@@ -16,7 +16,7 @@ const WIDEST: u32 = 64;
 const USUAL: u32 = 2;
 
 /// Whether the border is wider than any may be.
-fn is_wide(border: Border) -> bool
+pub fn is_wide(border: Border) -> bool
     ensures { result ≡ is_wide border }
 {
     match border {
@@ -42,7 +42,7 @@ pub fn set_border(t: &mut Tree, con: ConId, border: Border) -> Result<(), Refusa
 }
 
 /// The border to which toggling goes.
-fn next_border(border: Border) -> Border
+pub fn next_border(border: Border) -> Border
     ensures { result ≡ next_border border }
 {
     match border {

@@ -12,7 +12,7 @@ mod tiled;
 mod titles;
 mod windows;
 
-pub use borders::{cycle_border, set_border};
+pub use borders::{cycle_border, is_wide, next_border, set_border};
 pub use floating::resize_set;
 pub use gaps::set_gaps;
 pub use resizing::resize;

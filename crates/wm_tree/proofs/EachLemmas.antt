@@ -1,6 +1,8 @@
 -- A change of each node's part keeps what holds of every tree.
 use Rattle.std.proofs.Common.{◌≡◌, ℕ, ◌≤◌, Bool, true, false, cond, ◌||◌, List, [], Option, refl, ap, sym, ◌∙◌, arith}
 use Rattle.wm_base.specs.declared.ids.ConId.{ConId}
+use Rattle.wm_forest.specs.declared.part.ConPart.{ConPart}
+use Rattle.wm_forest.specs.declared.part.ConState.{ConState}
 use Rattle.wm_forest.specs.declared.part.Part.{Part}
 use Rattle.wm_forest.specs.declared.part.NodeKind.{NodeKind}
 use Rattle.wm_forest.specs.declared.part.NodeKind.TheVariants.{Root, Output, Space, Con}
@@ -16,6 +18,7 @@ use Rattle.wm_forest.specs.Spot.{room_below}
 use Rattle.wm_tree.specs.Gaps.{kind_gapped, part_gapped}
 use Rattle.wm_tree.specs.Marks.{bare, bare_part, part_off, taken_off}
 use Rattle.wm_tree.specs.Sound.{IsSound}
+use Rattle.wm_tree.specs.States.{kind_restated, part_restated}
 use Rattle.wm_tree.specs.TreeValue.{TreeValue}
 use Rattle.wm_forest.proofs.RowLemmas.{KeepsRow, node_keeps}
 use Rattle.wm_tree.proofs.BearerLemmas.{other_most}
@@ -198,3 +201,52 @@ gapped_tame f = record {
 
 pub sound-gapped : (f : ℕ → ℕ → ℕ × ℕ) (t : TreeValue) → IsSound t → IsSound (record t { nodes = mapped (part_gapped f) t.nodes })
 sound-gapped f t s = sound-mapped (part_gapped f) (gapped_tame f) t s
+
+-- ---- states
+
+restated_room : (f : ConId → ConPart → ConState) (room : ℕ) (id : ConId) (kind : NodeKind) → room_below room (kind_restated f id kind) ≡ room_below room kind
+restated_room f room id (Root c) = refl
+restated_room f room id (Output o) = refl
+restated_room f room id (Space w) = refl
+restated_room f room id (Con c) = refl
+
+restated_node : (f : ConId → ConPart → ConState) (l : Level) (tiled : Bool) (room : ℕ) (id : ConId) (kind : NodeKind) (marks : List (List ℕ)) (kids : Forest) → IsNode l tiled room id kind marks kids → IsNode l tiled room id (kind_restated f id kind) marks kids
+restated_node f l tiled room id (Root c) marks kids h = h
+restated_node f l tiled room id (Output o) marks kids h = h
+restated_node f l tiled room id (Space w) marks kids h = h
+restated_node f roots tiled room id (Con c) marks kids h = h
+restated_node f outputs tiled room id (Con c) marks kids h = h
+restated_node f spaces tiled room id (Con c) marks kids h = h
+restated_node f containers tiled room id (Con c) marks kids h = h
+
+restated_ranks : (f : ConId → ConPart → ConState) (id : ConId) (kind : NodeKind) → ranks (kind_restated f id kind) ≡ ranks kind
+restated_ranks f id (Root c) = refl
+restated_ranks f id (Output o) = refl
+restated_ranks f id (Space w) = refl
+restated_ranks f id (Con c) = refl
+
+restated_con : (f : ConId → ConPart → ConState) (id : ConId) (kind : NodeKind) → one_con (kind_restated f id kind) ≡ one_con kind
+restated_con f id (Root c) = refl
+restated_con f id (Output o) = refl
+restated_con f id (Space w) = refl
+restated_con f id (Con c) = refl
+
+restated_space : (f : ConId → ConPart → ConState) (id : ConId) (kind : NodeKind) → one_space (kind_restated f id kind) ≡ one_space kind
+restated_space f id (Root c) = refl
+restated_space f id (Output o) = refl
+restated_space f id (Space w) = refl
+restated_space f id (Con c) = refl
+
+restated_tame : (f : ConId → ConPart → ConState) → IsTame (part_restated f)
+restated_tame f = record {
+  id = λ p. refl;
+  room = λ room p. restated_room f room p.id p.kind;
+  node = λ l tiled room p kids h. restated_node f l tiled room p.id p.kind p.marks kids h;
+  ranks = λ p. restated_ranks f p.id p.kind;
+  con = λ p. restated_con f p.id p.kind;
+  space = λ p. restated_space f p.id p.kind;
+  marks = λ p. omega arith;
+}
+
+pub sound-restated : (f : ConId → ConPart → ConState) (t : TreeValue) → IsSound t → IsSound (record t { nodes = mapped (part_restated f) t.nodes })
+sound-restated f t s = sound-mapped (part_restated f) (restated_tame f) t s

@@ -7,5 +7,6 @@ pub mod Outputs
 pub mod Sets
 pub mod Sound
 pub mod Standing
+pub mod States
 pub mod TreeValue
 pub mod Words

@@ -20,6 +20,7 @@ mod sharing;
 mod spaces;
 mod standing;
 mod start;
+mod states;
 mod tree;
 mod words;
 
@@ -27,6 +28,7 @@ pub use gaps::GapChange;
 pub use recent::Recent;
 pub use refusal::TreeRefusal;
 pub use standing::{Placed, Standing};
+pub use states::StateChange;
 pub use tree::Tree;
 pub use wm_forest::recency::SOON;
 pub use wm_forest::{
