@@ -14,11 +14,11 @@ use Rattle.wm_shared.specs.Subject.{is_space}
 use Rattle.wm_tree.specs.TreeValue.{TreeValue}
 
 -- the row is there where the node is, and begins with what was found
-abbrev IsFrom : Option Forest → Bool → Forest → Type 0
+abbrev pub IsFrom : Option Forest → Bool → Forest → Type 0
 IsFrom None here found = here ≡ false
 IsFrom (Some row) here found = (here ≡ true) × (first_part found ≡ first_part row)
 
-from : (c : ConId) (f : Forest) → IsFrom (row_at c f) (has c f) (only c f)
+pub from : (c : ConId) (f : Forest) → IsFrom (row_at c f) (has c f) (only c f)
 from c end = refl
 from c (con part kids floats rest) = step (same part.id c) (row_at c kids) (row_at c floats) (row_at c rest) (has c kids) (has c floats) (has c rest) (only c kids) (only c floats) (only c rest) (from c kids) (from c floats) (from c rest)
   where

@@ -1,9 +1,12 @@
 pub mod AppendLemmas
+pub mod BorderingLemmas
 pub mod GroupLemmas
 pub mod IdLemmas
 pub mod KillLemmas
 pub mod KillingLemmas
+pub mod MappedLemmas
 pub mod OutputLemmas
 pub mod QuietLemmas
+pub mod RestyleLemmas
 pub mod RowLemmas
 pub mod ThereLemmas

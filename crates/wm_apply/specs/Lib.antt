@@ -1,4 +1,5 @@
 pub mod Batches
+pub mod Bordering
 pub mod Commands
 pub mod Finding
 pub mod FloatRows

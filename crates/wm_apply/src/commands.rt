@@ -1,11 +1,15 @@
 //! One command of a group.
 ghost use Rattle.std.specs.Prelude.{◌≡◌, true, ◌++◌, IfOk, OnOk};
 ghost use Rattle.wm_apply.specs.Commands.{command_kills, command_reply, command_tree, is_exit, is_whole, course_reply, course_tree, is_mark, many_there, matched_course, runs_once, subject, targets_course, whole};
+ghost use Rattle.wm_apply.specs.Subjects.{each_error, each_tree, reply_of};
+ghost use Rattle.wm_apply.specs.declared.rows.How.TheVariants as how;
 ghost use Rattle.wm_apply.specs.declared.targets.Targets.TheVariants as targets;
 ghost use Rattle.wm_shared.specs.Subject.{IsSubject};
 ghost use Rattle.wm_tree.specs.Sound.{IsSound};
 
 use crate::applied::CommandReply;
+use crate::bordering::{border_each, climb};
+use crate::borders::border_change;
 use crate::killing::kill_each;
 use crate::kills::{FEW, ask, ask_each, is_kill};
 use crate::modes::is_unknown_mode;
@@ -129,8 +133,32 @@ fn run_matched(
     if is_mark(command) && are_many_there(t, cons) {
         return Ok(CommandReply::Error(ErrorText::ManyMatch));
     }
-    if let (Command::Kill, true) = (command, cons.len() > FEW) {
+    if cons.len() > FEW {
+        return run_many(alloc, t, env, command, cons);
+    }
+    run_each(alloc, t, env, How::Matched, command, cons)
+}
+
+/// Runs a command on more than a few containers that criteria matched: `kill` and borders in a few walks, any other on one
+/// after another, since it acts on the tree that the one before left.
+fn run_many(
+    alloc: Global,
+    t: &mut Tree,
+    env: &Env,
+    command: &Command,
+    cons: &[ConId],
+) -> Result<CommandReply, NoMemory>
+    requires { IsSound t.old }
+    ensures tree { OnOk result (t.new ≡ each_tree env.now how.Matched command.now cons.now t.old) }
+    ensures reply { IfOk result (λ r. r ≡ reply_of (each_error env.now how.Matched command.now cons.now t.old)) }
+    ensures sound { IsSound t.new }
+{
+    if let Command::Kill = command {
         return Ok(reply_of(kill_each(alloc, t, env, cons)?));
+    }
+    if let (Some(change), true) = (border_change(command), climb(cons)) {
+        let first = border_each(alloc, t, env, command, change, cons)?;
+        return Ok(reply_of(first));
     }
     run_each(alloc, t, env, How::Matched, command, cons)
 }

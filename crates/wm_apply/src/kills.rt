@@ -36,7 +36,8 @@ pub fn kill(t: &Tree, con: ConId) -> Result<(), Refusal>
     Ok(())
 }
 
-fn is_window_node(kind: &NodeKind) -> bool
+/// Whether the node is a window.
+pub fn is_window_node(kind: &NodeKind) -> bool
     ensures { result ≡ is_window_node kind.now }
 {
     match kind {

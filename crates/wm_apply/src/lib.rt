@@ -3,6 +3,8 @@
 
 mod applied;
 mod batches;
+mod bordering;
+mod borders;
 mod commands;
 mod finding;
 mod floats;
