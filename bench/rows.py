@@ -3,7 +3,7 @@
 size is a process of its own, and so is each where a second program is named, which opens its windows once. Then all of them take
 rounds of commands in turn, one running while the others are held still, so that a machine whose speed changes meets all of them
 alike: a ratio is the median of those within a round. What the filler of a round takes is measured behind it and taken off.
-usage: bench/rows.py commands|own|floats|criteria|spaces|tabs I3REPLAY [OTHER_I3REPLAY]
+usage: bench/rows.py commands|own|floats|criteria|each|spaces|tabs I3REPLAY [OTHER_I3REPLAY]
 """
 import os, sys, tempfile
 from statistics import median
@@ -84,7 +84,11 @@ TABLES = {
         "scratchpad show": in_turn("scratchpad show"),
         "kill of all": in_turn('[class=""] kill'),
     }),
-    "criteria": (floating, [20, 200, 1024], {"border of all": in_turn('[class=""] border pixel 2', '[class=""] border pixel 3')}),
+    "criteria": (floating, [20, 200, 1024, 4090], {
+        "border of all": in_turn('[class=""] border pixel 2', '[class=""] border pixel 3'),
+        "border toggle of all": in_turn('[class=""] border toggle'),
+    }),
+    "each": (floating, [20, 200, 1024], {"title_format of all": in_turn('[class=""] title_format a', '[class=""] title_format b')}),
     "spaces": (spread, [16, 256], {
         "workspace": lambda n, size: "workspace w%d" % (7 * n % size),
         "move to workspace, [con_mark=here] focus": sent,
