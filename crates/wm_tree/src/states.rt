@@ -36,8 +36,8 @@ impl<'a, C: StateChange> EachPart for Restate<'a, C> {
 }
 
 impl Tree {
-    /// Changes the state of each container, in one walk. No second window of a workspace becomes fullscreen, and what
-    /// floats or is in the scratchpad keeps a rectangle.
+    /// Changes the state of each container, in one walk. It is the caller's to give a change that makes no second window
+    /// of a workspace fullscreen, and that leaves a rectangle to what floats or is in the scratchpad.
     pub fn change_states<C: StateChange>(&mut self, change: &C)
         ensures tree { self.new ≡ record self.old { nodes = mapped (part_restated (C.word change.now)) self.old.nodes } }
         ensures sound { IsSound self.old → IsSound self.new }
