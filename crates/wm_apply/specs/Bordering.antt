@@ -30,6 +30,12 @@ abbrev pub command_of : BorderChange → Command
 command_of (To border) = commands.SetBorder border
 command_of Next = commands.CycleBorder
 
+-- the command gives windows another border
+abbrev pub gives_border : Command → Bool
+gives_border (commands.SetBorder border) = true
+gives_border commands.CycleBorder = true
+gives_border other = false
+
 abbrev pub border_after : BorderChange → Border → Border
 border_after (To border) was = border
 border_after Next was = next_border was

@@ -1,7 +1,7 @@
 //! What a command makes of the borders of windows.
-ghost use Rattle.std.specs.Prelude.{◌≡◌, MatchOption};
+ghost use Rattle.std.specs.Prelude.{◌≡◌, false, MatchOption};
 ghost use Rattle.std.specs.Option.{option_copied};
-ghost use Rattle.wm_apply.specs.Bordering.{border_after, change_error, command_of, node_error, part_error, restyled, takes};
+ghost use Rattle.wm_apply.specs.Bordering.{border_after, change_error, command_of, gives_border, node_error, part_error, restyled, takes};
 
 use crate::kills::is_window_node;
 use wm_base::{Border, ConId, ErrorText};
@@ -17,9 +17,9 @@ pub enum BorderChange {
     Next,
 }
 
-/// What the command makes of the borders of windows. `None` where it is another command.
+/// What the command makes of the borders of windows. `None` exactly where it is another command.
 pub fn border_change(command: &Command) -> Option<BorderChange>
-    ensures { MatchOption result Unit (λ change. command.now ≡ command_of change) }
+    ensures { MatchOption result (gives_border command.now ≡ false) (λ change. command.now ≡ command_of change) }
 {
     match command {
         Command::SetBorder(border) => Some(BorderChange::To(*border)),
